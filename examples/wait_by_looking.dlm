@@ -1,4 +1,4 @@
-# A client waits for a lock. Its host looks, with nine calls and no write, until the lock is granted.
+# A client waits for a lock. Its host looks, with four calls and no write, until the lock is granted.
 cluster 3 8
 start 0
 start 1
@@ -11,11 +11,11 @@ step 1 60
 mark 1 1
 step 1 27
 look 1
-step 1 9
+step 1 4
 submit 0 1 release 1 2 1
 step 0 60
 mark 0 2
 step 0 27
 look 1
-step 1 18
+step 1 6
 show 1

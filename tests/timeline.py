@@ -69,9 +69,9 @@ mark 0 0
 step 0 9
 start 1
 look 1
-step 1 6
+step 1 4
 """
-MARKED_CLASSES = "ooopppppppvvvvvvvmmmmmmmmmqqqqqq"
+MARKED_CLASSES = "ooopppppppvvvvvvvmmmmmmmmmqqqq"
 
 
 def drawn(script):

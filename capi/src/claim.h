@@ -87,6 +87,7 @@ int32_t dlm_c_settle_left(struct claim *claim, struct cleanup *cleanup, uint32_t
 /* By a host: of midgegalena.c. Commands of others are marked until it is time, in milliseconds of CLOCK_MONOTONIC. A lock 0 is none: all are passed, or
  * the purge is to be submitted. `ours` has MG_LOCKS numbers. */
 int learn_all(struct mg_host *host, int64_t until);
+int sign_name(struct mg_host *host, unsigned number, uint32_t lock, char *into, size_t room);
 int claim_submits(struct claim *claim, struct mg_host *host);
 void claim_hears(struct claim *claim, struct mg_host *host, enum event event, int status, bool left_over);
 int next_left(struct mg_host *host, const struct cleanup *cleanup, const uint32_t *ours, struct mg_lock_view *into);

@@ -245,8 +245,12 @@ static uint64_t set_of(const struct mg_session *session) {
     return facts.cluster;
 }
 
+/* The path of a lock's sign in the folder that is open. Where it has none, for lack of memory, it is empty: nothing is found or made there. */
 static void path_of_sign(const struct mg_session *session, unsigned number, uint32_t lock, char *into, size_t size) {
-    (void)snprintf(into, size, "%s/mg-lock.%" PRIu64 ".%u.%u", session->at, set_of(session), number, (unsigned)lock);
+    struct mg_host *open = session->host ? session->host : session->eye;
+    size_t length = (size_t)snprintf(into, size, "%s/", session->at);
+    if (!open || length >= size || sign_name(open, number, lock, into + length, size - length) != MG_OK)
+        into[0] = '\0';
 }
 
 /* Locks a file, which is made where `makes`. NO_SIGN with EWOULDBLOCK: somebody has it. */

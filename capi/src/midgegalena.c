@@ -138,6 +138,7 @@ int32_t dlm_c_value(struct handle *handle, uint32_t lock, struct mg_value *into)
 int32_t dlm_c_locks(struct handle *handle, struct mg_lock_view *into, size_t room, size_t *count);
 int32_t dlm_c_clients(struct handle *handle, struct mg_client_view *into, size_t room, size_t *count);
 int32_t dlm_c_text(struct handle *handle, uint8_t *into, size_t room, size_t *length);
+int32_t dlm_c_sign_name(struct handle *handle, uint32_t number, uint32_t lock, uint8_t *into, size_t room);
 
 int32_t dlm_c_submit_order(struct claim *claim, struct handle *handle);
 int32_t dlm_c_hear(struct claim *claim, struct handle *handle, uint32_t event, int32_t status, bool left_over);
@@ -742,6 +743,11 @@ int claim_submits(struct claim *claim, struct mg_host *host) {
     int status = carry_out(host, dlm_c_submit_order(claim, &host->handle), &answer);
     claim_hears(claim, host, HAS_REPLIED, 0, false);
     return mark_slot(host, answer.slot, status);
+}
+
+/* The name of a lock's sign of life, by the set that is open. */
+int sign_name(struct mg_host *host, unsigned number, uint32_t lock, char *into, size_t room) {
+    return status_of(dlm_c_sign_name(&host->handle, number, lock, (uint8_t *)into, room));
 }
 
 /* ---- locks of processes that are gone ---- */

@@ -77,11 +77,10 @@ static void bare_command(int slot) {
     }
 }
 
+/* More than half of the disks show that no mark tells the slot. */
 static void bare_look(int slot) {
-    for (int k = 0; k < DISKS; k++) {
-        bare_sync(files[k]);
+    for (int k = 0; 2 * k <= DISKS; k++)
         bare_read(files[k], ROWS + (off_t)slot * ROW);
-    }
 }
 
 /* ---- batches: of the library and of bare calls in turn ---- */

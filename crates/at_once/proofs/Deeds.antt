@@ -3,14 +3,14 @@ use Rattle.std.specs.Prelude.{IsTrue}
 use Rattle.std.proofs.Common.{ℕ, ◌≡◌, true, List, [], ◌∷◌, ◌++◌, refl, sym, subst, ap, ◌∙◌}
 use Rattle.disk.specs.Disk.{Call, Answer}
 use Rattle.slot_log.specs.Shape.{Shape}
-use Rattle.host.specs.Host.{Operation, Submitting, Recovering, Looking, Memory, Host, Stopped, Running, fresh, is_idle, is_stopped, goes_on, starts_marking}
+use Rattle.host.specs.Host.{Operation, Submitting, Recovering, Memory, Host, Stopped, Running, fresh, is_idle, is_stopped, goes_on, starts_look, starts_marking}
 use Rattle.host.specs.Kept.{Kept, LeadsTo}
 use Rattle.host.specs.Kept as keeping
-use Rattle.world.specs.Entry.{Filled, Start, Mark, host_step, host_after, started}
+use Rattle.world.specs.Entry.{Filled, Start, Look, Mark, host_step, host_after, started}
 use Rattle.dlm_images.specs.Operations.{Made, after_call, after_made, AreDue}
 use Rattle.host.proofs.Hosts.{idle_is}
 use Rattle.at_once.specs.AtOnce.{MayDo, Does}
-use Rattle.at_once.specs.Deeds.{calls, beginning, MayBegin, HasDone, Starts, Operates, Marks}
+use Rattle.at_once.specs.Deeds.{calls, beginning, MayBegin, HasDone, Starts, Operates, Marks, Looks}
 
 module _ (c : Shape) (h : ℕ) where
   -- ONE AFTER ANOTHER
@@ -75,12 +75,10 @@ starts c h kept es below does stopped leads =
 may_begin : (c : Shape) (h : ℕ) (m : Memory) (operation : Operation) (tries : ℕ) → is_idle m ≡ true → MayBegin h operation tries → MayDo c h (Running m) (beginning h operation tries)
 may_begin c h m (Submitting command) tries idle may = (idle, may.0, may.1, may.2, may.3)
 may_begin c h m Recovering tries idle may = (idle, may)
-may_begin c h m Looking tries idle may = idle
 
 begun_is : (c : Shape) (h : ℕ) (m : Memory) (operation : Operation) (tries : ℕ) → MayBegin h operation tries → host_step c h (Running m) (beginning h operation tries) ≡ Running (goes_on c m operation tries)
 begun_is c h m (Submitting command) tries may = refl
 begun_is c h m Recovering tries may = refl
-begun_is c h m Looking tries may = ap (λ (n : ℕ). Running (goes_on c m Looking n)) (sym may)
 
 pub operates : {D : Type 0} (gives : D → Call → Answer → D → Type 0) → Operates gives
 operates gives c h es operation tries old new before may done =
@@ -94,4 +92,11 @@ marks gives c h es slot old new before fits done =
     let m = before.memory in
     goes_on_with c h old.core es (Mark h slot) (starts_marking m slot) done.made new.core
     (record { old = before; may = (before.idle, fits); is = refl })
+    (done.due c h m before.leads) done.ended (done.leads c h m before.leads)
+
+pub looks : {D : Type 0} (gives : D → Call → Answer → D → Type 0) → Looks gives
+looks gives c h es old new before done =
+    let m = before.memory in
+    goes_on_with c h old.core es (Look h) (starts_look c m) done.made new.core
+    (record { old = before; may = before.idle; is = refl })
     (done.due c h m before.leads) done.ended (done.leads c h m before.leads)

@@ -9,7 +9,7 @@ use Rattle.disk.specs.Simulated.{SimState, fresh_disk}
 use Rattle.paxos_block.specs.Places.{image_length}
 use Rattle.slot_log.specs.Shape.{Shape}
 use Rattle.slot_log.specs.declared.outcome.Refusal.{Refusal}
-use Rattle.host.specs.Host.{Operation, Submitting, Recovering, Looking, Stopped}
+use Rattle.host.specs.Host.{Operation, Submitting, Recovering, Stopped}
 use Rattle.lock_command.specs.declared.command.Command.{Command}
 use Rattle.world.specs.Entry.{Filled, Start, Called, is_of, is_on, on_disk, of_host}
 use Rattle.world.specs.World.{opening_disk}
@@ -46,12 +46,10 @@ turn h operation tries made = Start h ∷ beginning h operation tries ∷ calls 
 begins_of : (j h : ℕ) (operation : Operation) (tries : ℕ) → is_of j (beginning h operation tries) ≡ (h == j)
 begins_of j h (Submitting command) tries = refl
 begins_of j h Recovering tries = refl
-begins_of j h Looking tries = refl
 
 begins_on : (k h : ℕ) (operation : Operation) (tries : ℕ) → is_on k (beginning h operation tries) ≡ false
 begins_on k h (Submitting command) tries = refl
 begins_on k h Recovering tries = refl
-begins_on k h Looking tries = refl
 
 own_calls : (j h : ℕ) (made : List Made) → (h == j) ≡ true → of_host j (calls h made) ≡ calls h made
 own_calls j h [] is = refl
@@ -106,7 +104,6 @@ calls_deeds h (x ∷ made) = (tt, calls_deeds h made)
 begins_deed : (h : ℕ) (operation : Operation) (tries : ℕ) → IsDeed (beginning h operation tries)
 begins_deed h (Submitting command) tries = tt
 begins_deed h Recovering tries = tt
-begins_deed h Looking tries = tt
 
 turn_deeds : (h : ℕ) (operation : Operation) (tries : ℕ) (made : List Made) → AreDeeds (turn h operation tries made)
 turn_deeds h operation tries made = (tt, (begins_deed h operation tries, calls_deeds h made))

@@ -1,7 +1,7 @@
 -- In a run each call that is due reads and writes behind the header, and before the end of the last slot.
-use Rattle.std.specs.Prelude.{take, slice_get}
+use Rattle.std.specs.Prelude.{take, slice_get, nat_lt, if◌then◌else◌}
 use Rattle.std.specs.Option.{option_map}
-use Rattle.std.proofs.Common.{ℕ, ◌+◌, ◌<◌, ◌≤◌, ◌≡◌, ◌==◌, false, true≢false, Option, Some, None, List, [], ◌∷◌, length, refl, sym, subst, ap, ◌∙◌, inl, inr, arith}
+use Rattle.std.proofs.Common.{ℕ, ◌+◌, ◌<◌, ◌≤◌, ◌≡◌, ◌==◌, Bool, true, false, true≢false, Option, Some, None, List, [], ◌∷◌, length, refl, sym, subst, ap, ◌∙◌, inl, inr, arith}
 use Rattle.std.proofs.lemmas.Bool.{cases_Bool, eqb-true, eq-eqb}
 use Rattle.disk.specs.declared.fault.DiskFault.TheVariants.{Reset, Failed, Gone}
 use Rattle.disk.specs.Disk.{DiskState, Call, Attach, Read, Write, Sync, Answer, Fault, Step, IsUnder}
@@ -11,7 +11,7 @@ use Rattle.torn_block.specs.declared.write_steps.WriteCall.TheVariants.{CloseGat
 use Rattle.paxos_block.specs.Places.{BeatOf, VoteOf, row_place, image_length, IsWithin}
 use Rattle.paxos_block.specs.Row.{DecodedBlock}
 use Rattle.attempt.specs.Calls.{Kind, Attaching, Syncing, Reading, Putting, Opening}
-use Rattle.attempt.specs.Answers.{Heard, Answers, on, row_in, seen_block}
+use Rattle.attempt.specs.Answers.{Heard, Answers, on, row_in, seen_block, boot_of}
 use Rattle.attempt.specs.NextCall.{call_by, with_disk}
 use Rattle.attempt.specs.Setup.{Setup}
 use Rattle.attempt.specs.Votes.{IsLong, TellsVotes}
@@ -20,15 +20,18 @@ use Rattle.attempt.proofs.Replies.{next_is}
 use Rattle.beats.specs.Answers as beat_answers
 use Rattle.beats.specs.Status as beat
 use Rattle.marks.specs.Status as mark
+use Rattle.looks.specs.Status as look
 use Rattle.slot_log.specs.Shape.{Shape}
-use Rattle.host.specs.Host.{Doing, Host, next_of, next_doing, setup_of, marking_of, beat_of}
+use Rattle.host.specs.Host.{Doing, Host, next_of, next_doing, setup_of, marking_of, look_of, beat_of}
 use Rattle.world.specs.Entry.{Filled, called_by}
 use Rattle.world.specs.World.{World, world, IsRun}
+use Rattle.world.proofs.Looking as looking
 use Rattle.world_safety.specs.Cluster.{at_cluster}
 use Rattle.world_safety.specs.Marking.{IsMarkingSlot, IsMarkingIf}
 use Rattle.world_safety.specs.Tied.{Moves, IsDoing, Tied}
 use Rattle.world_safety.proofs.Moves.Beating.{beat_within}
-use Rattle.world_safety.proofs.Moves.Due.{Attempts, IsBeatCall, IsMarkCall, busy, due_of}
+use Rattle.world_safety.proofs.Moves.Due.{Attempts, IsBeatCall, IsMarkCall, IsLookCall, busy, due_of}
+use Rattle.world_safety.proofs.Moves.Looking.{due_call}
 use Rattle.world_safety.proofs.Moves.Marking.{mark_due, mark_within}
 use Rattle.world_safety.proofs.Moves.Moving.{running_at}
 use Rattle.world_safety.proofs.Runs.Tracks.{moves_at, tied_at}
@@ -145,6 +148,14 @@ module _ (slots : ℕ) (s : beat.Setup) where
   status_reads f (beat.Due d) k call is = call_reads (f d) (slice_get beat.nine (length (f d))) d k call is
   status_reads f (beat.Ended end) k call is = absurd (cc)
 
+-- and a look
+look_lies : (slots : ℕ) (s : look.Setup) (a : List Heard) → s.slot < slots → Lies slots (look.call_on s a)
+look_lies slots s a fits = by (nat_lt (length a) 1)
+  where
+    by : (b : Bool) → Lies slots (if b then Attach else Read (boot_of a) (row_place s.slot) ROW_LENGTH)
+    by true = tt
+    by false = row_lies slots s.slot fits
+
 -- THE CALL THAT IS DUE
 
 own_long : (s : mark.Setup) (a : List Heard) → s.host < HOSTS → TellsVotes a → IsLong (mark.own_block s a).says.inp
@@ -202,11 +213,20 @@ module _ (c : Shape) (log : List Filled) (run : IsRun c log) (h k : ℕ) (call :
       subst (Lies c.slots) (sym due.call_is)
       (vote_lies c.slots t.slot h (mark.call_by s a due.kind) marking.fits running.below within (mark_reads c.slots s a due.kind marking.fits))
 
+  by_look : IsLookCall c k call (w.host h) → Lies c.slots call
+  by_look b =
+      let s = look_of c b.memory b.looking.first in
+      let f = on b.looking.heard in
+      subst (Lies c.slots) (due_call s f (look.status s f) k call b.due) (look_lies c.slots s (f k) (looking.fits c log h b.memory b.looking run b.running b.looks.looks))
+
   pub lies : Lies c.slots call
   lies = elim (busy c h k call (w.host h) next) [
     | inl a ↦ by_attempt a
     | inr others ↦ elim others [
       | inl b ↦ by_beat b
-      | inr b ↦ by_mark b
+      | inr rest ↦ elim rest [
+        | inl b ↦ by_mark b
+        | inr b ↦ by_look b
+      ]
     ]
   ]

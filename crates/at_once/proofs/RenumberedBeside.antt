@@ -1,7 +1,7 @@
--- The same of a beat and of a marking.
-use Rattle.std.specs.Prelude.{if◌then◌else◌, ◌&&◌, ◌||◌, ◌*◌, not, nat_lt, nat_le, slice_get, option_map}
+-- The same of a beat, of a marking and of a look.
+use Rattle.std.specs.Prelude.{if◌then◌else◌, ◌&&◌, ◌||◌, ◌*◌, not, nat_lt, nat_le, slice_get, is_some, is_none, option_and_then, option_map}
 use Rattle.std.specs.List.{range_with_len}
-use Rattle.std.proofs.Common.{ℕ, ◌≡◌, ◌==◌, Option, Some, None, map, length, refl, ap, ◌∙◌}
+use Rattle.std.proofs.Common.{ℕ, ◌≡◌, ◌==◌, Bool, true, false, List, Option, Some, None, map, length, refl, ap, ◌∙◌}
 use Rattle.std.proofs.lemmas.List.{length-map}
 use Rattle.disk.specs.Disk as device
 use Rattle.torn_block.specs.Layout.{cluster_version}
@@ -9,6 +9,8 @@ use Rattle.torn_block.specs.declared.layout.TheConstants.{LAST_SEQUENCE, ROW_LEN
 use Rattle.torn_block.specs.Stage.{call_of}
 use Rattle.paxos_block.specs.Places.{place_of, VoteOf, BeatOf, row_place, area_place}
 use Rattle.paxos_block.specs.Saying.{body_saying}
+use Rattle.paxos_block.specs.Row.{DecodedBlock}
+use Rattle.paxos_block.specs.Votes.{marked_in}
 use Rattle.heartbeat.specs.Beat.{counters_in, counter_of, beat_body}
 use Rattle.attempt.specs.Calls as attempt
 use Rattle.attempt.specs.Heard.{all_good, boot_of}
@@ -20,6 +22,7 @@ use Rattle.beats.specs.Answers as beat_answers
 use Rattle.beats.specs.Answers.{area_in, reading_of, own_block_in}
 use Rattle.beats.specs.Status as beat
 use Rattle.marks.specs.Status as mark
+use Rattle.looks.specs.Status as look
 use Rattle.at_once.specs.Power.{later, call_later}
 use Rattle.at_once.proofs.Renumbering.{heard_later, each_later, good_later, told_at, boot_later, call_of_later, due_later, with_disk_later}
 
@@ -134,3 +137,68 @@ module _ (s : mark.Setup) (losses : ℕ → ℕ) (f : attempt_answers.Answers) w
 
   pub mark_next_later : mark.next_call s m ≡ due_later losses (mark.next_call s f)
   mark_next_later = ap (mark.next_in s m) mark_status_later ∙ by_standing (mark.status s f)
+
+-- A LOOK
+
+module _ (s : look.Setup) (losses : ℕ → ℕ) (f : attempt_answers.Answers) where
+  abbrev r : attempt_answers.Answers
+  r = each_later losses f
+
+  many : (d : ℕ) → length (r d) ≡ length (f d)
+  many d = length-map (f d) (heard_later (losses d))
+
+  fine : (d : ℕ) → all_good (r d) ≡ all_good (f d)
+  fine d = good_later (losses d) (f d)
+
+  row : (d : ℕ) → look.row_of (r d) ≡ look.row_of (f d)
+  row d = told_at (losses d) (f d) 1
+
+  told_there : (d : ℕ) → look.mark_of (r d) ≡ look.mark_of (f d)
+  told_there d = ap (λ (o : Option (List DecodedBlock)). option_and_then marked_in o) (row d)
+
+  none_shown : (d : ℕ) → look.shows_no_mark (r d) ≡ look.shows_no_mark (f d)
+  none_shown d = λ i. is_some (row d i) && is_none (told_there d i)
+
+  still_waits : (d : ℕ) → look.waits (r d) ≡ look.waits (f d)
+  still_waits d = λ i. fine d i && nat_lt (many d i) look.two_calls
+
+  visits : look.visited s r ≡ look.visited s f
+  visits = λ i. if still_waits s.first i then Some s.first else first_below s.disks (λ d. still_waits d i)
+
+  marking_on : look.marked_on s r ≡ look.marked_on s f
+  marking_on = λ i. first_below s.disks (λ d. is_some (told_there d i))
+
+  enough : look.are_unmarked s r ≡ look.are_unmarked s f
+  enough = λ i. nat_lt s.disks (2 * count s.disks (λ d. none_shown d i))
+
+  lacking : look.are_too_few s r ≡ look.are_too_few s f
+  lacking = λ i. nat_le s.disks (2 * count s.disks (λ d. not (fine d i)))
+
+  asks : look.asking s r ≡ look.asking s f
+  asks = λ i. if enough i then look.Ended look.Unmarked else if lacking i then look.Ended look.NoMajority else look.due_or (visits i) (look.Ended look.NoMajority)
+
+  unless_so : (o : Option ℕ) (rest : look.Status) → look.unless_told r o rest ≡ look.unless_told f o rest
+  unless_so None rest = refl
+  unless_so (Some d) rest = ap (λ (o : Option (List ℕ)). look.told_on d o rest) (told_there d)
+
+  pub look_status_later : look.status s r ≡ look.status s f
+  look_status_later = (λ i. look.unless_told r (marking_on i) (asks i)) ∙ unless_so (look.marked_on s f) (look.asking s f)
+
+  bootings : (d : ℕ) → boot_of (r d) ≡ later (losses d) (boot_of (f d))
+  bootings d = boot_later (losses d) (f d)
+
+  asking_by : (d : ℕ) (b : Bool) → (if b then device.Attach else device.Read (boot_of (r d)) (row_place s.slot) ROW_LENGTH) ≡ call_later (losses d) (if b then device.Attach else device.Read (boot_of (f d)) (row_place s.slot) ROW_LENGTH)
+  asking_by d true = refl
+  asking_by d false = λ i. device.Read (bootings d i) (row_place s.slot) ROW_LENGTH
+
+  asking_call : (d : ℕ) → look.call_on s (r d) ≡ call_later (losses d) (look.call_on s (f d))
+  asking_call d =
+      (λ i. if nat_lt (many d i) 1 then device.Attach else device.Read (boot_of (r d)) (row_place s.slot) ROW_LENGTH)
+      ∙ asking_by d (nat_lt (length (f d)) 1)
+
+  by_look : (st : look.Status) → look.next_in s r st ≡ due_later losses (look.next_in s f st)
+  by_look (look.Due d) = ap (λ (call : device.Call). Some (d, call)) (asking_call d)
+  by_look (look.Ended end) = refl
+
+  pub look_next_later : look.next_call s r ≡ due_later losses (look.next_call s f)
+  look_next_later = ap (look.next_in s r) look_status_later ∙ by_look (look.status s f)

@@ -1,6 +1,7 @@
 -- A host that hears other boot numbers: it does the same, under those numbers, and so far as it is idle it knows the same.
 use Rattle.std.specs.Prelude.{if◌then◌else◌, ◌&&◌, ◌-◌, not, nat_lt, nat_le, option_map, is_some}
 use Rattle.std.proofs.Common.{ℕ, ◌≡◌, Bool, true, false, true≢false, Option, Some, None, List, [], ◌∷◌, ◌++◌, length, refl, sym, ap, ◌∙◌}
+use Rattle.std.proofs.lemmas.Bool.{and_parts}
 use Rattle.std.proofs.lemmas.List.{map-append}
 use Rattle.disk.specs.Disk as device
 use Rattle.disk.specs.Disk.{Answer}
@@ -16,16 +17,17 @@ use Rattle.attempt.specs.NextCall.{next_call}
 use Rattle.beats.specs.Answers as beat_answers
 use Rattle.beats.specs.Status as beat
 use Rattle.marks.specs.Status as mark
+use Rattle.looks.specs.Status as look
 use Rattle.lock_command.specs.declared.command.Command.{Command}
 use Rattle.lock_command.specs.Reading.{decoded}
 use Rattle.slot_log.specs.Shape.{Shape}
 use Rattle.slot_log.specs.declared.outcome.Refusal.TheVariants as refusal
-use Rattle.host.specs.declared.answer.HostAnswer.TheVariants.{Refused}
-use Rattle.host.specs.Host.{Operation, Submitting, Recovering, Looking, Doing, Beats, Marking, Memory, Host, Stopped, Running, says, begins, learns, goes_on, after_learning, is_submitted, takes, tries_again, with_floor, ended, by_status, with_heard, goes_by, hears, setup_of, beat_of, beat_ended, beat_by, hears_beat, marking_of, starts_marking, marking_ended, marking_by, marking_with, with_marking, hears_marking, hears_beside, hears_from, full_answer, is_idle, is_idle_in, rests, idles, is_stopped, next_marking, next_beside, next_doing, next_in, next_of}
+use Rattle.host.specs.declared.answer.HostAnswer.TheVariants.{Looked, Refused}
+use Rattle.host.specs.Host.{Operation, Submitting, Recovering, Doing, Beats, Marking, Looking, Memory, hears_apart, hears_look, look_of, look_by, look_ended, looking_with, looks_on, takes_marked, with_looking, next_look, Host, Stopped, Running, says, begins, learns, goes_on, after_learning, is_submitted, takes, tries_again, with_floor, ended, by_status, with_heard, goes_by, hears, setup_of, beat_of, beat_ended, beat_by, hears_beat, marking_of, starts_marking, marking_ended, marking_by, marking_with, with_marking, hears_marking, hears_beside, hears_from, full_answer, is_idle, is_idle_in, rests, idles, is_stopped, next_marking, next_beside, next_doing, next_in, next_of}
 use Rattle.world.specs.Entry.{Filled, Start, Stop, Submit, Recover, Look, Beat, Mark, Called, Torn, Crashed, Lost, Migrated, host_step}
 use Rattle.at_once.specs.Power.{answer_later, entry_later}
 use Rattle.at_once.proofs.Renumbering.{heard_later, one_later, all_later, on_later, due_later, status_later, taken_later, next_later}
-use Rattle.at_once.proofs.RenumberedBeside.{beat_status_later, beat_next_later, mark_status_later, mark_next_later}
+use Rattle.at_once.proofs.RenumberedBeside.{beat_status_later, beat_next_later, mark_status_later, mark_next_later, look_status_later, look_next_later}
 
 module _ (losses : ℕ → ℕ) where
   -- WHAT IT KNOWS
@@ -39,9 +41,12 @@ module _ (losses : ℕ → ℕ) where
   abbrev pub marking_later : Marking → Marking
   marking_later t = record { slot = t.slot; heard = all_later losses t.heard }
 
+  abbrev pub looking_later : Looking → Looking
+  looking_later t = record { first = t.first; heard = all_later losses t.heard }
+
   abbrev pub memory_later : Memory → Memory
   memory_later m =
-      record { learned = m.learned; floor = m.floor; doing = option_map doing_later m.doing; said = m.said; beats = beats_later m.beats; marking = option_map marking_later m.marking }
+      record { learned = m.learned; floor = m.floor; doing = option_map doing_later m.doing; said = m.said; beats = beats_later m.beats; marking = option_map marking_later m.marking; looking = option_map looking_later m.looking }
 
   abbrev pub host_later : Host → Host
   host_later Stopped = Stopped
@@ -78,6 +83,15 @@ module _ (losses : ℕ → ℕ) where
       by true = refl
       by false = refl
 
+  -- and so does a look
+  looked : (c : Shape) (n : Memory) (first : ℕ) → looks_on c (memory_later n) first ≡ memory_later (looks_on c n first)
+  looked c n first = by (nat_lt (length n.learned) c.slots)
+    where
+      by : (b : Bool) → (if b then with_looking (memory_later n) (Some (record { first = first; heard = [] })) None else with_looking (memory_later n) None (Some (Looked (length n.learned))))
+          ≡ memory_later (if b then with_looking n (Some (record { first = first; heard = [] })) None else with_looking n None (Some (Looked (length n.learned))))
+      by true = refl
+      by false = refl
+
   module _ (c : Shape) (h : ℕ) (m : Memory) where
     abbrev l : Memory
     l = memory_later m
@@ -110,7 +124,7 @@ module _ (losses : ℕ → ℕ) where
         ∙ (λ i. by_status c l (doing_later t) (taken_later s losses (on t.heard) i) (status_later s losses (on t.heard) i))
         ∙ standing t (taken s (on t.heard)) (status s (on t.heard))
 
-    -- A BEAT AND A MARKING
+    -- A BEAT, A MARKING AND A LOOK
 
     beat_end : (end : beat.End) → beat_ended h l end ≡ memory_later (beat_ended h m end)
     beat_end (beat.Beaten readings) = refl
@@ -127,6 +141,19 @@ module _ (losses : ℕ → ℕ) where
     marks_so : (t : Marking) (st : mark.Status) → marking_by l (marking_later t) st ≡ memory_later (marking_by m t st)
     marks_so t (mark.Due disk) = refl
     marks_so t (mark.Ended end) = marking_end end
+
+    told_so : (d : ℕ) (o : Option Command) → takes_marked c l d o ≡ memory_later (takes_marked c m d o)
+    told_so d None = refl
+    told_so d (Some command) = looked c (learns m command) d
+
+    look_end : (end : look.End) → look_ended c l end ≡ memory_later (look_ended c m end)
+    look_end (look.Decided d value) = told_so d (decoded value)
+    look_end look.Unmarked = refl
+    look_end look.NoMajority = refl
+
+    looks_so : (t : Looking) (st : look.Status) → look_by c l (looking_later t) st ≡ memory_later (look_by c m t st)
+    looks_so t (look.Due disk) = refl
+    looks_so t (look.Ended end) = look_end end
 
     -- IT HEARS
 
@@ -161,13 +188,29 @@ module _ (losses : ℕ → ℕ) where
           ∙ (λ i. marking_by l (marking_later (marking_with t x)) (mark_status_later s losses (on all) i))
           ∙ marks_so (marking_with t x) (mark.status s (on all))
 
-      marking_or : (o : Option Marking) → hears_marking c h l (option_map marking_later o) (record { disk = d; heard = heard_as told })
-          ≡ memory_later (hears_marking c h m o (record { disk = d; heard = heard_as answer }))
-      marking_or None = refl
-      marking_or (Some t) = marking_so t
+      look_so : (t : Looking) → hears_look c l (Some (looking_later t)) (record { disk = d; heard = heard_as told })
+          ≡ memory_later (hears_look c m (Some t) (record { disk = d; heard = heard_as answer }))
+      look_so t =
+          let x : attempt_answers.Answered = record { disk = d; heard = heard_as answer } in
+          let all = t.heard ++ x ∷ [] in
+          let s = look_of c m t.first in
+          (λ i. look_by c l (record { first = t.first; heard = more_later decoded_row t.heard d answer i }) (look.status s (on (more_later decoded_row t.heard d answer i))))
+          ∙ (λ i. look_by c l (looking_later (looking_with t x)) (look.status s (on_later losses all i)))
+          ∙ (λ i. look_by c l (looking_later (looking_with t x)) (look_status_later s losses (on all) i))
+          ∙ looks_so (looking_with t x) (look.status s (on all))
+
+      look_or : (o : Option Looking) → hears_look c l (option_map looking_later o) (record { disk = d; heard = heard_as told })
+          ≡ memory_later (hears_look c m o (record { disk = d; heard = heard_as answer }))
+      look_or None = refl
+      look_or (Some t) = look_so t
+
+      apart_so : (o : Option Marking) → hears_apart c h l (option_map marking_later o) (record { disk = d; heard = heard_as told })
+          ≡ memory_later (hears_apart c h m o (record { disk = d; heard = heard_as answer }))
+      apart_so None = look_or m.looking
+      apart_so (Some t) = marking_so t
 
       beside_so : (o : Option (List beat_answers.Answered)) → hears_beside c h l (option_map (all_later losses) o) d told ≡ memory_later (hears_beside c h m o d answer)
-      beside_so None = marking_or m.marking
+      beside_so None = apart_so m.marking
       beside_so (Some heard) = beat_so heard
 
       from_so : (o : Option Doing) → hears_from c h l (option_map doing_later o) d told ≡ memory_later (hears_from c h m o d answer)
@@ -179,8 +222,14 @@ module _ (losses : ℕ → ℕ) where
 
     -- WHAT IT DOES NEXT
 
+    next_looked : (o : Option Looking) → next_look c l (option_map looking_later o) ≡ due_later losses (next_look c m o)
+    next_looked None = refl
+    next_looked (Some t) =
+        let s = look_of c m t.first in
+        ap (look.next_call s) (on_later losses t.heard) ∙ look_next_later s losses (on t.heard)
+
     next_mark : (o : Option Marking) → next_marking c h l (option_map marking_later o) ≡ due_later losses (next_marking c h m o)
-    next_mark None = refl
+    next_mark None = next_looked m.looking
     next_mark (Some t) =
         let s = marking_of c h m t.slot in
         ap (mark.next_call s) (on_later losses t.heard) ∙ mark_next_later s losses (on t.heard)
@@ -204,12 +253,12 @@ module _ (losses : ℕ → ℕ) where
   rests_so None = refl
   rests_so (Some heard) = refl
 
-  some_so : (o : Option Marking) → is_some (option_map marking_later o) ≡ is_some o
-  some_so None = refl
-  some_so (Some t) = refl
+  some_so : {A B : Type 0} (f : A → B) (o : Option A) → is_some (option_map f o) ≡ is_some o
+  some_so f None = refl
+  some_so f (Some t) = refl
 
   idle_in_so : (m : Memory) (o : Option Doing) → is_idle_in (memory_later m) (option_map doing_later o) ≡ is_idle_in m o
-  idle_in_so m None = λ i. rests_so m.beats.heard i && not (some_so m.marking i)
+  idle_in_so m None = λ i. rests_so m.beats.heard i && not (some_so marking_later m.marking i) && not (some_so looking_later m.looking i)
   idle_in_so m (Some t) = refl
 
   pub idles_later : (host : Host) → idles (host_later host) ≡ idles host
@@ -229,29 +278,30 @@ module _ (losses : ℕ → ℕ) where
   same_doing m None idle = refl
   same_doing m (Some t) idle = absurd (true≢false (sym idle))
 
-  same_heard : (b : Bool) (o : Option (List beat_answers.Answered)) → (rests o && b) ≡ true → option_map (all_later losses) o ≡ o
-  same_heard b None idle = refl
-  same_heard b (Some heard) idle = absurd (true≢false (sym idle))
+  same_heard : (o : Option (List beat_answers.Answered)) → rests o ≡ true → option_map (all_later losses) o ≡ o
+  same_heard None idle = refl
+  same_heard (Some heard) idle = absurd (true≢false (sym idle))
 
-  same_marking : (b : Bool) (o : Option Marking) → (b && not (is_some o)) ≡ true → option_map marking_later o ≡ o
-  same_marking b None idle = refl
-  same_marking true (Some t) idle = absurd (true≢false (sym idle))
-  same_marking false (Some t) idle = absurd (true≢false (sym idle))
+  same_none : {A : Type 0} (f : A → A) (o : Option A) → not (is_some o) ≡ true → option_map f o ≡ o
+  same_none f None idle = refl
+  same_none f (Some t) idle = absurd (true≢false (sym idle))
 
-  undoing : (m : Memory) (o : Option Doing) → is_idle_in m o ≡ true → (rests m.beats.heard && not (is_some m.marking)) ≡ true
+  undoing : (m : Memory) (o : Option Doing) → is_idle_in m o ≡ true → (rests m.beats.heard && not (is_some m.marking) && not (is_some m.looking)) ≡ true
   undoing m None idle = idle
   undoing m (Some t) idle = absurd (true≢false (sym idle))
 
   pub idle_same : (m : Memory) → is_idle m ≡ true → memory_later m ≡ m
   idle_same m idle =
-      let at_rest = undoing m m.doing idle in
+      let two = and_parts (rests m.beats.heard && not (is_some m.marking)) (not (is_some m.looking)) (undoing m m.doing idle) in
+      let one = and_parts (rests m.beats.heard) (not (is_some m.marking)) two.0 in
       λ i. record {
         learned = m.learned;
         floor = m.floor;
         doing = same_doing m m.doing idle i;
         said = m.said;
-        beats = record { readings = m.beats.readings; heard = same_heard (not (is_some m.marking)) m.beats.heard at_rest i };
-        marking = same_marking (rests m.beats.heard) m.marking at_rest i;
+        beats = record { readings = m.beats.readings; heard = same_heard m.beats.heard one.0 i };
+        marking = same_none marking_later m.marking one.1 i;
+        looking = same_none looking_later m.looking two.1 i;
       }
 
   -- AN ENTRY
@@ -273,7 +323,7 @@ module _ (losses : ℕ → ℕ) where
   step_later c h Stopped (Recover g tries) = refl
   step_later c h (Running m) (Recover g tries) = ap Running (begun c m Recovering tries)
   step_later c h Stopped (Look g) = refl
-  step_later c h (Running m) (Look g) = ap Running (begun c m Looking 1)
+  step_later c h (Running m) (Look g) = ap Running (looked c m 0)
   step_later c h Stopped (Beat g) = refl
   step_later c h (Running m) (Beat g) = refl
   step_later c h Stopped (Mark g slot) = refl

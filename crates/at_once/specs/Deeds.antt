@@ -1,14 +1,14 @@
--- Operations and markings with the device calls that they made, as deeds of their host.
+-- Operations, markings and looks with the device calls that they made, as deeds of their host.
 use Rattle.std.specs.Prelude.{◌≡◌, ◌<◌, ℕ, true, List, [], ◌∷◌, ◌++◌, map, IsTrue}
 use Rattle.disk.specs.Disk.{Call, Answer}
 use Rattle.torn_block.specs.declared.layout.TheConstants.{HOSTS}
 use Rattle.lock_command.specs.Command.{is_submittable}
 use Rattle.slot_log.specs.Shape.{Shape}
-use Rattle.host.specs.Host.{Operation, Submitting, Recovering, Looking, Memory, Stopped, Running, fresh, is_idle, is_stopped}
+use Rattle.host.specs.Host.{Operation, Submitting, Recovering, Memory, Stopped, Running, fresh, is_idle, is_stopped}
 use Rattle.host.specs.Kept.{Kept, LeadsTo}
 use Rattle.world.specs.Entry.{Filled, Start, Submit, Recover, Look, Mark, Called, host_after}
 use Rattle.world.specs.World.{ReadsBack}
-use Rattle.dlm_images.specs.Operations.{Made, Standing, HasOperated, HasMarked}
+use Rattle.dlm_images.specs.Operations.{Made, Standing, HasOperated, HasMarked, HasLooked}
 use Rattle.at_once.specs.AtOnce.{Does}
 
 -- DEEDS
@@ -21,13 +21,11 @@ calls h made = map (λ x. Called h x.disk x.call x.answer []) made
 abbrev pub beginning : ℕ → Operation → ℕ → Filled
 beginning h (Submitting command) tries = Submit h command tries
 beginning h Recovering tries = Recover h tries
-beginning h Looking tries = Look h
 
--- host h may begin it: it submits a command of its own, whose spelling reads as it; and a look has one try
+-- host h may begin it: it submits a command of its own, whose spelling reads as it
 abbrev pub MayBegin : ℕ → Operation → ℕ → Type 0
 MayBegin h (Submitting command) tries = ReadsBack command × (command.host ≡ h) × (0 < tries) × IsTrue (is_submittable command)
 MayBegin h Recovering tries = 0 < tries
-MayBegin h Looking tries = tries ≡ 1
 
 -- WHAT A HOST HAS DONE
 
@@ -55,3 +53,9 @@ abbrev pub Marks : {D : Type 0} → (D → Call → Answer → D → Type 0) →
 Marks {D = D} gives = (c : Shape) (h : ℕ) (es : List Filled) (slot : ℕ) (old new : Standing D) →
     HasDone c h old.core es → slot < c.slots → (done : HasMarked gives slot old new) →
     HasDone c h new.core (es ++ Mark h slot ∷ calls h done.made)
+
+-- a look has ended, and its calls were made
+abbrev pub Looks : {D : Type 0} → (D → Call → Answer → D → Type 0) → Type 0
+Looks {D = D} gives = (c : Shape) (h : ℕ) (es : List Filled) (old new : Standing D) →
+    HasDone c h old.core es → (done : HasLooked gives old new) →
+    HasDone c h new.core (es ++ Look h ∷ calls h done.made)

@@ -1,6 +1,6 @@
 // What hosts over the same images make together, if each of their device calls takes effect at one moment.
 ghost use Rattle.at_once.specs.AtOnce.{AtOnceMakesARun, AfterMigrationMakesARun, RunsAreAtOnce};
-ghost use Rattle.at_once.specs.Deeds.{Marks, Operates, Starts};
+ghost use Rattle.at_once.specs.Deeds.{Looks, Marks, Operates, Starts};
 ghost use Rattle.at_once.specs.Disks.{EachGave, GivingServes, SimulatedSteps};
 ghost use Rattle.at_once.specs.Images.{LaidOutHoldsNothing, MigratedHoldsLog};
 ghost use Rattle.at_once.specs.InTurn.{TurnsAgree};
@@ -25,11 +25,12 @@ pub fn calls_made_at_once_make_a_run()
     ensures held { MigratedHoldsLog }
 {}
 
-/// What a host does by its operations and markings over disks is what it may do; and what it keeps is what it then knows.
+/// What a host does by its operations, markings and looks over disks is what it may do; and what it keeps is what it then knows.
 pub fn operations_are_deeds<D: Disk>()
     ensures starts { Starts }
     ensures operates { Operates D.gives }
     ensures marks { Marks D.gives }
+    ensures looks { Looks D.gives }
 {}
 
 /// Each disk of a host, by itself, gave the answers to the calls on it. If it made a step of the disk model with each answer, it has

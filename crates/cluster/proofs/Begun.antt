@@ -8,10 +8,10 @@ use Rattle.lock_command.specs.declared.command.Command.{Command}
 use Rattle.torn_block.specs.declared.layout.TheConstants.{HOSTS}
 use Rattle.slot_log.specs.Shape.{Shape}
 use Rattle.host.specs.declared.answer.HostAnswer.{HostAnswer}
-use Rattle.host.specs.Host.{Host, Running, fresh, Operation, Memory, Doing, goes_on, begins, says, full_answer, with_marking, starts_marking, is_idle, is_idle_in, idles, is_stopped, said_of}
+use Rattle.host.specs.Host.{Host, Running, fresh, Operation, Memory, Doing, goes_on, begins, says, full_answer, with_marking, starts_marking, with_looking, starts_look, is_idle, is_idle_in, idles, is_stopped, said_of}
 use Rattle.host.specs.Kept.{Kept, LeadsTo}
 use Rattle.slot_log.specs.declared.outcome.Refusal.TheVariants as refusal
-use Rattle.host.specs.declared.answer.HostAnswer.TheVariants.{Refused}
+use Rattle.host.specs.declared.answer.HostAnswer.TheVariants.{Looked, Refused}
 use Rattle.world.specs.Entry.{Filled, Start, Stop, Submit, Recover, Look, Beat, Mark, host_step, is_of}
 use Rattle.world.specs.World.{world, IsFreshRun}
 use Rattle.world.specs.declared.entry.Entry.{Entry}
@@ -21,22 +21,22 @@ use Rattle.world.proofs.Projections.{host_here}
 use Rattle.cluster_tie.specs.Parts.{Own, own_of, adds, of_host}
 use Rattle.cluster.specs.declared.receipt.Receipt.{Receipt}
 use Rattle.cluster.specs.Receipts.{still, receipt_by, receipts_at, receipts_of}
-use Rattle.cluster.specs.Seat.{host_in, IsKeptFor, IsSilentInMarking, IsSilentInBeat, IsDoing, IsRunning}
+use Rattle.cluster.specs.Seat.{host_in, IsKeptFor, IsSilentInLook, IsSilentInMarking, IsSilentInBeat, IsDoing, IsRunning}
 use Rattle.cluster.proofs.Adding.{host_adds, receipts_adds}
 use Rattle.cluster.proofs.Operating.{idle_rests}
 use Rattle.cluster.proofs.Parts.{host_is}
 
--- neither a beat nor a marking is under way
+-- no beat, marking or look is under way
 abbrev pub Rests : Memory → Type 0
-Rests m = (m.beats.heard ≡ None) × (m.marking ≡ None)
+Rests m = (m.beats.heard ≡ None) × (m.marking ≡ None) × (m.looking ≡ None)
 
 -- so none has to keep quiet
 quiet : (m : Memory) → Rests m → IsSilentInBeat m m.beats.heard
-quiet m rest = subst (IsSilentInBeat m) (sym rest.0) (subst (IsSilentInMarking m) (sym rest.1) tt)
+quiet m rest = subst (IsSilentInBeat m) (sym rest.0) (subst (IsSilentInMarking m) (sym rest.1) (subst (IsSilentInLook m) (sym rest.2) tt))
 
 kept_if : (c : Shape) (m : Memory) → Rests m → (operation : Operation) (tries : ℕ) (sub : Option Command) → IsKeptFor operation sub → (b : Bool) → nat_lt (length m.learned) c.slots ≡ b
     → let new = if b then begins m operation tries else says m (full_answer operation (length m.learned)) in IsDoing c new new.doing sub
-kept_if c m rest operation tries sub kept true is = (ltb-true (length m.learned) c.slots is, kept, refl, rest.0, rest.1)
+kept_if c m rest operation tries sub kept true is = (ltb-true (length m.learned) c.slots is, kept, refl, rest.0, rest.1, rest.2)
 kept_if c m rest operation tries sub kept false is = quiet (says m (full_answer operation (length m.learned))) rest
 
 pub kept_on : (c : Shape) (operation : Operation) (tries : ℕ) (sub : Option Command) → IsKeptFor operation sub → (m : Memory) → Rests m → let new = goes_on c m operation tries in IsDoing c new new.doing sub
@@ -103,11 +103,25 @@ pub marking_kept : (c : Shape) (slot : ℕ) (sub : Option Command) (m : Memory) 
 marking_kept c slot sub m rest = go (nat_lt slot (length m.learned))
   where
     go : (b : Bool) → let new = if b then with_marking m (Some (record { slot = slot; heard = [] })) None else with_marking m m.marking (Some (Refused refusal.NotLearned)) in IsDoing c new new.doing sub
-    go true = subst (IsSilentInBeat (with_marking m (Some (record { slot = slot; heard = [] })) None)) (sym rest.0) refl
+    go true = subst (IsSilentInBeat (with_marking m (Some (record { slot = slot; heard = [] })) None)) (sym rest.0) (refl, rest.2)
     go false = quiet (with_marking m m.marking (Some (Refused refusal.NotLearned))) rest
 
 pub marking_learns : (slot : ℕ) (m : Memory) → (starts_marking m slot).learned ≡ m.learned
 marking_learns slot m = same_if m (with_marking m (Some (record { slot = slot; heard = [] })) None) (with_marking m m.marking (Some (Refused refusal.NotLearned))) (nat_lt slot (length m.learned)) refl refl
+
+-- A LOOK BEGINS
+
+pub look_kept : (c : Shape) (sub : Option Command) (m : Memory) → Rests m → let new = starts_look c m in IsDoing c new new.doing sub
+look_kept c sub m rest = go (nat_lt (length m.learned) c.slots)
+  where
+    go : (b : Bool) → let new = if b then with_looking m (Some (record { first = 0; heard = [] })) None else with_looking m None (Some (Looked (length m.learned))) in IsDoing c new new.doing sub
+    go true =
+        subst (IsSilentInBeat (with_looking m (Some (record { first = 0; heard = [] })) None)) (sym rest.0)
+        (subst (IsSilentInMarking (with_looking m (Some (record { first = 0; heard = [] })) None)) (sym rest.1) refl)
+    go false = quiet (with_looking m None (Some (Looked (length m.learned)))) (rest.0, rest.1, refl)
+
+pub look_learns : (c : Shape) (m : Memory) → (starts_look c m).learned ≡ m.learned
+look_learns c m = same_if m (with_looking m (Some (record { first = 0; heard = [] })) None) (with_looking m None (Some (Looked (length m.learned)))) (nat_lt (length m.learned) c.slots) refl refl
 
 -- RUNS
 

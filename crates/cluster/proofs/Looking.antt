@@ -4,7 +4,7 @@ use Rattle.std.proofs.lemmas.List.{append-nil}
 use Rattle.attempt.specs.Looking.{OnlyReads}
 use Rattle.beats.specs.Answers as beat_answers
 use Rattle.slot_log.specs.Shape.{Shape}
-use Rattle.host.specs.Host.{Operation, Looking, Doing, Marking, Memory, idles, next_of, next_doing}
+use Rattle.host.specs.Host.{Doing, Marking, Memory, idles, next_of, next_doing}
 use Rattle.world.specs.Entry.{Look, Called}
 use Rattle.world.proofs.Looks.{reads_only}
 use Rattle.cluster_tie.specs.Parts.{Placed, Own, adds}
@@ -12,16 +12,12 @@ use Rattle.cluster.specs.declared.fault.HostFault.{HostFault}
 use Rattle.cluster.specs.declared.fault.HostFault.TheVariants as fault
 use Rattle.cluster.specs.Cluster.{IsStep, AreSteps, GoesOn}
 use Rattle.cluster.specs.Looks.{IsReading, AreReadings, WritesNothing}
-use Rattle.cluster.specs.Operations.{Stops, Attempting, IsCarriedInMarking, IsCarriedBeside, IsCarried, Carries}
+use Rattle.cluster.specs.Operations.{Stops, LookingOn, IsCarriedInMarking, IsCarriedBeside, IsCarried, Carries}
 use Rattle.cluster.specs.Seat.{host_in, due_in}
-use Rattle.cluster.proofs.Operating.{IsUnderWay, Tries, Beats, Marks, due_task, steps_on, looking_by}
-
--- the operation of a task
-its_operation : (o : Operation) → Attempting o ≡ Attempting Looking → o ≡ Looking
-its_operation o is = cc is
+use Rattle.cluster.proofs.Operating.{IsUnderWay, Tries, Beats, Marks, Looks, due_task, steps_on, looking_by}
 
 -- the call that is due only reads
-reads_next : (c : Shape) (own new : Own) → Carries c (Attempting Looking) own → IsStep c own new → OnlyReads (due_in c own).1
+reads_next : (c : Shape) (own new : Own) → Carries c LookingOn own → IsStep c own new → OnlyReads (due_in c own).1
 reads_next c own new carries step = go (due_task c own.number m (step.disk, (due_in c own).1) due)
   where
     m : Memory
@@ -30,29 +26,30 @@ reads_next c own new carries step = go (due_task c own.number m (step.disk, (due
     due : next_doing c own.number m m.doing ≡ Some (step.disk, (due_in c own).1)
     due = sym (ap (next_of c own.number) carries.is) ∙ step.due
 
-    beside : m.doing ≡ None → IsCarriedBeside (Attempting Looking) m m.beats.heard
-    beside none = subst (λ (d : Option Doing). IsCarried (Attempting Looking) m d) none carries.doing
+    beside : m.doing ≡ None → IsCarriedBeside LookingOn m m.beats.heard
+    beside none = subst (λ (d : Option Doing). IsCarried LookingOn m d) none carries.doing
 
     go : IsUnderWay m → OnlyReads (due_in c own).1
     go (Tries t does) =
-        let known = subst (λ (d : Option Doing). IsCarried (Attempting Looking) m d) does carries.doing in
-        reads_only c own.number step.disk m t (due_in c own).1 does (its_operation t.operation known.0) due
+        let known = subst (λ (d : Option Doing). IsCarried LookingOn m d) does carries.doing in
+        absurd (cc known.0)
     go (Beats heard none beats) =
-        let known = subst (λ (o : Option (List beat_answers.Answered)). IsCarriedBeside (Attempting Looking) m o) beats (beside none) in
+        let known = subst (λ (o : Option (List beat_answers.Answered)). IsCarriedBeside LookingOn m o) beats (beside none) in
         absurd (cc known.0)
     go (Marks t none rest marks) =
-        let in_marking = subst (λ (o : Option (List beat_answers.Answered)). IsCarriedBeside (Attempting Looking) m o) rest (beside none) in
-        let known = subst (λ (o : Option Marking). IsCarriedInMarking (Attempting Looking) m o) marks in_marking in
+        let in_marking = subst (λ (o : Option (List beat_answers.Answered)). IsCarriedBeside LookingOn m o) rest (beside none) in
+        let known = subst (λ (o : Option Marking). IsCarriedInMarking LookingOn m o) marks in_marking in
         absurd (cc known.0)
+    go (Looks t it) = reads_only c own.number step.disk m t (due_in c own).1 it due
 
 same_last : (xs : List Placed) (x y : Placed) → xs ++ x ∷ [] ≡ xs ++ y ∷ [] → x ≡ y
 same_last [] x y is = cc is
 same_last (z ∷ xs) x y is = let rest : xs ++ x ∷ [] ≡ xs ++ y ∷ [] = cc is in same_last xs x y rest
 
 -- so each step only reads
-all_read : (c : Shape) (own : Own) (xs : List Placed) → Carries c (Attempting Looking) own → AreSteps c own xs → AreReadings xs
+all_read : (c : Shape) (own : Own) (xs : List Placed) → Carries c LookingOn own → AreSteps c own xs → AreReadings xs
 all_read c own [] carries steps = tt
-all_read c own (x ∷ xs) carries steps = (reading steps.0, all_read c (adds own x.0 x.1) xs (steps_on c (Attempting Looking) own (adds own x.0 x.1) carries steps.0) steps.1)
+all_read c own (x ∷ xs) carries steps = (reading steps.0, all_read c (adds own x.0 x.1) xs (steps_on c LookingOn own (adds own x.0 x.1) carries steps.0) steps.1)
   where
     reading : IsStep c own (adds own x.0 x.1) → IsReading x.1
     reading step =

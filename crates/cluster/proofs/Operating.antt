@@ -6,6 +6,7 @@ use Rattle.attempt.specs.Answers.{Answered, on, heard_as}
 use Rattle.beats.specs.Answers as beat_answers
 use Rattle.beats.specs.Status as beat
 use Rattle.marks.specs.Status as mark
+use Rattle.looks.specs.Status as look
 use Rattle.attempt.specs.Status.{Status, Due, Ended, Committed, Decided, Empty, Outrun, NoMajority, BallotsSpent, status, taken}
 use Rattle.lock_command.specs.declared.command.Command.{Command}
 use Rattle.lock_command.specs.Reading.{decoded}
@@ -16,8 +17,10 @@ use Rattle.slot_log.specs.declared.outcome.Refusal.TheVariants as refusal
 use Rattle.disk.specs.Disk.{Call}
 use Rattle.host.specs.declared.answer.HostAnswer.{HostAnswer}
 use Rattle.host.specs.declared.answer.HostAnswer.TheVariants.{Ack, Recovered, Looked, Beaten, Marked, Refused}
-use Rattle.host.specs.Host.{Operation, Submitting, Recovering, Looking, Doing, Marking, Memory, Host, Stopped, Running, setup_of, says, begins, does, full_answer, spent_answer, goes_on, is_submitted, after_learning, learns, takes, tries_again, with_floor, by_status, with_heard, hears, hears_from, hears_beside, beat_by, beat_of, starts_beat, hears_marking, marking_by, marking_with, marking_of, with_marking, starts_marking, rests, is_idle, is_idle_in, idles, said_of, learned_of, next_of, next_doing, next_beside, next_marking, reply_after}
+use Rattle.host.specs.Host.{Operation, Submitting, Recovering, Doing, Marking, Looking, Memory, look_by, look_of, looking_with, looks_on, starts_look, takes_marked, with_looking, hears_apart, next_look, Host, Stopped, Running, setup_of, says, begins, does, full_answer, goes_on, is_submitted, after_learning, learns, takes, tries_again, with_floor, by_status, with_heard, hears, hears_from, hears_beside, beat_by, beat_of, starts_beat, marking_by, marking_with, marking_of, with_marking, starts_marking, rests, is_idle, is_idle_in, idles, said_of, learned_of, next_of, next_doing, next_beside, next_marking, reply_after}
 use Rattle.world.specs.Entry.{Filled, Submit, Recover, Look, Beat, Mark, Called, host_step}
+use Rattle.world.specs.Looks.{IsLooking}
+use Rattle.world.proofs.Looks.{hears_is}
 use Rattle.world_safety.proofs.Claims.Begun.{empty_recovers}
 use Rattle.cluster_tie.specs.Parts.{Placed, Own, own_of, adds}
 use Rattle.cluster.specs.declared.fault.HostFault.{HostFault}
@@ -25,9 +28,9 @@ use Rattle.cluster.specs.declared.fault.HostFault.TheVariants as fault
 use Rattle.cluster.specs.declared.receipt.Receipt.{Receipt}
 use Rattle.cluster.specs.Cluster.{IsStep, Ends, AreSteps, GoesOn}
 use Rattle.cluster.specs.declared.operate.Resumed.TheVariants.{Submitted}
-use Rattle.cluster.specs.Operations.{IsLast, HasAnswered, Stops, HostTask, Attempting, Beating, MarkingSlot, IsAnswer, IsCarriedInMarking, IsCarriedBeside, IsCarried, HasReceipt, Carries, IsRefusedBy}
+use Rattle.cluster.specs.Operations.{IsLast, HasAnswered, Stops, HostTask, Attempting, Beating, MarkingSlot, LookingOn, IsAnswer, IsCarriedInLook, IsCarriedInMarking, IsCarriedBeside, IsCarried, HasReceipt, Carries, IsRefusedBy}
 use Rattle.cluster.specs.Receipts.{receipt_by, receipts_of, doing_of}
-use Rattle.cluster.specs.Seat.{host_in, due_in, IsSilentInMarking, IsSilentInBeat, IsDoing}
+use Rattle.cluster.specs.Seat.{host_in, due_in, IsSilentInLook, IsSilentInMarking, IsSilentInBeat, IsDoing}
 use Rattle.cluster.proofs.Adding.{host_adds, receipts_adds}
 use Rattle.cluster.proofs.Goes.{more}
 
@@ -37,48 +40,38 @@ use Rattle.cluster.proofs.Goes.{more}
 refuses : (o : Operation) (learned : List Command) (r : Refusal) → IsAnswer (Attempting o) learned (Some (Refused r))
 refuses (Submitting command) learned r = tt
 refuses Recovering learned r = tt
-refuses Looking learned r = tt
 
 -- with all slots learned each is answered
 full_answers : (o : Operation) (learned : List Command) → IsAnswer (Attempting o) learned (Some (full_answer o (length learned)))
 full_answers (Submitting command) learned = tt
 full_answers Recovering learned = refl
-full_answers Looking learned = refl
-
--- and once an attempt has no ballot
-spent_answers : (o : Operation) (learned : List Command) → IsAnswer (Attempting o) learned (Some (spent_answer o (length learned)))
-spent_answers (Submitting command) learned = tt
-spent_answers Recovering learned = tt
-spent_answers Looking learned = refl
 
 -- only a submission is acknowledged
 acks : (o : Operation) (value : List ℕ) (learned : List Command) (slot : ℕ) (reply : Reply) → is_submitted o value ≡ true → IsAnswer (Attempting o) learned (Some (Ack slot reply))
 acks (Submitting command) value learned slot reply is = tt
 acks Recovering value learned slot reply is = absurd (cc is)
-acks Looking value learned slot reply is = absurd (cc is)
 
 -- only a recovery recovers
 recovers : (o : Operation) (learned : List Command) → o ≡ Recovering → IsAnswer (Attempting o) learned (Some (Recovered (length learned)))
 recovers (Submitting command) learned is = absurd (cc is)
 recovers Recovering learned is = refl
-recovers Looking learned is = absurd (cc is)
 
 abbrev So : HostTask → Memory → Type 0
 So task m = IsCarried task m m.doing
 
--- neither a beat nor a marking is under way
+-- no beat, marking or look is under way
 abbrev Rests : Memory → Type 0
-Rests m = (m.beats.heard ≡ None) × (m.marking ≡ None)
+Rests m = (m.beats.heard ≡ None) × (m.marking ≡ None) × (m.looking ≡ None)
 
 -- so the task is over
 over : (task : HostTask) (m : Memory) → Rests m → IsAnswer task m.learned m.said → IsCarriedBeside task m m.beats.heard
-over task m rest is = subst (IsCarriedBeside task m) (sym rest.0) (subst (IsCarriedInMarking task m) (sym rest.1) is)
+over task m rest is = subst (IsCarriedBeside task m) (sym rest.0) (subst (IsCarriedInMarking task m) (sym rest.1) (subst (IsCarriedInLook task m) (sym rest.2) is))
 
 going : (c : Shape) (o : Operation) (m : Memory) (tries : ℕ) → Rests m → So (Attempting o) (goes_on c m o tries)
 going c o m tries rest = go (nat_lt (length m.learned) c.slots)
   where
     go : (b : Bool) → So (Attempting o) (if b then begins m o tries else says m (full_answer o (length m.learned)))
-    go true = (refl, refl, rest.0, rest.1)
+    go true = (refl, refl, rest.0, rest.1, rest.2)
     go false = over (Attempting o) (says m (full_answer o (length m.learned))) rest (full_answers o m.learned)
 
 module _ (c : Shape) (t : Doing) where
@@ -102,16 +95,16 @@ module _ (c : Shape) (t : Doing) where
     where
       go : (last : Bool) → So its (if last then says m (Refused refusal.Outrun) else begins m t.operation (t.tries - 1))
       go true = refused_so m rest refusal.Outrun
-      go false = (refl, refl, rest.0, rest.1)
+      go false = (refl, refl, rest.0, rest.1, rest.2)
 
   status_so : (m : Memory) → Rests m → (ballot : ℕ) (st : Status) → (st ≡ Ended Empty → t.operation ≡ Recovering) → So its (by_status c m t ballot st)
-  status_so m rest ballot (Due phase disk) only = (refl, refl, rest.0, rest.1)
+  status_so m rest ballot (Due phase disk) only = (refl, refl, rest.0, rest.1, rest.2)
   status_so m rest ballot (Ended (Committed value)) only = taken_so m rest ballot value (decoded value)
   status_so m rest ballot (Ended (Decided value)) only = taken_so m rest ballot value (decoded value)
   status_so m rest ballot (Ended Empty) only = over its (says (with_floor m ballot) (Recovered (length m.learned))) rest (recovers t.operation m.learned (only refl))
   status_so m rest ballot (Ended (Outrun mbal)) only = tried_so (with_floor (with_floor m ballot) mbal) rest
   status_so m rest ballot (Ended NoMajority) only = refused_so (with_floor m ballot) rest refusal.NoMajority
-  status_so m rest ballot (Ended BallotsSpent) only = over its (says (with_floor m ballot) (spent_answer t.operation (length m.learned))) rest (spent_answers t.operation m.learned)
+  status_so m rest ballot (Ended BallotsSpent) only = refused_so (with_floor m ballot) rest refusal.BallotsSpent
 
 -- an answer of a disk leaves it so
 heard_so : (c : Shape) (h : ℕ) (m : Memory) → Rests m → (t : Doing) (x : Answered) → So (Attempting t.operation) (hears c h m (Some t) x)
@@ -121,16 +114,49 @@ heard_so c h m rest t x =
     status_so c (with_heard t x) m rest (taken s (on heard)) (status s (on heard)) (empty_recovers c h m t.operation heard)
 
 -- so it is with a beat
-beat_so : (h : ℕ) (m : Memory) → m.marking ≡ None → (heard : List beat_answers.Answered) (st : beat.Status) → So Beating (beat_by h m heard st)
-beat_so h m none heard (beat.Due disk) = (refl, refl, none)
-beat_so h m none heard (beat.Ended (beat.Beaten readings)) = subst (IsCarriedInMarking Beating (beat_by h m heard (beat.Ended (beat.Beaten readings)))) (sym none) tt
-beat_so h m none heard (beat.Ended beat.NoMajority) = subst (IsCarriedInMarking Beating (beat_by h m heard (beat.Ended beat.NoMajority))) (sym none) tt
+beat_so : (h : ℕ) (m : Memory) → m.marking ≡ None → m.looking ≡ None → (heard : List beat_answers.Answered) (st : beat.Status) → So Beating (beat_by h m heard st)
+beat_so h m none unlooked heard (beat.Due disk) = (refl, refl, none, unlooked)
+beat_so h m none unlooked heard (beat.Ended (beat.Beaten readings)) =
+    let new = beat_by h m heard (beat.Ended (beat.Beaten readings)) in
+    subst (IsCarriedInMarking Beating new) (sym none) (subst (IsCarriedInLook Beating new) (sym unlooked) tt)
+beat_so h m none unlooked heard (beat.Ended beat.NoMajority) =
+    let new = beat_by h m heard (beat.Ended beat.NoMajority) in
+    subst (IsCarriedInMarking Beating new) (sym none) (subst (IsCarriedInLook Beating new) (sym unlooked) tt)
 
--- and with a marking
-mark_so : (m : Memory) → m.beats.heard ≡ None → (t : Marking) (st : mark.Status) → So MarkingSlot (marking_by m t st)
-mark_so m none t (mark.Due disk) = subst (IsCarriedBeside MarkingSlot (marking_by m t (mark.Due disk))) (sym none) (refl, refl)
-mark_so m none t (mark.Ended (mark.Marked count)) = subst (IsCarriedBeside MarkingSlot (marking_by m t (mark.Ended (mark.Marked count)))) (sym none) tt
-mark_so m none t (mark.Ended mark.NoMajority) = subst (IsCarriedBeside MarkingSlot (marking_by m t (mark.Ended mark.NoMajority))) (sym none) tt
+-- with a marking
+mark_so : (m : Memory) → m.beats.heard ≡ None → m.looking ≡ None → (t : Marking) (st : mark.Status) → So MarkingSlot (marking_by m t st)
+mark_so m none unlooked t (mark.Due disk) = subst (IsCarriedBeside MarkingSlot (marking_by m t (mark.Due disk))) (sym none) (refl, refl, unlooked)
+mark_so m none unlooked t (mark.Ended (mark.Marked count)) =
+    let new = marking_by m t (mark.Ended (mark.Marked count)) in
+    subst (IsCarriedBeside MarkingSlot new) (sym none) (subst (IsCarriedInLook MarkingSlot new) (sym unlooked) tt)
+mark_so m none unlooked t (mark.Ended mark.NoMajority) =
+    let new = marking_by m t (mark.Ended mark.NoMajority) in
+    subst (IsCarriedBeside MarkingSlot new) (sym none) (subst (IsCarriedInLook MarkingSlot new) (sym unlooked) tt)
+
+-- and with a look
+module _ (c : Shape) (m : Memory) (calm : m.beats.heard ≡ None) (unmarked : m.marking ≡ None) where
+  look_further : (t : Looking) → So LookingOn (with_looking m (Some t) None)
+  look_further t = subst (IsCarriedBeside LookingOn (with_looking m (Some t) None)) (sym calm) (subst (IsCarriedInMarking LookingOn (with_looking m (Some t) None)) (sym unmarked) (refl, refl))
+
+  look_over : (said : Option HostAnswer) → IsAnswer LookingOn m.learned said → So LookingOn (with_looking m None said)
+  look_over said is = over LookingOn (with_looking m None said) (calm, unmarked, refl) is
+
+  look_next : (first : ℕ) → So LookingOn (looks_on c m first)
+  look_next first = go (nat_lt (length m.learned) c.slots)
+    where
+      go : (b : Bool) → So LookingOn (if b then with_looking m (Some (record { first = first; heard = [] })) None else with_looking m None (Some (Looked (length m.learned))))
+      go true = look_further (record { first = first; heard = [] })
+      go false = look_over (Some (Looked (length m.learned))) refl
+
+look_told : (c : Shape) (m : Memory) → m.beats.heard ≡ None → m.marking ≡ None → (d : ℕ) (o : Option Command) → So LookingOn (takes_marked c m d o)
+look_told c m calm unmarked d None = look_over c m calm unmarked (Some (Refused refusal.NotACommand)) tt
+look_told c m calm unmarked d (Some command) = look_next c (learns m command) calm unmarked d
+
+look_so : (c : Shape) (m : Memory) → m.beats.heard ≡ None → m.marking ≡ None → (t : Looking) (st : look.Status) → So LookingOn (look_by c m t st)
+look_so c m calm unmarked t (look.Due disk) = look_further c m calm unmarked t
+look_so c m calm unmarked t (look.Ended (look.Decided d value)) = look_told c m calm unmarked d (decoded value)
+look_so c m calm unmarked t (look.Ended look.Unmarked) = look_over c m calm unmarked (Some (Looked (length m.learned))) refl
+look_so c m calm unmarked t (look.Ended look.NoMajority) = look_over c m calm unmarked (Some (Refused refusal.NoMajority)) tt
 
 -- RECEIPTS
 
@@ -147,7 +173,6 @@ acked_by c own at before t (Submitting command) (Some (Beaten host)) new is same
 acked_by c own at before t (Submitting command) (Some (Marked count)) new is same all = tt
 acked_by c own at before t (Submitting command) (Some (Refused r)) new is same all = tt
 acked_by c own at before t Recovering said new is same all = tt
-acked_by c own at before t Looking said new is same all = tt
 
 -- ONE STEP MORE
 
@@ -156,12 +181,17 @@ pub data IsUnderWay (m : Memory) : Type 0 where
   Tries : (t : Doing) → m.doing ≡ Some t → IsUnderWay m
   Beats : (heard : List beat_answers.Answered) → m.doing ≡ None → m.beats.heard ≡ Some heard → IsUnderWay m
   Marks : (t : Marking) → m.doing ≡ None → m.beats.heard ≡ None → m.marking ≡ Some t → IsUnderWay m
+  Looks : (t : Looking) → IsLooking m t → IsUnderWay m
 
 pub due_task : (c : Shape) (h : ℕ) (m : Memory) (due : ℕ × Call) → next_doing c h m m.doing ≡ Some due → IsUnderWay m
 due_task c h m due is = go m.doing refl is
   where
+    by_look : (o : Option Looking) → m.doing ≡ None → m.beats.heard ≡ None → m.marking ≡ None → m.looking ≡ o → next_look c m o ≡ Some due → IsUnderWay m
+    by_look None none rest unmarked looks next = absurd (cc next)
+    by_look (Some t) none rest unmarked looks next = Looks t (record { tries = none; beats = rest; marks = unmarked; looks = looks })
+
     by_marking : (o : Option Marking) → m.doing ≡ None → m.beats.heard ≡ None → m.marking ≡ o → next_marking c h m o ≡ Some due → IsUnderWay m
-    by_marking None none rest unmarked next = absurd (cc next)
+    by_marking None none rest unmarked next = by_look m.looking none rest unmarked refl next
     by_marking (Some t) none rest some next = Marks t none rest some
 
     by_beat : (o : Option (List beat_answers.Answered)) → m.doing ≡ None → m.beats.heard ≡ o → next_beside c h m o ≡ Some due → IsUnderWay m
@@ -192,7 +222,7 @@ module _ (c : Shape) (task : HostTask) (old new : Own) (carries : Carries c task
       let known = subst (λ (d : Option Doing). IsCarried task m d) does carries.doing in
       let after : Memory = hears c old.number m (Some t) x in
       let is : host_in c next ≡ Running after = hears_it ∙ ap (λ (d : Option Doing). Running (hears_from c old.number m d step.disk step.answer)) does in
-      let so : So task after = subst (λ (k : HostTask). So k after) known.0 (heard_so c old.number m (known.2, known.3) t x) in
+      let so : So task after = subst (λ (k : HostTask). So k after) known.0 (heard_so c old.number m (known.2, known.3, known.4) t x) in
       let all : receipts_of c next ≡ receipts_of c old ++ receipt_by old.number step.place (Some t) after.said =
       receipts_adds c old step.place e
       ∙ (λ i. receipts_of c old ++ receipt_by old.number step.place ((ap doing_of carries.is ∙ does) i) (said_of ((sym (host_adds c old step.place e) ∙ is) i))) in
@@ -208,7 +238,7 @@ module _ (c : Shape) (task : HostTask) (old new : Own) (carries : Carries c task
       let is : host_in c next ≡ Running after =
       hears_it ∙ ap (λ (d : Option Doing). Running (hears_from c old.number m d step.disk step.answer)) none
       ∙ ap (λ (o : Option (List beat_answers.Answered)). Running (hears_beside c old.number m o step.disk step.answer)) beats in
-      let there : Carries c Beating next = record { memory = after; is = is; doing = beat_so old.number m known.2 all (beat.status (beat_of c old.number) (beat_answers.on all)); receipt = tt } in
+      let there : Carries c Beating next = record { memory = after; is = is; doing = beat_so old.number m known.2 known.3 all (beat.status (beat_of c old.number) (beat_answers.on all)); receipt = tt } in
       subst (λ (k : HostTask). Carries c k next) (sym known.0) there
 
   marks_on : (t : Marking) → m.doing ≡ None → m.beats.heard ≡ None → m.marking ≡ Some t → Carries c task next
@@ -221,14 +251,27 @@ module _ (c : Shape) (task : HostTask) (old new : Own) (carries : Carries c task
       let is : host_in c next ≡ Running after =
       hears_it ∙ ap (λ (d : Option Doing). Running (hears_from c old.number m d step.disk step.answer)) none
       ∙ ap (λ (o : Option (List beat_answers.Answered)). Running (hears_beside c old.number m o step.disk step.answer)) rest
-      ∙ ap (λ (o : Option Marking). Running (hears_marking c old.number m o x)) marks in
-      let there : Carries c MarkingSlot next = record { memory = after; is = is; doing = mark_so m rest (marking_with t x) st; receipt = tt } in
+      ∙ ap (λ (o : Option Marking). Running (hears_apart c old.number m o x)) marks in
+      let there : Carries c MarkingSlot next = record { memory = after; is = is; doing = mark_so m rest known.2 (marking_with t x) st; receipt = tt } in
+      subst (λ (k : HostTask). Carries c k next) (sym known.0) there
+
+  look_on : (t : Looking) → IsLooking m t → Carries c task next
+  look_on t it =
+      let x : Answered = record { disk = step.disk; heard = heard_as step.answer } in
+      let beside = subst (λ (o : Option (List beat_answers.Answered)). IsCarriedBeside task m o) it.beats (subst (λ (d : Option Doing). IsCarried task m d) it.tries carries.doing) in
+      let apart = subst (λ (o : Option Marking). IsCarriedInMarking task m o) it.marks beside in
+      let known = subst (λ (o : Option Looking). IsCarriedInLook task m o) it.looks apart in
+      let st : look.Status = look.status (look_of c m t.first) (on (looking_with t x).heard) in
+      let after : Memory = look_by c m (looking_with t x) st in
+      let is : host_in c next ≡ Running after = hears_it ∙ ap Running (hears_is c old.number step.disk m t step.answer it) in
+      let there : Carries c LookingOn next = record { memory = after; is = is; doing = look_so c m it.beats it.marks (looking_with t x) st; receipt = tt } in
       subst (λ (k : HostTask). Carries c k next) (sym known.0) there
 
   carried_on : IsUnderWay m → Carries c task next
   carried_on (Tries t does) = attempts_on t does
   carried_on (Beats heard none beats) = beats_on none heard beats
   carried_on (Marks t none rest marks) = marks_on t none rest marks
+  carried_on (Looks t it) = look_on t it
 
   pub steps_on : Carries c task new
   steps_on =
@@ -246,17 +289,18 @@ goes_on_so c task old new carries goes = subst (Carries c task) (sym goes.is) (g
 
 -- AT THE BEGINNING
 
--- neither a beat nor a marking of an idle host is under way
-pub idle_rests : (m : Memory) → is_idle m ≡ true → (m.beats.heard ≡ None) × (m.marking ≡ None)
+-- nothing is under way at an idle host
+pub idle_rests : (m : Memory) → is_idle m ≡ true → (m.beats.heard ≡ None) × (m.marking ≡ None) × (m.looking ≡ None)
 idle_rests m idle = go m.doing idle
   where
-    by_beat : (o : Option (List beat_answers.Answered)) (t : Option Marking) → (rests o && not (is_some t)) ≡ true → (o ≡ None) × (t ≡ None)
-    by_beat None None is = (refl, refl)
-    by_beat None (Some t) is = absurd (cc is)
-    by_beat (Some heard) t is = absurd (cc is)
+    by_beat : (o : Option (List beat_answers.Answered)) (t : Option Marking) (l : Option Looking) → (rests o && not (is_some t) && not (is_some l)) ≡ true → (o ≡ None) × (t ≡ None) × (l ≡ None)
+    by_beat None None None is = (refl, refl, refl)
+    by_beat None None (Some l) is = absurd (cc is)
+    by_beat None (Some t) l is = absurd (cc is)
+    by_beat (Some heard) t l is = absurd (cc is)
 
-    go : (o : Option Doing) → is_idle_in m o ≡ true → (m.beats.heard ≡ None) × (m.marking ≡ None)
-    go None is = by_beat m.beats.heard m.marking is
+    go : (o : Option Doing) → is_idle_in m o ≡ true → (m.beats.heard ≡ None) × (m.marking ≡ None) × (m.looking ≡ None)
+    go None is = by_beat m.beats.heard m.marking m.looking is
     go (Some t) is = absurd (cc is)
 
 -- an operation begins at an idle host
@@ -269,12 +313,10 @@ begun c o tries own at e step (Running m) is idle =
     none_by : (p : Operation) (learned : ℕ) (new : Own) → HasReceipt c new (Attempting p) (Some (full_answer p learned))
     none_by (Submitting command) learned new = tt
     none_by Recovering learned new = tt
-    none_by Looking learned new = tt
 
     none_yet : (p : Operation) (new : Own) → HasReceipt c new (Attempting p) None
     none_yet (Submitting command) new = tt
     none_yet Recovering new = tt
-    none_yet Looking new = tt
 
     none : (b : Bool) → HasReceipt c (adds own at e) (Attempting o) (if b then begins m o tries else says m (full_answer o (length m.learned))).said
     none true = none_yet o (adds own at e)
@@ -286,15 +328,12 @@ submitted c command tries own at idle = begun c (Submitting command) tries own a
 pub recovering : (c : Shape) (tries : ℕ) (own : Own) (at : ℕ) → idles (host_in c own) ≡ true → Carries c (Attempting Recovering) (adds own at (Recover own.number tries))
 recovering c tries own at idle = begun c Recovering tries own at (Recover own.number tries) (λ m. refl) (host_in c own) refl idle
 
-pub looking : (c : Shape) (own : Own) (at : ℕ) → idles (host_in c own) ≡ true → Carries c (Attempting Looking) (adds own at (Look own.number))
-looking c own at idle = begun c Looking 1 own at (Look own.number) (λ m. refl) (host_in c own) refl idle
-
 -- or a beat does
 beating : (c : Shape) (own : Own) (at : ℕ) (host : Host) → host_in c own ≡ host → idles host ≡ true → Carries c Beating (adds own at (Beat own.number))
 beating c own at Stopped is idle = absurd (cc idle)
 beating c own at (Running m) is idle =
     let e : Filled = Beat own.number in
-    record { memory = starts_beat m; is = host_adds c own at e ∙ ap (λ (s : Host). host_step c own.number s e) is; doing = (refl, refl, (idle_rests m idle).1); receipt = tt }
+    record { memory = starts_beat m; is = host_adds c own at e ∙ ap (λ (s : Host). host_step c own.number s e) is; doing = (refl, refl, (idle_rests m idle).1, (idle_rests m idle).2); receipt = tt }
 
 -- or a marking does
 marking : (c : Shape) (slot : ℕ) (own : Own) (at : ℕ) (host : Host) → host_in c own ≡ host → idles host ≡ true → Carries c MarkingSlot (adds own at (Mark own.number slot))
@@ -304,8 +343,16 @@ marking c slot own at (Running m) is idle =
     record { memory = starts_marking m slot; is = host_adds c own at e ∙ ap (λ (s : Host). host_step c own.number s e) is; doing = go (nat_lt slot (length m.learned)); receipt = tt }
   where
     go : (b : Bool) → So MarkingSlot (if b then with_marking m (Some (record { slot = slot; heard = [] })) None else with_marking m m.marking (Some (Refused refusal.NotLearned)))
-    go true = subst (IsCarriedBeside MarkingSlot (with_marking m (Some (record { slot = slot; heard = [] })) None)) (sym (idle_rests m idle).0) (refl, refl)
+    go true = subst (IsCarriedBeside MarkingSlot (with_marking m (Some (record { slot = slot; heard = [] })) None)) (sym (idle_rests m idle).0) (refl, refl, (idle_rests m idle).2)
     go false = over MarkingSlot (with_marking m m.marking (Some (Refused refusal.NotLearned))) (idle_rests m idle) tt
+
+-- or a look does
+looking : (c : Shape) (own : Own) (at : ℕ) (host : Host) → host_in c own ≡ host → idles host ≡ true → Carries c LookingOn (adds own at (Look own.number))
+looking c own at Stopped is idle = absurd (cc idle)
+looking c own at (Running m) is idle =
+    let e : Filled = Look own.number in
+    let rest = idle_rests m idle in
+    record { memory = starts_look c m; is = host_adds c own at e ∙ ap (λ (s : Host). host_step c own.number s e) is; doing = look_next c m rest.0 rest.1 0; receipt = tt }
 
 pub marking_slot_by : (c : Shape) (slot : ℕ) (own new : Own) (at : ℕ) → idles (host_in c own) ≡ true → new ≡ adds own at (Mark own.number slot) → Carries c MarkingSlot new
 marking_slot_by c slot own new at idle is = subst (Carries c MarkingSlot) (sym is) (marking c slot own at (host_in c own) refl idle)
@@ -316,8 +363,8 @@ submitted_by c command tries own new at idle is = subst (Carries c (Attempting (
 pub recovering_by : (c : Shape) (tries : ℕ) (own new : Own) (at : ℕ) → idles (host_in c own) ≡ true → new ≡ adds own at (Recover own.number tries) → Carries c (Attempting Recovering) new
 recovering_by c tries own new at idle is = subst (Carries c (Attempting Recovering)) (sym is) (recovering c tries own at idle)
 
-pub looking_by : (c : Shape) (own new : Own) (at : ℕ) → idles (host_in c own) ≡ true → new ≡ adds own at (Look own.number) → Carries c (Attempting Looking) new
-looking_by c own new at idle is = subst (Carries c (Attempting Looking)) (sym is) (looking c own at idle)
+pub looking_by : (c : Shape) (own new : Own) (at : ℕ) → idles (host_in c own) ≡ true → new ≡ adds own at (Look own.number) → Carries c LookingOn new
+looking_by c own new at idle is = subst (Carries c LookingOn) (sym is) (looking c own at (host_in c own) refl idle)
 
 pub beating_by : (c : Shape) (own new : Own) (at : ℕ) → idles (host_in c own) ≡ true → new ≡ adds own at (Beat own.number) → Carries c Beating new
 beating_by c own new at idle is = subst (Carries c Beating) (sym is) (beating c own at (host_in c own) refl idle)
@@ -331,11 +378,15 @@ said_idle c task own carries said is = ap idles carries.is ∙ go carries.memory
     not_said : carries.memory.said ≡ None → ⊥
     not_said none = let no : None ≡ Some said = sym none ∙ sym (ap said_of carries.is) ∙ is in cc no
 
-    by_marking : (o : Option Marking) → IsCarriedInMarking task carries.memory o → not (is_some o) ≡ true
-    by_marking None k = refl
+    by_look : (o : Option Looking) → IsCarriedInLook task carries.memory o → not (is_some o) ≡ true
+    by_look None k = refl
+    by_look (Some t) k = absurd (not_said k.1)
+
+    by_marking : (o : Option Marking) → IsCarriedInMarking task carries.memory o → (not (is_some o) && not (is_some carries.memory.looking)) ≡ true
+    by_marking None k = by_look carries.memory.looking k
     by_marking (Some t) k = absurd (not_said k.1)
 
-    by_beat : (o : Option (List beat_answers.Answered)) → IsCarriedBeside task carries.memory o → (rests o && not (is_some carries.memory.marking)) ≡ true
+    by_beat : (o : Option (List beat_answers.Answered)) → IsCarriedBeside task carries.memory o → (rests o && not (is_some carries.memory.marking) && not (is_some carries.memory.looking)) ≡ true
     by_beat None k = by_marking carries.memory.marking k
     by_beat (Some heard) k = absurd (not_said k.1)
 
@@ -347,11 +398,15 @@ said_idle c task own carries said is = ap idles carries.is ∙ go carries.memory
 pub answered : (c : Shape) (task : HostTask) (own : Own) → Carries c task own → idles (host_in c own) ≡ true → IsAnswer task (learned_of (host_in c own)) (said_of (host_in c own))
 answered c task own carries idle = subst (λ (s : Host). IsAnswer task (learned_of s) (said_of s)) (sym carries.is) (go carries.memory.doing carries.doing (sym (ap idles carries.is) ∙ idle))
   where
-    by_marking : (o : Option Marking) → IsCarriedInMarking task carries.memory o → not (is_some o) ≡ true → IsAnswer task carries.memory.learned carries.memory.said
-    by_marking None k is = k
+    by_look : (o : Option Looking) → IsCarriedInLook task carries.memory o → not (is_some o) ≡ true → IsAnswer task carries.memory.learned carries.memory.said
+    by_look None k is = k
+    by_look (Some t) k is = absurd (cc is)
+
+    by_marking : (o : Option Marking) → IsCarriedInMarking task carries.memory o → (not (is_some o) && not (is_some carries.memory.looking)) ≡ true → IsAnswer task carries.memory.learned carries.memory.said
+    by_marking None k is = by_look carries.memory.looking k is
     by_marking (Some t) k is = absurd (cc is)
 
-    by_beat : (o : Option (List beat_answers.Answered)) → IsCarriedBeside task carries.memory o → (rests o && not (is_some carries.memory.marking)) ≡ true → IsAnswer task carries.memory.learned carries.memory.said
+    by_beat : (o : Option (List beat_answers.Answered)) → IsCarriedBeside task carries.memory o → (rests o && not (is_some carries.memory.marking) && not (is_some carries.memory.looking)) ≡ true → IsAnswer task carries.memory.learned carries.memory.said
     by_beat None k is = by_marking carries.memory.marking k is
     by_beat (Some heard) k is = absurd (cc is)
 
@@ -390,17 +445,17 @@ pub recovers_unlooked : (c : Shape) (own : Own) → Carries c (Attempting Recove
 recovers_unlooked c own carries n is = answered_by c (Attempting Recovering) own carries (Looked n) is
 
 -- nor a look
-pub looks_unacknowledged : (c : Shape) (own : Own) → Carries c (Attempting Looking) own → (slot : ℕ) (reply : Reply) → said_of (host_in c own) ≡ Some (Ack slot reply) → ⊥
-looks_unacknowledged c own carries slot reply is = answered_by c (Attempting Looking) own carries (Ack slot reply) is
+pub looks_unacknowledged : (c : Shape) (own : Own) → Carries c LookingOn own → (slot : ℕ) (reply : Reply) → said_of (host_in c own) ≡ Some (Ack slot reply) → ⊥
+looks_unacknowledged c own carries slot reply is = answered_by c LookingOn own carries (Ack slot reply) is
 
-pub looks_unrecovered : (c : Shape) (own : Own) → Carries c (Attempting Looking) own → (n : ℕ) → said_of (host_in c own) ≡ Some (Recovered n) → ⊥
-looks_unrecovered c own carries n is = answered_by c (Attempting Looking) own carries (Recovered n) is
+pub looks_unrecovered : (c : Shape) (own : Own) → Carries c LookingOn own → (n : ℕ) → said_of (host_in c own) ≡ Some (Recovered n) → ⊥
+looks_unrecovered c own carries n is = answered_by c LookingOn own carries (Recovered n) is
 
-pub looks_unbeaten : (c : Shape) (own : Own) → Carries c (Attempting Looking) own → (host : ℕ) → said_of (host_in c own) ≡ Some (Beaten host) → ⊥
-looks_unbeaten c own carries host is = answered_by c (Attempting Looking) own carries (Beaten host) is
+pub looks_unbeaten : (c : Shape) (own : Own) → Carries c LookingOn own → (host : ℕ) → said_of (host_in c own) ≡ Some (Beaten host) → ⊥
+looks_unbeaten c own carries host is = answered_by c LookingOn own carries (Beaten host) is
 
-pub looks_unmarked : (c : Shape) (own : Own) → Carries c (Attempting Looking) own → (count : ℕ) → said_of (host_in c own) ≡ Some (Marked count) → ⊥
-looks_unmarked c own carries count is = answered_by c (Attempting Looking) own carries (Marked count) is
+pub looks_unmarked : (c : Shape) (own : Own) → Carries c LookingOn own → (count : ℕ) → said_of (host_in c own) ≡ Some (Marked count) → ⊥
+looks_unmarked c own carries count is = answered_by c LookingOn own carries (Marked count) is
 
 -- nor a beat
 pub beats_unacknowledged : (c : Shape) (own : Own) → Carries c Beating own → (slot : ℕ) (reply : Reply) → said_of (host_in c own) ≡ Some (Ack slot reply) → ⊥
@@ -441,7 +496,7 @@ acked_for c command own carries slot reply is =
 pub acked : (c : Shape) (task : HostTask) (own : Own) → Carries c task own → (slot : ℕ) (reply : Reply) → said_of (host_in c own) ≡ Some (Ack slot reply) → IsAcked c own slot reply
 acked c (Attempting (Submitting command)) own carries slot reply is = let r = acked_for c command own carries slot reply is in record { command = command; place = r.0; last = r.1 }
 acked c (Attempting Recovering) own carries slot reply is = absurd (only_recovers c own carries slot reply is)
-acked c (Attempting Looking) own carries slot reply is = absurd (looks_unacknowledged c own carries slot reply is)
+acked c LookingOn own carries slot reply is = absurd (looks_unacknowledged c own carries slot reply is)
 acked c Beating own carries slot reply is = absurd (beats_unacknowledged c own carries slot reply is)
 acked c MarkingSlot own carries slot reply is = absurd (marks_unacknowledged c own carries slot reply is)
 
@@ -470,9 +525,9 @@ refused c o fault.SeatsMissing old new carries goes is = absurd is
 no_receipt : (c : Shape) (own : Own) (task : HostTask) → HasReceipt c own task None
 no_receipt c own (Attempting (Submitting command)) = tt
 no_receipt c own (Attempting Recovering) = tt
-no_receipt c own (Attempting Looking) = tt
 no_receipt c own Beating = tt
 no_receipt c own MarkingSlot = tt
+no_receipt c own LookingOn = tt
 
 -- a host that is not idle carries a task out
 pub carries_one : (c : Shape) (own : Own) (m : Memory) (submitting : Option Command) → host_in c own ≡ Running m → IsDoing c m m.doing submitting → idles (host_in c own) ≡ false → (task : HostTask) × Carries c task own
@@ -484,21 +539,29 @@ carries_one c own m submitting is doing busy = go m.doing refl doing (sym (ap id
       record { memory = m; is = is; doing = carried; receipt = subst (HasReceipt c own task) (sym none) (no_receipt c own task) },
     )
 
-    by_marking : (o : Option Marking) → m.doing ≡ None → m.beats.heard ≡ None → m.marking ≡ o → IsSilentInMarking m o → not (is_some o) ≡ false → (task : HostTask) × Carries c task own
-    by_marking None none rest unmarked known off = absurd (cc off)
-    by_marking (Some t) none rest marks known off =
-        quiet MarkingSlot known (subst (λ (d : Option Doing). IsCarried MarkingSlot m d) (sym none)
-        (subst (λ (o : Option (List beat_answers.Answered)). IsCarriedBeside MarkingSlot m o) (sym rest)
-        (subst (λ (o : Option Marking). IsCarriedInMarking MarkingSlot m o) (sym marks) (refl, known))))
+    by_look : (o : Option Looking) → m.doing ≡ None → m.beats.heard ≡ None → m.marking ≡ None → m.looking ≡ o → IsSilentInLook m o → not (is_some o) ≡ false → (task : HostTask) × Carries c task own
+    by_look None none rest unmarked unlooked known off = absurd (cc off)
+    by_look (Some t) none rest unmarked looks known off =
+        quiet LookingOn known (subst (λ (d : Option Doing). IsCarried LookingOn m d) (sym none)
+        (subst (λ (o : Option (List beat_answers.Answered)). IsCarriedBeside LookingOn m o) (sym rest)
+        (subst (λ (o : Option Marking). IsCarriedInMarking LookingOn m o) (sym unmarked)
+        (subst (λ (o : Option Looking). IsCarriedInLook LookingOn m o) (sym looks) (refl, known)))))
 
-    by_beat : (o : Option (List beat_answers.Answered)) → m.doing ≡ None → m.beats.heard ≡ o → IsSilentInBeat m o → (rests o && not (is_some m.marking)) ≡ false → (task : HostTask) × Carries c task own
+    by_marking : (o : Option Marking) → m.doing ≡ None → m.beats.heard ≡ None → m.marking ≡ o → IsSilentInMarking m o → (not (is_some o) && not (is_some m.looking)) ≡ false → (task : HostTask) × Carries c task own
+    by_marking None none rest unmarked known off = by_look m.looking none rest unmarked refl known off
+    by_marking (Some t) none rest marks known off =
+        quiet MarkingSlot known.0 (subst (λ (d : Option Doing). IsCarried MarkingSlot m d) (sym none)
+        (subst (λ (o : Option (List beat_answers.Answered)). IsCarriedBeside MarkingSlot m o) (sym rest)
+        (subst (λ (o : Option Marking). IsCarriedInMarking MarkingSlot m o) (sym marks) (refl, known.0, known.1))))
+
+    by_beat : (o : Option (List beat_answers.Answered)) → m.doing ≡ None → m.beats.heard ≡ o → IsSilentInBeat m o → (rests o && not (is_some m.marking) && not (is_some m.looking)) ≡ false → (task : HostTask) × Carries c task own
     by_beat None none rest known off = by_marking m.marking none rest refl known off
     by_beat (Some heard) none beats known off =
-        quiet Beating known.0 (subst (λ (d : Option Doing). IsCarried Beating m d) (sym none) (subst (λ (o : Option (List beat_answers.Answered)). IsCarriedBeside Beating m o) (sym beats) (refl, known.0, known.1)))
+        quiet Beating known.0 (subst (λ (d : Option Doing). IsCarried Beating m d) (sym none) (subst (λ (o : Option (List beat_answers.Answered)). IsCarriedBeside Beating m o) (sym beats) (refl, known.0, known.1, known.2)))
 
     go : (d : Option Doing) → m.doing ≡ d → IsDoing c m d submitting → is_idle_in m d ≡ false → (task : HostTask) × Carries c task own
     go None none known off = by_beat m.beats.heard none refl known off
-    go (Some t) does known off = quiet (Attempting t.operation) known.2 (subst (λ (d : Option Doing). IsCarried (Attempting t.operation) m d) (sym does) (refl, known.2, known.3, known.4))
+    go (Some t) does known off = quiet (Attempting t.operation) known.2 (subst (λ (d : Option Doing). IsCarried (Attempting t.operation) m d) (sym does) (refl, known.2, known.3, known.4, known.5))
 
 -- WHICH COMMAND
 

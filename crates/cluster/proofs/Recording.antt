@@ -10,7 +10,7 @@ use Rattle.lock_command.specs.declared.reply.Reply.{Reply}
 use Rattle.slot_log.specs.Shape.{Shape}
 use Rattle.host.specs.declared.answer.HostAnswer.{HostAnswer}
 use Rattle.host.specs.declared.answer.HostAnswer.TheVariants.{Ack, Recovered, Looked, Beaten, Marked, Refused}
-use Rattle.host.specs.Host.{Operation, Submitting, Recovering, Looking, Doing, Memory, Host, Stopped, Running, said_of, learned_of}
+use Rattle.host.specs.Host.{Operation, Submitting, Recovering, Doing, Memory, Host, Stopped, Running, said_of, learned_of}
 use Rattle.world.specs.Entry.{Filled, Start, is_of, host_step}
 use Rattle.world.specs.World.{world, IsFreshRun}
 use Rattle.world.specs.Plain.{plains}
@@ -68,7 +68,6 @@ module _ (c : Shape) (log : List Filled) (h : ℕ) where
       tt,
     )
     for_operation slot reply says Recovering same = tt
-    for_operation slot reply says Looking same = tt
 
     for_saying : (said : Option HostAnswer) → said_of ((at c log (i + 1)).host h) ≡ said → HaveAll (receipt_by h i (Some t) said)
     for_saying None says = tt

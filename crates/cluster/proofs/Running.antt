@@ -5,7 +5,7 @@ use Rattle.disk.specs.Disk.{Call, Answer}
 use Rattle.beats.specs.Answers.{Answered as Beaten}
 use Rattle.lock_command.specs.declared.command.Command.{Command}
 use Rattle.slot_log.specs.Shape.{Shape}
-use Rattle.host.specs.Host.{Host, Running, Memory, Doing, Marking, hears_from, rests, is_idle_in, next_marking, next_beside, next_doing, next_in, next_of}
+use Rattle.host.specs.Host.{Host, Running, Memory, Doing, Marking, Looking, hears_from, rests, is_idle_in, next_look, next_marking, next_beside, next_doing, next_in, next_of}
 use Rattle.host.specs.Kept.{Kept, LeadsTo}
 use Rattle.world.specs.Entry.{Called, host_step}
 use Rattle.cluster_tie.specs.Parts.{Own, adds}
@@ -15,11 +15,15 @@ use Rattle.cluster.specs.Seat.{host_in, due_in, IsDueOn, IsRunning}
 use Rattle.cluster.proofs.Adding.{host_adds, receipts_adds}
 use Rattle.cluster.proofs.Heard.{hears_keeps, hears_counts, said_is}
 
-due_marks : (c : Shape) (h : ℕ) (m : Memory) (o : Option Marking) (due : ℕ × Call) → next_marking c h m o ≡ Some due → not (is_some o) ≡ false
-due_marks c h m None due is = absurd (cc is)
+due_looks : (c : Shape) (m : Memory) (o : Option Looking) (due : ℕ × Call) → next_look c m o ≡ Some due → not (is_some o) ≡ false
+due_looks c m None due is = absurd (cc is)
+due_looks c m (Some t) due is = refl
+
+due_marks : (c : Shape) (h : ℕ) (m : Memory) (o : Option Marking) (due : ℕ × Call) → next_marking c h m o ≡ Some due → (not (is_some o) && not (is_some m.looking)) ≡ false
+due_marks c h m None due is = due_looks c m m.looking due is
 due_marks c h m (Some t) due is = refl
 
-due_beats : (c : Shape) (h : ℕ) (m : Memory) (o : Option (List Beaten)) (due : ℕ × Call) → next_beside c h m o ≡ Some due → (rests o && not (is_some m.marking)) ≡ false
+due_beats : (c : Shape) (h : ℕ) (m : Memory) (o : Option (List Beaten)) (due : ℕ × Call) → next_beside c h m o ≡ Some due → (rests o && not (is_some m.marking) && not (is_some m.looking)) ≡ false
 due_beats c h m None due is = due_marks c h m m.marking due is
 due_beats c h m (Some heard) due is = refl
 

@@ -5,7 +5,7 @@ use Rattle.lock_command.specs.declared.command.Command.{Command}
 use Rattle.slot_log.specs.Shape.{Shape}
 use Rattle.host.specs.declared.answer.HostAnswer.{HostAnswer}
 use Rattle.host.specs.declared.answer.HostAnswer.TheVariants as said
-use Rattle.host.specs.Host.{Operation, Submitting, Recovering, Looking, Doing, Marking, Memory, Running, idles, said_of, learned_of}
+use Rattle.host.specs.Host.{Operation, Submitting, Recovering, Doing, Marking, Looking, Memory, Running, idles, said_of, learned_of}
 use Rattle.world.specs.Entry.{Filled, Start, Stop}
 use Rattle.cluster_tie.specs.Parts.{Own, own_of, adds}
 use Rattle.cluster.specs.Cluster.{GoesOn}
@@ -75,37 +75,43 @@ Restarts old new = (place : ℕ) × (new ≡ adds (adds old place (Stop old.numb
 
 -- WHILE A TASK IS UNDER WAY
 
--- what a host carries out: an operation on the log, a beat, or the marking of a slot
+-- what a host carries out: an operation on the log, a beat, the marking of a slot, or a look
 pub data HostTask : Type 0 where
   Attempting : (operation : Operation) → HostTask
   Beating : HostTask
   MarkingSlot : HostTask
+  LookingOn : HostTask
 
 -- the host may answer the task so
 abbrev pub IsAnswer : HostTask → List Command → Option HostAnswer → Type 0
 IsAnswer task learned None = ⊥
 IsAnswer (Attempting (Submitting command)) learned (Some (said.Ack slot reply)) = Unit {0}
 IsAnswer (Attempting Recovering) learned (Some (said.Recovered n)) = n ≡ length learned
-IsAnswer (Attempting Looking) learned (Some (said.Looked n)) = n ≡ length learned
 IsAnswer Beating learned (Some (said.Beaten host)) = Unit {0}
 IsAnswer MarkingSlot learned (Some (said.Marked count)) = Unit {0}
+IsAnswer LookingOn learned (Some (said.Looked n)) = n ≡ length learned
 IsAnswer task learned (Some (said.Refused refusal)) = Unit {0}
 IsAnswer task learned other = ⊥
 
--- the marking is under way, or the task was answered
-abbrev pub IsCarriedInMarking : HostTask → Memory → Option Marking → Type 0
-IsCarriedInMarking task m None = IsAnswer task m.learned m.said
-IsCarriedInMarking task m (Some t) = (task ≡ MarkingSlot) × (m.said ≡ None)
+-- the look is under way, or the task was answered
+abbrev pub IsCarriedInLook : HostTask → Memory → Option Looking → Type 0
+IsCarriedInLook task m None = IsAnswer task m.learned m.said
+IsCarriedInLook task m (Some t) = (task ≡ LookingOn) × (m.said ≡ None)
 
--- or the beat is, and no marking
+-- or the marking is, and no look
+abbrev pub IsCarriedInMarking : HostTask → Memory → Option Marking → Type 0
+IsCarriedInMarking task m None = IsCarriedInLook task m m.looking
+IsCarriedInMarking task m (Some t) = (task ≡ MarkingSlot) × (m.said ≡ None) × (m.looking ≡ None)
+
+-- or the beat is, and neither of them
 abbrev pub IsCarriedBeside : HostTask → Memory → Option (List Answered) → Type 0
 IsCarriedBeside task m None = IsCarriedInMarking task m m.marking
-IsCarriedBeside task m (Some heard) = (task ≡ Beating) × (m.said ≡ None) × (m.marking ≡ None)
+IsCarriedBeside task m (Some heard) = (task ≡ Beating) × (m.said ≡ None) × (m.marking ≡ None) × (m.looking ≡ None)
 
--- or the operation is, and neither of them
+-- or the operation is, and none of them
 abbrev pub IsCarried : HostTask → Memory → Option Doing → Type 0
 IsCarried task m None = IsCarriedBeside task m m.beats.heard
-IsCarried task m (Some t) = (Attempting t.operation ≡ task) × (m.said ≡ None) × (m.beats.heard ≡ None) × (m.marking ≡ None)
+IsCarried task m (Some t) = (Attempting t.operation ≡ task) × (m.said ≡ None) × (m.beats.heard ≡ None) × (m.marking ≡ None) × (m.looking ≡ None)
 
 -- a submission that was acknowledged has the last receipt
 abbrev pub HasReceipt : Shape → Own → HostTask → Option HostAnswer → Type 0

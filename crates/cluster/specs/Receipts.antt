@@ -5,7 +5,7 @@ use Rattle.lock_command.specs.declared.reply.Reply.{Reply}
 use Rattle.slot_log.specs.Shape.{Shape}
 use Rattle.host.specs.declared.answer.HostAnswer.{HostAnswer}
 use Rattle.host.specs.declared.answer.HostAnswer.TheVariants.{Ack}
-use Rattle.host.specs.Host.{Host, Stopped, Running, Operation, Submitting, Recovering, Looking, Doing, said_of}
+use Rattle.host.specs.Host.{Host, Stopped, Running, Operation, Submitting, Recovering, Doing, said_of}
 use Rattle.world.specs.Entry.{Filled, Start, host_step}
 use Rattle.cluster_tie.specs.Parts.{Placed, Own}
 use Rattle.cluster.specs.declared.receipt.Receipt.{Receipt}
@@ -15,7 +15,6 @@ abbrev pub receipt_for : ℕ → ℕ → Operation → ℕ → Reply → List Re
 receipt_for h place (Submitting command) slot reply =
     record { host = h; command = command; slot = slot; reply = reply; place = place } ∷ []
 receipt_for h place Recovering slot reply = []
-receipt_for h place Looking slot reply = []
 
 abbrev pub receipt_by : ℕ → ℕ → Option Doing → Option HostAnswer → List Receipt
 receipt_by h place (Some t) (Some (Ack slot reply)) = receipt_for h place t.operation slot reply

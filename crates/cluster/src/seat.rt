@@ -123,8 +123,8 @@ pub(crate) fn hear(
 )
     requires busy { is_idle core.old ≡ false }
     requires fits { Fits (due_call core.old).1 (heard_of heard.now) }
-    // A beat brings no receipt, and a marking none.
-    requires room { core.old.beat ≡ None → core.old.marking ≡ None → vec_len acks.old < vec_capacity acks.old }
+    // A beat, a marking and a look bring no receipt.
+    requires room { core.old.beat ≡ None → core.old.marking ≡ None → core.old.look ≡ None → vec_len acks.old < vec_capacity acks.old }
     ensures leads { (c : Shape) (h : ℕ) (m : Memory) → LeadsTo c h m core.old →
         LeadsTo c h (hears_from c h m m.doing (due_call core.old).0 (device_answer heard.now)) core.new }
     ensures acks { acks.new.items ≡ acks.old.items ++ receipts_said core.old.learner.host place submitting core.new.said }

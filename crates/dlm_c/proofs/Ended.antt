@@ -1,15 +1,15 @@
 -- What C is told where an operation has ended, from how the host says that it ended.
-use Rattle.std.proofs.Common.{ℕ, List, Option, Some, None, inl, inr, refl, ap, arith}
+use Rattle.std.proofs.Common.{◌⊎◌, ℕ, List, Option, Some, None, inl, inr, refl, ap, arith}
 use Rattle.disk.specs.Disk.{Call, Answer}
 use Rattle.lock_command.specs.declared.command.Command.{Command}
 use Rattle.host.specs.declared.answer.HostAnswer.{HostAnswer}
 use Rattle.host.specs.declared.answer.HostAnswer.TheVariants.{Ack, Recovered, Looked, Beaten, Marked, Refused}
-use Rattle.host.specs.Host.{Operation, Submitting, Recovering, Looking, fresh}
+use Rattle.host.specs.Host.{Operation, Submitting, Recovering, fresh}
 use Rattle.host.proofs.Hosts.{idle_is}
-use Rattle.dlm_images.specs.Operations.{Ends, EndsMarking}
-use Rattle.dlm_images.proofs.Driving.{known_operated, operated_ends, known_marked, marked_prefix, marked_ends}
+use Rattle.dlm_images.specs.Operations.{Ends, EndsMarking, EndsLook}
+use Rattle.dlm_images.proofs.Driving.{known_operated, operated_ends, known_marked, marked_prefix, marked_ends, known_looked, looked_ends}
 use Rattle.dlm_images.proofs.Ending.{ReadsBack, reads_back}
-use Rattle.dlm_c.specs.Ends.{TellsEnd, TellsMarked, HasNumbersInRange, OpenedRest, OperationsTell, MarkingsTell}
+use Rattle.dlm_c.specs.Ends.{TellsEnd, TellsLearned, TellsMarked, TellsRefused, HasNumbersInRange, OpenedRest, OperationsTell, MarkingsTell, LooksTell}
 use Rattle.dlm_c.specs.Told.{answer_told, status_told}
 
 -- how an operation has ended is told
@@ -28,13 +28,15 @@ tells_end Recovering learned (Some (Looked count)) ends = absurd ends
 tells_end Recovering learned (Some (Beaten host)) ends = absurd ends
 tells_end Recovering learned (Some (Marked count)) ends = absurd ends
 tells_end Recovering learned (Some (Refused refusal)) ends = inr (record { refusal = refusal; told = refl; returned = refl })
-tells_end Looking learned None ends = absurd ends
-tells_end Looking learned (Some (Ack slot reply)) ends = absurd ends
-tells_end Looking learned (Some (Recovered count)) ends = absurd ends
-tells_end Looking learned (Some (Looked count)) ends = inl (ap (λ (n : ℕ). answer_told (Some (Looked n))) ends, refl)
-tells_end Looking learned (Some (Beaten host)) ends = absurd ends
-tells_end Looking learned (Some (Marked count)) ends = absurd ends
-tells_end Looking learned (Some (Refused refusal)) ends = inr (record { refusal = refusal; told = refl; returned = refl })
+
+tells_looked : (learned : List Command) (said : Option HostAnswer) → EndsLook learned said → TellsLearned learned (answer_told said) (status_told said) ⊎ TellsRefused (answer_told said) (status_told said)
+tells_looked learned None ends = absurd ends
+tells_looked learned (Some (Ack slot reply)) ends = absurd ends
+tells_looked learned (Some (Recovered count)) ends = absurd ends
+tells_looked learned (Some (Looked count)) ends = inl (ap (λ (n : ℕ). answer_told (Some (Looked n))) ends, refl)
+tells_looked learned (Some (Beaten host)) ends = absurd ends
+tells_looked learned (Some (Marked count)) ends = absurd ends
+tells_looked learned (Some (Refused refusal)) ends = inr (record { refusal = refusal; told = refl; returned = refl })
 
 tells_marked : (said : Option HostAnswer) → EndsMarking said → TellsMarked (answer_told said) (status_told said)
 tells_marked None ends = absurd ends
@@ -49,7 +51,6 @@ tells_marked (Some (Refused refusal)) ends = inr (record { refusal = refusal; to
 reads : (o : Operation) → HasNumbersInRange o → ReadsBack o
 reads (Submitting command) fits = reads_back command fits
 reads Recovering fits = tt
-reads Looking fits = tt
 
 -- a host that was opened rests
 pub opened : OpenedRest
@@ -66,7 +67,13 @@ operations gives operation tries old new rests fits done = (
 
 pub markings : {D : Type 0} (gives : D → Call → Answer → D → Type 0) → MarkingsTell gives
 markings gives slot old new rests done = (
-  record { known = known_marked gives slot old new rests.known done; idle = done.ended },
-  marked_prefix gives slot old new rests.known done,
-  tells_marked new.core.said (marked_ends gives slot old new rests.known done),
+  record { known = known_marked gives slot old new rests.known rests.idle done; idle = done.ended },
+  marked_prefix gives slot old new rests.known rests.idle done,
+  tells_marked new.core.said (marked_ends gives slot old new rests.known rests.idle done),
+)
+
+pub looks : {D : Type 0} (gives : D → Call → Answer → D → Type 0) → LooksTell gives
+looks gives old new rests done = (
+  record { known = known_looked gives old new rests.known rests.idle done; idle = done.ended },
+  tells_looked new.core.prefix new.core.said (looked_ends gives old new rests.known rests.idle done),
 )

@@ -5,7 +5,7 @@ use Rattle.slot_log.specs.Shape.{Shape}
 use Rattle.host.specs.Host.{Memory}
 use Rattle.host.specs.Kept.{Kept, LeadsTo}
 use Rattle.dlm_images.specs.Operations.{Made, AreDue, after_call, after_made}
-use Rattle.dlm_c.specs.Steps.{AreHeard, CallsOperate, CallsMark}
+use Rattle.dlm_c.specs.Steps.{AreHeard, CallsOperate, CallsMark, CallsLook}
 
 -- each was due
 pub all_due : (old new : Kept) (made : List Made) → AreHeard old made new → (c : Shape) (h : ℕ) (m : Memory) → LeadsTo c h m old → AreDue c h m made
@@ -30,6 +30,15 @@ operates gives operation tries old begun new made disks left begins heard gave e
 
 pub marks : {D : Type 0} (gives : D → Call → Answer → D → Type 0) → CallsMark gives
 marks gives slot old begun new made disks left begins heard gave ended = record {
+  made = made;
+  gave = gave;
+  due = λ c h m leads. all_due begun new made heard c h _ (begins c h m leads);
+  leads = λ c h m leads. all_lead begun new made heard c h _ (begins c h m leads);
+  ended = ended;
+}
+
+pub looks : {D : Type 0} (gives : D → Call → Answer → D → Type 0) → CallsLook gives
+looks gives old begun new made disks left begins heard gave ended = record {
   made = made;
   gave = gave;
   due = λ c h m leads. all_due begun new made heard c h _ (begins c h m leads);

@@ -6,9 +6,9 @@ use Rattle.lock_command.specs.Command.{Fits}
 use Rattle.lock_command.specs.declared.reply.Reply.{Reply}
 use Rattle.slot_log.specs.Shape.{Shape}
 use Rattle.slot_log.specs.declared.outcome.Refusal.{Refusal}
-use Rattle.host.specs.Host.{Operation, Submitting, Recovering, Looking, fresh}
+use Rattle.host.specs.Host.{Operation, Submitting, Recovering, fresh}
 use Rattle.host.specs.Kept.{Kept, LeadsTo, is_idle}
-use Rattle.dlm_images.specs.Operations.{IsKnown, Standing, HasOperated, HasMarked, IsAcknowledged}
+use Rattle.dlm_images.specs.Operations.{IsKnown, Standing, HasOperated, HasMarked, HasLooked, IsAcknowledged}
 use Rattle.dlm_c.specs.declared.answer.Answer.{Answer}
 use Rattle.dlm_c.specs.Numbers.{done, no_answer, answer_of, status_of, operation_number}
 use Rattle.dlm_c.specs.Told.{counted, answer_told, status_told}
@@ -38,13 +38,11 @@ TellsMarked answer status = ((count : ℕ) × (answer ≡ counted count) × (sta
 abbrev pub TellsEnd : Operation → List Command → Answer → ℤ → Type 0
 TellsEnd (Submitting command) learned answer status = TellsAcknowledged command learned answer status ⊎ TellsRefused answer status
 TellsEnd Recovering learned answer status = TellsLearned learned answer status ⊎ TellsRefused answer status
-TellsEnd Looking learned answer status = TellsLearned learned answer status ⊎ TellsRefused answer status
 
 -- a command that is submitted has its numbers in their ranges
 abbrev pub HasNumbersInRange : Operation → Type 0
 HasNumbersInRange (Submitting command) = Fits command
 HasNumbersInRange Recovering = Unit {0}
-HasNumbersInRange Looking = Unit {0}
 
 -- Between operations a host rests, and something is known of it.
 pub record IsResting (k : Kept) : Type 0 where
@@ -66,3 +64,9 @@ abbrev pub MarkingsTell : {D : Type 0} → (D → disk.Call → disk.Answer → 
 MarkingsTell {D = D} gives = (slot : ℕ) (old new : Standing D) →
     IsResting old.core → HasMarked gives slot old new →
     IsResting new.core × (new.core.prefix ≡ old.core.prefix) × TellsMarked (answer_told new.core.said) (status_told new.core.said)
+
+-- and after each look, of which C is told how many commands are learned, or why it was refused
+abbrev pub LooksTell : {D : Type 0} → (D → disk.Call → disk.Answer → D → Type 0) → Type 0
+LooksTell {D = D} gives = (old new : Standing D) →
+    IsResting old.core → HasLooked gives old new →
+    IsResting new.core × (TellsLearned new.core.prefix (answer_told new.core.said) (status_told new.core.said) ⊎ TellsRefused (answer_told new.core.said) (status_told new.core.said))

@@ -8,6 +8,7 @@ pub mod Held
 pub mod Images
 pub mod Numbers
 pub mod Requests
+pub mod Signs
 pub mod Steps
 pub mod Told
 pub mod Views

@@ -4,9 +4,9 @@ use Rattle.disk.specs.Disk.{Call, Answer, Attach, Booted}
 use Rattle.slot_log.specs.Shape.{Shape}
 use Rattle.lock_command.specs.declared.command.Command.{Command}
 use Rattle.lock_command.specs.Command.{Fits}
-use Rattle.host.specs.Host.{Memory, Operation, Submitting, Recovering, Looking, goes_on, starts_marking}
+use Rattle.host.specs.Host.{Memory, Operation, Submitting, Recovering, goes_on, starts_marking, starts_look}
 use Rattle.host.specs.Kept.{Kept, LeadsTo, is_idle, due_call}
-use Rattle.dlm_images.specs.Operations.{Made, IsDue, Gave, HasOperated, HasMarked, after_call}
+use Rattle.dlm_images.specs.Operations.{Made, IsDue, Gave, HasOperated, HasMarked, HasLooked, after_call}
 use Rattle.dlm_c.specs.declared.call.DueCall.{DueCall}
 use Rattle.dlm_c.specs.declared.call.ToldAnswer.{ToldAnswer}
 use Rattle.dlm_c.specs.declared.request.Request.{Request}
@@ -37,6 +37,10 @@ Begins operation tries old new = (c : Shape) (h : ℕ) (m : Memory) → LeadsTo 
 -- the same of a marking of this slot
 abbrev pub BeginsMarking : ℕ → Kept → Kept → Type 0
 BeginsMarking slot old new = (c : Shape) (h : ℕ) (m : Memory) → LeadsTo c h m old → LeadsTo c h (starts_marking m slot) new
+
+-- and of a look
+abbrev pub BeginsLook : Kept → Kept → Type 0
+BeginsLook old new = (c : Shape) (h : ℕ) (m : Memory) → LeadsTo c h m old → LeadsTo c h (starts_look c m) new
 
 -- An idle host began what was asked.
 pub record HasBegun (Asked : Kept → Kept → Type 0) (old new : OpenHost) (status : ℤ) : Type 0 where
@@ -76,7 +80,7 @@ abbrev pub Recovers : ℕ → OpenHost → OpenHost → ℤ → Type 0
 Recovers tries = BeginsOr (λ old new. AreTries tries × Begins Recovering tries old new) (λ old. AreTries tries → ⊥)
 
 abbrev pub Looks : OpenHost → OpenHost → ℤ → Type 0
-Looks = BeginsOr (Begins Looking 1) (λ old. ⊥)
+Looks = BeginsOr BeginsLook (λ old. ⊥)
 
 abbrev pub Marks : ℕ → OpenHost → OpenHost → ℤ → Type 0
 Marks slot = BeginsOr (BeginsMarking slot) (λ old. slot < 2 ^ 16 → ⊥)
@@ -164,3 +168,9 @@ abbrev pub CallsMark : {D : Type 0} → (D → Call → Answer → D → Type 0)
 CallsMark {D = D} gives = (slot : ℕ) (old begun new : Kept) (made : List Made) (disks left : List D) →
     BeginsMarking slot old begun → AreHeard begun made new → Gave gives disks made left → is_idle new ≡ true →
     HasMarked gives slot (record { core = old; disks = disks }) (record { core = new; disks = left })
+
+-- and so is a look
+abbrev pub CallsLook : {D : Type 0} → (D → Call → Answer → D → Type 0) → Type 0
+CallsLook {D = D} gives = (old begun new : Kept) (made : List Made) (disks left : List D) →
+    BeginsLook old begun → AreHeard begun made new → Gave gives disks made left → is_idle new ≡ true →
+    HasLooked gives (record { core = old; disks = disks }) (record { core = new; disks = left })

@@ -1,6 +1,6 @@
 // What the calls from C come to, one after another.
-ghost use Rattle.dlm_c.specs.Ends.{MarkingsTell, OpenedRest, OperationsTell};
-ghost use Rattle.dlm_c.specs.Steps.{CallsMark, CallsOperate};
+ghost use Rattle.dlm_c.specs.Ends.{LooksTell, MarkingsTell, OpenedRest, OperationsTell};
+ghost use Rattle.dlm_c.specs.Steps.{CallsLook, CallsMark, CallsOperate};
 
 use disk::Disk;
 
@@ -9,13 +9,15 @@ use disk::Disk;
 pub fn calls_make_operations<D: Disk>()
     ensures operates { CallsOperate D.gives }
     ensures marks { CallsMark D.gives }
+    ensures looks { CallsLook D.gives }
 {}
 
 /// When such an operation has ended, `dlm_c_answer` says what it came to. If it gives a slot and a reply, the command that was
 /// submitted, and no other, was acknowledged there with that reply. A count is that of the commands learned. A refusal is why the
-/// operation was refused. This holds of each operation and marking since the host was opened.
+/// operation was refused. This holds of each operation, marking and look since the host was opened.
 pub fn ends_are_told<D: Disk>()
     ensures opened { OpenedRest }
     ensures operations { OperationsTell D.gives }
     ensures markings { MarkingsTell D.gives }
+    ensures looks { LooksTell D.gives }
 {}

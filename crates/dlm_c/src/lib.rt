@@ -26,11 +26,12 @@ mod held;
 mod held_claim;
 mod images;
 mod law;
-mod looks;
 mod mode_number;
 mod open_host;
 mod parts;
 mod request;
+mod showing;
+mod signs;
 mod view;
 
 use answer::Answer;

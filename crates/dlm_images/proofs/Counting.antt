@@ -1,4 +1,4 @@
--- How many calls an operation and a marking make, and that what was learned stays and has room.
+-- How many calls an operation, a marking and a look make, and that what was learned stays and has room.
 use Rattle.std.proofs.Common.{◌≡◌, ◌<◌, ◌≤◌, ◌+◌, ◌-◌, ◌*◌, ℕ, zero, suc, Bool, true, false, List, [], ◌∷◌, ◌++◌, length, nat_lt, nat_le, Option, Some, None, refl, sym, ◌∙◌, ap, subst, arith, if◌then◌else◌}
 use Rattle.std.proofs.Math.Nat.{mul-add, mul_assoc, mul_comm}
 use Rattle.std.proofs.lemmas.Bool.{ltb-true, leb-false}
@@ -17,23 +17,29 @@ use Rattle.lock_command.specs.Reading.{decoded}
 use Rattle.marks.specs.History as marking
 use Rattle.marks.specs.Status as mark
 use Rattle.marks.proofs.Histories as markings
+use Rattle.looks.specs.History as looking
+use Rattle.looks.specs.Status as look
+use Rattle.looks.proofs.Histories as looks
+use Rattle.looks.proofs.Ends.{decided_is}
 use Rattle.slot_log.specs.Shape.{Shape}
 use Rattle.slot_log.specs.declared.outcome.Refusal.TheVariants as refusal
-use Rattle.host.specs.declared.answer.HostAnswer.TheVariants.{Refused}
-use Rattle.host.specs.Host.{Operation, Recovering, Doing, Memory, Beats, Marking, hears, hears_from, hears_beside, hears_marking, marking_by, marking_with, marking_of, with_marking, starts_marking, goes_on, begins, by_status, takes, after_learning, is_submitted, learns, says, full_answer, with_heard, with_floor, tries_again, setup_of, next_doing, next_in, next_beside, next_marking}
+use Rattle.host.specs.declared.answer.HostAnswer.TheVariants.{Looked, Refused}
+use Rattle.host.specs.Host.{Operation, Recovering, Doing, Memory, Beats, Marking, hears, hears_from, hears_beside, hears_apart, marking_by, marking_with, marking_of, with_marking, starts_marking, goes_on, begins, by_status, takes, after_learning, is_submitted, learns, says, full_answer, with_heard, with_floor, tries_again, setup_of, next_doing, next_in, next_beside, next_marking, next_look, Looking, hears_look, look_by, look_of, looking_with, looks_on, starts_look, takes_marked, with_looking}
 use Rattle.host.specs.Kept.{LeadsTo, is_idle}
-use Rattle.host.proofs.Hosts.{beats_heard, beats-goes_on, learned-goes_on, marking_heard, marking-goes_on}
-use Rattle.dlm_images.specs.Operations.{IsKnown, Made, Gave, after_call, after_made, IsDue, AreDue, Standing, HasOperated, HasMarked}
+use Rattle.host.proofs.Hosts.{beats_heard, beats-goes_on, learned-goes_on, apart_heard, apart-goes_on}
+use Rattle.dlm_images.specs.Operations.{IsKnown, Made, Gave, after_call, after_made, IsDue, AreDue, Standing, HasOperated, HasMarked, HasLooked}
 use Rattle.dlm_images.specs.Marking.{HasMarkedFrom, RecoversAndMarks, calls_of, leaves_a_mark}
-use Rattle.dlm_images.proofs.Driving.{answered, idle_unmarked}
+use Rattle.dlm_images.proofs.Driving.{answered, idle_apart}
+use Rattle.dlm_images.proofs.Ending.{IsApart, apart_still}
 
--- A call that is due is one of an attempt or a marking: where none is under way, none is made.
-none_due : (c : Shape) (h : ℕ) (m : Memory) → m.doing ≡ None → m.beats.heard ≡ None → m.marking ≡ None → next_in c h m ≡ None
-none_due c h m doing rest unmarked = ap (next_doing c h m) doing ∙ ap (next_beside c h m) rest ∙ ap (next_marking c h m) unmarked
+-- A call that is due is one of an attempt, a marking or a look: where none is under way, none is made.
+none_due : (c : Shape) (h : ℕ) (m : Memory) → m.doing ≡ None → m.beats.heard ≡ None → IsApart m → next_in c h m ≡ None
+none_due c h m doing rest alone =
+    ap (next_doing c h m) doing ∙ ap (next_beside c h m) rest ∙ ap (next_marking c h m) alone.0 ∙ ap (λ (o : Option Looking). next_look c m o) alone.1
 
-none_made : (c : Shape) (h : ℕ) (m : Memory) (xs : List Made) → m.doing ≡ None → m.beats.heard ≡ None → m.marking ≡ None → AreDue c h m xs → xs ≡ []
-none_made c h m [] doing rest unmarked due = refl
-none_made c h m (x ∷ xs) doing rest unmarked due = absurd (let next : None ≡ Some (x.disk, x.call) = sym (none_due c h m doing rest unmarked) ∙ due.0.next in cc)
+none_made : (c : Shape) (h : ℕ) (m : Memory) (xs : List Made) → m.doing ≡ None → m.beats.heard ≡ None → IsApart m → AreDue c h m xs → xs ≡ []
+none_made c h m [] doing rest alone due = refl
+none_made c h m (x ∷ xs) doing rest alone due = absurd (let next : None ≡ Some (x.disk, x.call) = sym (none_due c h m doing rest alone) ∙ due.0.next in cc)
 
 -- AN OPERATION
 
@@ -177,17 +183,17 @@ module _ (c : Shape) (h : ℕ) where
   further : (most a b d e f calls : ℕ) → b + 1 + d ≤ a + e → calls + e ≤ b + f → suc calls + d ≤ a + f
   further most a b d e f calls one rest = omega (arith, one, rest)
 
-  costs : (m : Memory) (xs : List Made) → m.beats.heard ≡ None → m.marking ≡ None → length m.learned ≤ c.slots → IsGoing m → AreDue c h m xs → Costs m (length xs) (after_made c h m xs)
-  costs m [] rest unmarked room going due = record { few = omega arith; grows = omega arith; room = room }
-  costs m (x ∷ xs) rest unmarked room going due =
+  costs : (m : Memory) (xs : List Made) → m.beats.heard ≡ None → IsApart m → length m.learned ≤ c.slots → IsGoing m → AreDue c h m xs → Costs m (length xs) (after_made c h m xs)
+  costs m [] rest alone room going due = record { few = omega arith; grows = omega arith; room = room }
+  costs m (x ∷ xs) rest alone room going due =
       by_doing m.doing refl going
-      (λ n heard marked left more later. costs n xs heard marked left more later)
+      (λ n heard apart left more later. costs n xs heard apart left more later)
     where
       by_doing : (o : Option Doing) → m.doing ≡ o → IsGoingIn c h m o
-          → ((n : Memory) → n.beats.heard ≡ None → n.marking ≡ None → length n.learned ≤ c.slots → IsGoing n → AreDue c h n xs → Costs n (length xs) (after_made c h n xs))
+          → ((n : Memory) → n.beats.heard ≡ None → IsApart n → length n.learned ≤ c.slots → IsGoing n → AreDue c h n xs → Costs n (length xs) (after_made c h n xs))
           → Costs m (suc (length xs)) (after_made c h (after_call c h m x) xs)
       by_doing None is going later =
-          absurd (let next : None ≡ Some (x.disk, x.call) = sym (none_due c h m is rest unmarked) ∙ due.0.next in cc)
+          absurd (let next : None ≡ Some (x.disk, x.call) = sym (none_due c h m is rest alone) ∙ due.0.next in cc)
       by_doing (Some t) is going later =
           let n = hears c h m (Some t) (answered x) in
           let same : after_call c h m x ≡ n = ap (λ (o : Option Doing). hears_from c h m o x.disk x.answer) is in
@@ -195,7 +201,7 @@ module _ (c : Shape) (h : ℕ) where
           let spends : Spends (17 * c.disks) c.slots (17 * c.disks * t.tries - length t.heard) (length m.learned) n =
           answer_spends (17 * c.disks) c h m t (answered x) going.slot going.tries (ends.bound (setup_of c h m t.operation) (t.heard ++ answered x ∷ []) (longer m t (answered x) going answers)) in
           let ahead : Costs n (length xs) (after_made c h n xs) =
-          later n (ap (λ (b : Beats). b.heard) (beats_heard c h m (Some t) (answered x)) ∙ rest) (marking_heard c h m (Some t) (answered x) ∙ unmarked) spends.room
+          later n (ap (λ (b : Beats). b.heard) (beats_heard c h m (Some t) (answered x)) ∙ rest) (apart_still m n (apart_heard c h m (Some t) (answered x)) alone) spends.room
           (goes_further m t (answered x) going answers) (subst (λ (k : Memory). AreDue c h k xs) same due.1) in
           subst (λ (k : Memory). Costs m (suc (length xs)) (after_made c h k xs)) (sym same) (record {
             few =
@@ -241,7 +247,7 @@ bounded gives o tries old new more known idle room done =
     let cost : Costs c h begun_so (length done.made) n =
     costs c h begun_so done.made
     (ap (λ (b : Beats). b.heard) (beats-goes_on c m o tries) ∙ known.rests)
-    (marking-goes_on c m o tries ∙ idle_unmarked c h m old.core known.leads idle)
+    (apart_still m begun_so (apart-goes_on c m o tries) (idle_apart c h m old.core known.leads idle))
     (omega (arith, still, before, slots, room)) (begun c h m o tries more) (done.due c h m known.leads) in
     let most = 17 * c.disks in
     let tried = at_most_tries c m o most tries in
@@ -265,18 +271,18 @@ operated_calls gives o tries old new more known idle room as_many done =
 
 module _ (c : Shape) (h : ℕ) where
   -- one that has ended makes no more
-  by_mark : (m : Memory) (u : Marking) (xs : List Made) → m.beats.heard ≡ None → (st : mark.Status) → length u.heard ≤ 9 * c.disks → AreDue c h (marking_by m u st) xs
+  by_mark : (m : Memory) (u : Marking) (xs : List Made) → m.beats.heard ≡ None → m.looking ≡ None → (st : mark.Status) → length u.heard ≤ 9 * c.disks → AreDue c h (marking_by m u st) xs
       → (AreDue c h (with_marking m (Some u) None) xs → length u.heard + length xs ≤ 9 * c.disks) → length u.heard + length xs ≤ 9 * c.disks
-  by_mark m u xs rest (mark.Due d) bound due later = later due
-  by_mark m u xs rest (mark.Ended (mark.Marked count)) bound due later =
-      let none : length xs ≡ 0 = ap length (none_made c h (marking_by m u (mark.Ended (mark.Marked count))) xs refl rest refl due) in omega (arith, none, bound)
-  by_mark m u xs rest (mark.Ended mark.NoMajority) bound due later =
-      let none : length xs ≡ 0 = ap length (none_made c h (marking_by m u (mark.Ended mark.NoMajority)) xs refl rest refl due) in omega (arith, none, bound)
+  by_mark m u xs rest unlooking (mark.Due d) bound due later = later due
+  by_mark m u xs rest unlooking (mark.Ended (mark.Marked count)) bound due later =
+      let none : length xs ≡ 0 = ap length (none_made c h (marking_by m u (mark.Ended (mark.Marked count))) xs refl rest (refl, unlooking) due) in omega (arith, none, bound)
+  by_mark m u xs rest unlooking (mark.Ended mark.NoMajority) bound due later =
+      let none : length xs ≡ 0 = ap length (none_made c h (marking_by m u (mark.Ended mark.NoMajority)) xs refl rest (refl, unlooking) due) in omega (arith, none, bound)
 
   -- it makes at most nine a disk
-  marking_costs : (m : Memory) (t : Marking) (xs : List Made) → m.doing ≡ None → m.beats.heard ≡ None → m.marking ≡ Some t → marking.IsHistory (marking_of c h m t.slot) t.heard → AreDue c h m xs → length t.heard + length xs ≤ 9 * c.disks
-  marking_costs m t [] doing rest marks history due = omega (arith, markings.bound (marking_of c h m t.slot) t.heard history)
-  marking_costs m t (x ∷ xs) doing rest marks history due =
+  marking_costs : (m : Memory) (t : Marking) (xs : List Made) → m.doing ≡ None → m.beats.heard ≡ None → m.looking ≡ None → m.marking ≡ Some t → marking.IsHistory (marking_of c h m t.slot) t.heard → AreDue c h m xs → length t.heard + length xs ≤ 9 * c.disks
+  marking_costs m t [] doing rest unlooking marks history due = omega (arith, markings.bound (marking_of c h m t.slot) t.heard history)
+  marking_costs m t (x ∷ xs) doing rest unlooking marks history due =
       let u = marking_with t (answered x) in
       let s = marking_of c h m t.slot in
       let next : mark.next_call s (on t.heard) ≡ Some (x.disk, x.call) =
@@ -285,21 +291,21 @@ module _ (c : Shape) (h : ℕ) where
       subst (λ (o : Option (ℕ × device.Call)). IsAnswerTo o (answered x)) (sym next) (refl, due.0.fits) in
       let more : marking.IsHistory s u.heard = history_more (mark.next_call s) t.heard (answered x) history answers in
       let same : after_call c h m x ≡ marking_by m u (mark.status s (on u.heard)) =
-      ap (λ (o : Option Doing). hears_from c h m o x.disk x.answer) doing ∙ ap (λ (o : Option (List Beaten)). hears_beside c h m o x.disk x.answer) rest ∙ ap (λ (o : Option Marking). hears_marking c h m o (answered x)) marks in
+      ap (λ (o : Option Doing). hears_from c h m o x.disk x.answer) doing ∙ ap (λ (o : Option (List Beaten)). hears_beside c h m o x.disk x.answer) rest ∙ ap (λ (o : Option Marking). hears_apart c h m o (answered x)) marks in
       let one : length u.heard ≡ length t.heard + 1 = length-append t.heard (answered x ∷ []) in
       let all : length u.heard + length xs ≤ 9 * c.disks =
-      by_mark m u xs rest (mark.status s (on u.heard)) (markings.bound s u.heard more) (subst (λ (k : Memory). AreDue c h k xs) same due.1)
-      (λ later. marking_costs (with_marking m (Some u) None) u xs refl rest refl more later) in
+      by_mark m u xs rest unlooking (mark.status s (on u.heard)) (markings.bound s u.heard more) (subst (λ (k : Memory). AreDue c h k xs) same due.1)
+      (λ later. marking_costs (with_marking m (Some u) None) u xs refl rest unlooking refl more later) in
       omega (arith, one, all)
 
-  marked_within : (m : Memory) (slot : ℕ) (xs : List Made) → m.beats.heard ≡ None → m.marking ≡ None → AreDue c h (starts_marking m slot) xs → length xs ≤ 9 * c.disks
-  marked_within m slot xs rest unmarked due = by_begun (nat_lt slot (length m.learned)) due
+  marked_within : (m : Memory) (slot : ℕ) (xs : List Made) → m.beats.heard ≡ None → IsApart m → AreDue c h (starts_marking m slot) xs → length xs ≤ 9 * c.disks
+  marked_within m slot xs rest alone due = by_begun (nat_lt slot (length m.learned)) due
     where
       by_begun : (b : Bool) → AreDue c h (if b then with_marking m (Some (record { slot = slot; heard = [] })) None else with_marking m m.marking (Some (Refused refusal.NotLearned))) xs → length xs ≤ 9 * c.disks
       by_begun true due =
-          let all = marking_costs (with_marking m (Some (record { slot = slot; heard = [] })) None) (record { slot = slot; heard = [] }) xs refl rest refl tt due in omega (arith, all)
+          let all = marking_costs (with_marking m (Some (record { slot = slot; heard = [] })) None) (record { slot = slot; heard = [] }) xs refl rest alone.1 refl tt due in omega (arith, all)
       by_begun false due =
-          let none : length xs ≡ 0 = ap length (none_made c h (with_marking m m.marking (Some (Refused refusal.NotLearned))) xs refl rest unmarked due) in omega (arith, none)
+          let none : length xs ≡ 0 = ap length (none_made c h (with_marking m m.marking (Some (Refused refusal.NotLearned))) xs refl rest alone due) in omega (arith, none)
 
 pub marked_calls : {D : Type 0} (gives : D → device.Call → device.Answer → D → Type 0) (slot : ℕ) (old new : Standing D) → IsKnown old.core → is_idle old.core ≡ true → length old.disks ≡ old.core.learner.shape.disks → (done : HasMarked gives slot old new) → length done.made ≤ 9 * length old.disks
 marked_calls gives slot old new known idle as_many done =
@@ -307,8 +313,123 @@ marked_calls gives slot old new known idle as_many done =
     let h = known.host in
     let m = known.memory in
     let disks : old.core.learner.shape.disks ≡ c.disks = ap (λ (s : Shape). s.disks) known.leads.learner.shape in
-    let few = marked_within c h m slot done.made known.rests (idle_unmarked c h m old.core known.leads idle) (done.due c h m known.leads) in
+    let few = marked_within c h m slot done.made known.rests (idle_apart c h m old.core known.leads idle) (done.due c h m known.leads) in
     omega (arith, few, disks, as_many)
+
+-- A LOOK
+
+-- so many calls of a look were heard on the slot that it is at, and with so many more the host has come to this
+pub record LooksCost (c : Shape) (m : Memory) (calls : ℕ) (n : Memory) : Type 0 where
+  pub few : calls + (2 * c.disks) * length m.learned ≤ 2 * c.disks + (2 * c.disks) * length n.learned
+  pub grows : length m.learned ≤ length n.learned
+  pub room : length n.learned ≤ c.slots
+
+module _ (c : Shape) (h : ℕ) where
+  -- one that has ended makes no more
+  look_over : (m n : Memory) (calls : ℕ) (xs : List Made) → n.doing ≡ None → n.beats.heard ≡ None → IsApart n → AreDue c h n xs → length m.learned ≤ c.slots → length n.learned ≡ length m.learned → calls ≤ 2 * c.disks → LooksCost c m (calls + length xs) (after_made c h n xs)
+  look_over m n calls xs doing rest alone due room same few =
+      let none : xs ≡ [] = none_made c h n xs doing rest alone due in
+      subst (λ (l : List Made). LooksCost c m (calls + length l) (after_made c h n l)) (sym none)
+      (let most = 2 * c.disks in
+      let longer : most * length n.learned ≡ most * length m.learned = ap (λ (k : ℕ). most * k) same in
+      record { few = omega (arith, longer, few); grows = omega (arith, same); room = omega (arith, same, room) })
+
+  -- what is learned pays for the calls on its slot
+  look_paid : (m n : Memory) (calls later : ℕ) (end : Memory) → length n.learned ≡ length m.learned + 1 → calls ≤ 2 * c.disks → LooksCost c n later end → LooksCost c m (calls + later) end
+  look_paid m n calls later end one few cost =
+      let most = 2 * c.disks in
+      let longer : most * length n.learned ≡ most * length m.learned + most = ap (λ (k : ℕ). most * k) one ∙ omega arith in
+      record { few = omega (arith, longer, few, cost.few); grows = omega (arith, one, cost.grows); room = cost.room }
+
+  -- each of its slots costs at most two calls a disk, the last one too
+  abbrev Later : List Made → Type 0
+  Later xs = (n : Memory) (t : Looking) → n.doing ≡ None → n.beats.heard ≡ None → n.marking ≡ None → n.looking ≡ Some t → t.first < c.disks → length n.learned < c.slots → looking.IsHistory (look_of c n t.first) t.heard → AreDue c h n xs
+      → LooksCost c n (length t.heard + length xs) (after_made c h n xs)
+
+  by_on : (m : Memory) (disk : ℕ) (xs : List Made) → m.beats.heard ≡ None → m.marking ≡ None → disk < c.disks → (b : Bool) → nat_lt (length m.learned) c.slots ≡ b → length m.learned ≤ c.slots → Later xs
+      → AreDue c h (if b then with_looking m (Some (record { first = disk; heard = [] })) None else with_looking m None (Some (Looked (length m.learned)))) xs
+      → LooksCost c m (length xs) (after_made c h (if b then with_looking m (Some (record { first = disk; heard = [] })) None else with_looking m None (Some (Looked (length m.learned)))) xs)
+  by_on m disk xs rest unmarking inside true is room later due =
+      let cost = later (with_looking m (Some (record { first = disk; heard = [] })) None) (record { first = disk; heard = [] }) refl rest unmarking refl inside (ltb-true (length m.learned) c.slots is) tt due in
+      record { few = omega (arith, cost.few); grows = cost.grows; room = cost.room }
+  by_on m disk xs rest unmarking inside false is room later due =
+      let cost = look_over m (with_looking m None (Some (Looked (length m.learned)))) 0 xs refl rest (unmarking, refl) due room refl (omega arith) in
+      record { few = omega (arith, cost.few); grows = cost.grows; room = cost.room }
+
+  by_marked : (m : Memory) (disk calls : ℕ) (xs : List Made) (o : Option Command) → m.beats.heard ≡ None → m.marking ≡ None → disk < c.disks → length m.learned < c.slots → calls ≤ 2 * c.disks → Later xs → AreDue c h (takes_marked c m disk o) xs
+      → LooksCost c m (calls + length xs) (after_made c h (takes_marked c m disk o) xs)
+  by_marked m disk calls xs None rest unmarking inside slot few later due =
+      look_over m (with_looking m None (Some (Refused refusal.NotACommand))) calls xs refl rest (unmarking, refl) due (omega arith) refl few
+  by_marked m disk calls xs (Some command) rest unmarking inside slot few later due =
+      let one : length (m.learned ++ command ∷ []) ≡ length m.learned + 1 = length-append m.learned (command ∷ []) in
+      look_paid m (learns m command) calls (length xs) _ one few
+      (by_on (learns m command) disk xs rest unmarking inside (nat_lt (length (learns m command).learned) c.slots) refl (omega (arith, one)) later due)
+
+  by_look : (m : Memory) (u : Looking) (xs : List Made) (st : look.Status) → look.status (look_of c m u.first) (on u.heard) ≡ st → m.beats.heard ≡ None → m.marking ≡ None → u.first < c.disks → length m.learned < c.slots → looking.IsHistory (look_of c m u.first) u.heard
+      → Later xs → AreDue c h (look_by c m u st) xs → LooksCost c m (length u.heard + length xs) (after_made c h (look_by c m u st) xs)
+  by_look m u xs (look.Due disk) is rest unmarking inside slot history later due =
+      let cost = later (with_looking m (Some u) None) u refl rest unmarking refl inside slot history due in
+      record { few = cost.few; grows = cost.grows; room = cost.room }
+  by_look m u xs (look.Ended (look.Decided disk value)) is rest unmarking inside slot history later due =
+      by_marked m disk (length u.heard) xs (decoded value) rest unmarking (decided_is (look_of c m u.first) (on u.heard) disk value is).0 slot (looks.bound (look_of c m u.first) inside u.heard history) later due
+  by_look m u xs (look.Ended look.Unmarked) is rest unmarking inside slot history later due =
+      look_over m (look_by c m u (look.Ended look.Unmarked)) (length u.heard) xs refl rest (unmarking, refl) due (omega arith) refl (looks.bound (look_of c m u.first) inside u.heard history)
+  by_look m u xs (look.Ended look.NoMajority) is rest unmarking inside slot history later due =
+      look_over m (look_by c m u (look.Ended look.NoMajority)) (length u.heard) xs refl rest (unmarking, refl) due (omega arith) refl (looks.bound (look_of c m u.first) inside u.heard history)
+
+  look_costs : (xs : List Made) → Later xs
+  look_costs [] m t doing rest unmarking looks_at inside slot history due =
+      let few = looks.bound (look_of c m t.first) inside t.heard history in
+      record { few = omega (arith, few); grows = omega arith; room = omega (arith, slot) }
+  look_costs (x ∷ xs) m t doing rest unmarking looks_at inside slot history due =
+      let u = looking_with t (answered x) in
+      let s = look_of c m t.first in
+      let next : look.next_call s (on t.heard) ≡ Some (x.disk, x.call) =
+      sym (ap (next_doing c h m) doing ∙ ap (next_beside c h m) rest ∙ ap (next_marking c h m) unmarking ∙ ap (λ (o : Option Looking). next_look c m o) looks_at) ∙ due.0.next in
+      let answers : IsAnswerTo (look.next_call s (on t.heard)) (answered x) =
+      subst (λ (o : Option (ℕ × device.Call)). IsAnswerTo o (answered x)) (sym next) (refl, due.0.fits) in
+      let more : looking.IsHistory s u.heard = history_more (look.next_call s) t.heard (answered x) history answers in
+      let same : after_call c h m x ≡ look_by c m u (look.status s (on u.heard)) =
+      ap (λ (o : Option Doing). hears_from c h m o x.disk x.answer) doing ∙ ap (λ (o : Option (List Beaten)). hears_beside c h m o x.disk x.answer) rest
+      ∙ ap (λ (o : Option Marking). hears_apart c h m o (answered x)) unmarking ∙ ap (λ (o : Option Looking). hears_look c m o (answered x)) looks_at in
+      let one : length u.heard ≡ length t.heard + 1 = length-append t.heard (answered x ∷ []) in
+      let cost : LooksCost c m (length u.heard + length xs) (after_made c h (look_by c m u (look.status s (on u.heard))) xs) =
+      by_look m u xs (look.status s (on u.heard)) refl rest unmarking inside slot more (look_costs xs) (subst (λ (k : Memory). AreDue c h k xs) same due.1) in
+      subst (λ (k : Memory). LooksCost c m (length t.heard + suc (length xs)) (after_made c h k xs)) (sym same)
+      (record { few = omega (arith, one, cost.few); grows = cost.grows; room = cost.room })
+
+  pub looked_costs : (m : Memory) (xs : List Made) → m.beats.heard ≡ None → m.marking ≡ None → 0 < c.disks → length m.learned ≤ c.slots → AreDue c h (starts_look c m) xs → LooksCost c m (length xs) (after_made c h (starts_look c m) xs)
+  looked_costs m xs rest unmarking some room due = by_on m 0 xs rest unmarking some (nat_lt (length m.learned) c.slots) refl room (look_costs xs) due
+
+-- a look made at most two calls a disk for each slot that it learned, and for the one that it ended at; what was learned has room
+pub record IsLookBounded {D : Type 0} (old new : Standing D) (calls : ℕ) : Type 0 where
+  pub few : calls ≤ 2 * length old.disks * (length new.core.prefix - length old.core.prefix + 1)
+  pub grows : length old.core.prefix ≤ length new.core.prefix
+  pub room : length new.core.prefix ≤ old.core.learner.shape.slots
+
+pub looked_calls : {D : Type 0} (gives : D → device.Call → device.Answer → D → Type 0) (old new : Standing D) → IsKnown old.core → is_idle old.core ≡ true → 1 ≤ old.core.learner.shape.disks → length old.core.prefix ≤ old.core.learner.shape.slots → length old.disks ≡ old.core.learner.shape.disks
+    → (done : HasLooked gives old new) → IsLookBounded old new (length done.made)
+looked_calls gives old new known idle some room as_many done =
+    let c = known.shape in
+    let h = known.host in
+    let m = known.memory in
+    let n = after_made c h (starts_look c m) done.made in
+    let leads : LeadsTo c h n new.core = done.leads c h m known.leads in
+    let disks : old.core.learner.shape.disks ≡ c.disks = ap (λ (s : Shape). s.disks) known.leads.learner.shape in
+    let slots : old.core.learner.shape.slots ≡ c.slots = ap (λ (s : Shape). s.slots) known.leads.learner.shape in
+    let before : length old.core.prefix ≡ length m.learned = ap length known.leads.prefix in
+    let after : length new.core.prefix ≡ length n.learned = ap length leads.prefix in
+    let cost = looked_costs c h m done.made known.rests (idle_apart c h m old.core known.leads idle).0 (omega (arith, some, disks)) (omega (arith, room, slots, before)) (done.due c h m known.leads) in
+    let one : 2 * c.disks * 1 ≡ 2 * c.disks = omega arith in
+    let few : length done.made ≤ 2 * c.disks * (length n.learned - length m.learned + 1) =
+    spread (2 * c.disks) (length m.learned) (length n.learned) 1 (length done.made) cost.grows (omega (arith, cost.few, one)) in record {
+      few =
+          subst (λ (k : ℕ). length done.made ≤ 2 * k * (length new.core.prefix - length old.core.prefix + 1)) (sym (as_many ∙ disks))
+          (subst (λ (k : ℕ). length done.made ≤ 2 * c.disks * (k - length old.core.prefix + 1)) (sym after)
+          (subst (λ (k : ℕ). length done.made ≤ 2 * c.disks * (length n.learned - k + 1)) (sym before) few));
+      grows = omega (arith, cost.grows, before, after);
+      room = omega (arith, cost.room, after, slots);
+    }
 
 -- DISKS
 

@@ -5,7 +5,8 @@ use Rattle.std.proofs.lemmas.Bool.{ltb-true, leb-false}
 use Rattle.std.proofs.lemmas.List.{length-append}
 use Rattle.attempt.specs.Answers.{Answered, Heard, on, heard_as}
 use Rattle.attempt.specs.Looking.{OnlyReads}
-use Rattle.attempt.proofs.Looking as looking
+use Rattle.looks.specs.Status as look
+use Rattle.looks.proofs.Histories as looks
 use Rattle.attempt.specs.Status as attempt
 use Rattle.attempt.specs.Status.{Status, Due, Ended}
 use Rattle.lock_command.specs.declared.command.Command.{Command}
@@ -16,22 +17,22 @@ use Rattle.beats.specs.declared.notes.Notes.{Notes as BeatNotes}
 use Rattle.phases.specs.Calls.{heard_of}
 use Rattle.phases.specs.declared.heard.Heard as code_heard
 use Rattle.slot_log.specs.Shape.{Shape}
-use Rattle.host.specs.Host.{Operation, Doing, Memory, Beats, Marking, hears, hears_from, hears_beside, hears_marking, marking_by, marking_with, marking_of, with_marking, starts_marking, goes_on, begins, by_status, takes, after_learning, is_submitted, learns, with_heard, with_floor, tries_again, rests, is_idle_in, setup_of, next_doing, next_beside, next_marking, Looking}
+use Rattle.host.specs.Host.{Operation, Doing, Memory, Beats, Marking, hears, hears_from, hears_beside, hears_apart, hears_marking, marking_by, marking_with, marking_of, with_marking, starts_marking, goes_on, begins, by_status, takes, after_learning, is_submitted, learns, with_heard, with_floor, tries_again, rests, is_idle_in, next_doing, next_beside, next_marking, next_look, Looking, hears_look, look_by, look_of, looking_with, looks_on, starts_look, takes_marked, with_looking}
 use Rattle.host.specs.Kept.{Kept, LeadsTo, BeatLeadsTo, is_idle}
 use Rattle.marks.specs.Status as mark
 use Rattle.slot_log.specs.declared.outcome.Refusal.TheVariants as refusal
-use Rattle.host.specs.declared.answer.HostAnswer.TheVariants.{Refused}
-use Rattle.host.proofs.Hosts.{idle_is, heard_same, beats-goes_on, beats-hears, marking_heard, marking-goes_on}
+use Rattle.host.specs.declared.answer.HostAnswer.TheVariants.{Looked, Refused}
+use Rattle.host.proofs.Hosts.{apart, idle_is, heard_same, beats-goes_on, beats-hears, apart_heard, apart-goes_on, learned-goes_on}
 use Rattle.std.specs.Prelude.{is_some, map}
 use Rattle.std.proofs.Common.{true≢false}
 use Rattle.disk.specs.Disk as device
 use Rattle.phases.specs.Calls.{IsWithin}
 use Rattle.phases.specs.declared.need.DeviceCall as code_call
 use Rattle.phases.specs.declared.need.DeviceCall.TheVariants as call
-use Rattle.host.specs.Alone.{IsAnsweredAlone, IsMarkedWithinNine}
+use Rattle.host.specs.Alone.{IsAnsweredAlone, IsMarkedWithinNine, IsLookedWithinTwo}
 use Rattle.host.specs.declared.answer.HostAnswer.{HostAnswer}
-use Rattle.dlm_images.specs.Operations.{IsKnown, HasHeard, Made, GaveOne, Gave, after_call, after_made, IsDue, AreDue, AreReads, tries_in, Standing, HasOperated, HasMarked, Ends, EndsMarking}
-use Rattle.dlm_images.proofs.Ending.{ReadsBack, GoesOn, IsOf, high, goes_on_of, hears_of, hears_one, unmarked_one, after_answers, operation_ends, marking_ends, marking_learns}
+use Rattle.dlm_images.specs.Operations.{IsKnown, HasHeard, Made, GaveOne, Gave, after_call, after_made, IsDue, AreDue, AreReads, tries_in, Standing, HasOperated, HasMarked, HasLooked, Ends, EndsMarking, EndsLook}
+use Rattle.dlm_images.proofs.Ending.{ReadsBack, IsApart, IsOfLook, apart_still, hears_one, after_answers, operation_ends, marking_ends, marking_learns, look_begun, look_ends, look_hears}
 
 -- How many calls an operation may still make: 119 for each attempt that may follow, since it learns a slot or uses a try, and those
 -- that are left of its attempt, the last of them counted once more.
@@ -111,17 +112,107 @@ beats_by m t (mark.Due disk) = refl
 beats_by m t (mark.Ended (mark.Marked count)) = refl
 beats_by m t (mark.Ended mark.NoMajority) = refl
 
-rests_hearing : (c : Shape) (h : ℕ) (m : Memory) (o : Option Marking) (x : Answered) → m.doing ≡ None → (hears_marking c h m o x).doing ≡ None
-rests_hearing c h m None x none = none
+-- nor does one where a look ends or goes on
+record IsQuiet (old new : Memory) : Type 0 where
+  rests : new.doing ≡ None
+  beats : new.beats ≡ old.beats
+  marking : new.marking ≡ old.marking
+
+on_quiet : (c : Shape) (old m : Memory) (first : ℕ) → m.beats ≡ old.beats → m.marking ≡ old.marking → IsQuiet old (looks_on c m first)
+on_quiet c old m first beats marking = go (nat_lt (length m.learned) c.slots)
+  where
+    go : (b : Bool) → IsQuiet old (if b then with_looking m (Some (record { first = first; heard = [] })) None else with_looking m None (Some (Looked (length m.learned))))
+    go true = record { rests = refl; beats = beats; marking = marking }
+    go false = record { rests = refl; beats = beats; marking = marking }
+
+marked_quiet : (c : Shape) (m : Memory) (disk : ℕ) (o : Option Command) → IsQuiet m (takes_marked c m disk o)
+marked_quiet c m disk None = record { rests = refl; beats = refl; marking = refl }
+marked_quiet c m disk (Some command) = on_quiet c m (learns m command) disk refl refl
+
+look_quiet : (c : Shape) (m : Memory) (t : Looking) (st : look.Status) → IsQuiet m (look_by c m t st)
+look_quiet c m t (look.Due disk) = record { rests = refl; beats = refl; marking = refl }
+look_quiet c m t (look.Ended (look.Decided disk value)) = marked_quiet c m disk (decoded value)
+look_quiet c m t (look.Ended look.Unmarked) = record { rests = refl; beats = refl; marking = refl }
+look_quiet c m t (look.Ended look.NoMajority) = record { rests = refl; beats = refl; marking = refl }
+
+quiet_hearing : (c : Shape) (m : Memory) (o : Option Looking) (x : Answered) → m.doing ≡ None → IsQuiet m (hears_look c m o x)
+quiet_hearing c m None x none = record { rests = none; beats = refl; marking = refl }
+quiet_hearing c m (Some t) x none = look_quiet c m (looking_with t x) (look.status (look_of c m t.first) (on (looking_with t x).heard))
+
+rests_hearing : (c : Shape) (h : ℕ) (m : Memory) (o : Option Marking) (x : Answered) → m.doing ≡ None → (hears_apart c h m o x).doing ≡ None
+rests_hearing c h m None x none = (quiet_hearing c m m.looking x none).rests
 rests_hearing c h m (Some t) x none = rests_by m (marking_with t x) (mark.status (marking_of c h m t.slot) (on (marking_with t x).heard))
 
-beats_hearing : (c : Shape) (h : ℕ) (m : Memory) (o : Option Marking) (x : Answered) → (hears_marking c h m o x).beats ≡ m.beats
-beats_hearing c h m None x = refl
-beats_hearing c h m (Some t) x = beats_by m (marking_with t x) (mark.status (marking_of c h m t.slot) (on (marking_with t x).heard))
+beats_hearing : (c : Shape) (h : ℕ) (m : Memory) (o : Option Marking) (x : Answered) → m.doing ≡ None → (hears_apart c h m o x).beats ≡ m.beats
+beats_hearing c h m None x none = (quiet_hearing c m m.looking x none).beats
+beats_hearing c h m (Some t) x none = beats_by m (marking_with t x) (mark.status (marking_of c h m t.slot) (on (marking_with t x).heard))
+
+-- THE ANSWERS THAT A LOOK MAY STILL HEAR
+
+-- fourteen of each slot
+abbrev pub left_looking : Shape → ℕ → Option Looking → ℕ
+left_looking c learned None = 0
+left_looking c learned (Some t) = (c.slots - learned) * 14 + (15 - length t.heard) + 1
+
+-- a look that has come to this has fewer left
+abbrev LooksLess : Shape → ℕ → Memory → Type 0
+LooksLess c n m = left_looking c (length m.learned) m.looking < n
+
+on_less : (c : Shape) (m : Memory) (first learned n : ℕ) → length m.learned ≡ learned + 1 → (c.slots - learned) * 14 + 2 < n → 0 < n → LooksLess c n (looks_on c m first)
+on_less c m first learned n one room some =
+    by_test (LooksLess c n) (nat_lt (length m.learned) c.slots) (with_looking m (Some (record { first = first; heard = [] })) None) (with_looking m None (Some (Looked (length m.learned))))
+    (λ is. let lt : length m.learned < c.slots = ltb-true (length m.learned) c.slots is in omega (arith, one, lt, room))
+    some
+
+marked_less : (c : Shape) (m : Memory) (disk n : ℕ) (o : Option Command) → (c.slots - length m.learned) * 14 + 2 < n → 0 < n → LooksLess c n (takes_marked c m disk o)
+marked_less c m disk n None room some = some
+marked_less c m disk n (Some command) room some = on_less c (learns m command) disk (length m.learned) n (length-append m.learned (command ∷ [])) room some
+
+look_less_by : (c : Shape) (m : Memory) (t : Looking) (n : ℕ) (st : look.Status) → left_looking c (length m.learned) (Some t) < n → (c.slots - length m.learned) * 14 + 2 < n → 0 < n → LooksLess c n (look_by c m t st)
+look_less_by c m t n (look.Due disk) due room some = due
+look_less_by c m t n (look.Ended (look.Decided disk value)) due room some = marked_less c m disk n (decoded value) room some
+look_less_by c m t n (look.Ended look.Unmarked) due room some = some
+look_less_by c m t n (look.Ended look.NoMajority) due room some = some
+
+look_less : (c : Shape) (m : Memory) (o : Option Looking) (x : Answered) → c.disks ≤ 7 → is_some o ≡ true → IsLookedWithinTwo c o → LooksLess c (left_looking c (length m.learned) o) (hears_look c m o x)
+look_less c m None x few some two = absurd (cc)
+look_less c m (Some t) x few some two =
+    let one : length (t.heard ++ x ∷ []) ≡ length t.heard + 1 = length-append t.heard (x ∷ []) in
+    let long : length t.heard < 2 * c.disks = two in
+    let n = left_looking c (length m.learned) (Some t) in
+    look_less_by c m (looking_with t x) n (look.status (look_of c m t.first) (on (looking_with t x).heard)) (omega (arith, one, long, few)) (omega (arith, long, few)) (omega (arith, long, few))
+
+-- an attempt leaves what was learned
+grows_again : (m : Memory) (o : Operation) (tries : ℕ) → length m.learned ≤ length (tries_again m o tries).learned
+grows_again m o tries = by_test (λ (n : Memory). length m.learned ≤ length n.learned) (nat_le tries 1) _ (begins m o (tries - 1)) (λ is. omega arith) (omega arith)
+
+grows_learning : (c : Shape) (m : Memory) (t : Doing) (command : Command) (b : Bool) → length m.learned ≤ length (after_learning c m t command b).learned
+grows_learning c m t command true = (let one = length-append m.learned (command ∷ []) in omega arith)
+grows_learning c m t command false =
+    let one = length-append m.learned (command ∷ []) in
+    let same = ap length (learned-goes_on c (learns m command) t.operation t.tries) in
+    omega arith
+
+grows_taking : (c : Shape) (m : Memory) (t : Doing) (ballot : ℕ) (value : List ℕ) (o : Option Command) → length m.learned ≤ length (takes c m t ballot value o).learned
+grows_taking c m t ballot value None = omega arith
+grows_taking c m t ballot value (Some command) = grows_learning c m t command (is_submitted t.operation value)
+
+grows_by : (c : Shape) (m : Memory) (t : Doing) (ballot : ℕ) (s : Status) → length m.learned ≤ length (by_status c m t ballot s).learned
+grows_by c m t ballot (Due p d) = omega arith
+grows_by c m t ballot (Ended (attempt.Committed value)) = grows_taking c m t ballot value (decoded value)
+grows_by c m t ballot (Ended (attempt.Decided value)) = grows_taking c m t ballot value (decoded value)
+grows_by c m t ballot (Ended attempt.Empty) = omega arith
+grows_by c m t ballot (Ended (attempt.Outrun mbal)) = grows_again (with_floor (with_floor m ballot) mbal) t.operation t.tries
+grows_by c m t ballot (Ended attempt.NoMajority) = omega arith
+grows_by c m t ballot (Ended attempt.BallotsSpent) = omega arith
+
+less_by_more : (c : Shape) (n more : ℕ) (o : Option Looking) → n ≤ more → left_looking c more o ≤ left_looking c n o
+less_by_more c n more None le = omega arith
+less_by_more c n more (Some t) le = omega arith
 
 -- no beat begins
 beats_one : (c : Shape) (h : ℕ) (m : Memory) (o : Option Doing) (x : Answered) → m.doing ≡ o → (hears_one c h m o x).beats ≡ m.beats
-beats_one c h m None x is = beats_hearing c h m m.marking x
+beats_one c h m None x is = beats_hearing c h m m.marking x is
 beats_one c h m (Some t) x is = subst (λ (o : Option Doing). (hears c h m o x).beats ≡ m.beats) is (beats-hears c h m x)
 
 -- HEARING
@@ -133,7 +224,7 @@ pub record IsDriven {D : Type 0} (gives : D → device.Call → device.Answer �
   pub memory : Memory
   pub leads : LeadsTo c host memory new.core
   pub rest : memory.beats.heard ≡ None
-  pub left : left_in c memory + left_marking memory.marking ≤ more
+  pub left : left_in c memory + left_marking memory.marking + left_looking c (length memory.learned) memory.looking ≤ more
 
 after_one_more : (c : Shape) (h : ℕ) (m : Memory) (xs : List Made) (x : Made) → after_made c h m (xs ++ x ∷ []) ≡ after_call c h (after_made c h m xs) x
 after_one_more c h m [] x = refl
@@ -176,7 +267,11 @@ left_marking_at_first : (o : Option Marking) → left_marking o ≤ 64
 left_marking_at_first None = omega arith
 left_marking_at_first (Some t) = omega arith
 
-pub driven_at_first : {D : Type 0} (gives : D → device.Call → device.Answer → D → Type 0) (disks : List D) (k : Kept) → IsKnown k → k.learner.shape.slots ≤ 4096 → IsDriven gives k.learner.shape (record { core = k; disks = disks }) (record { core = k; disks = disks }) 517888
+left_looking_at_first : (c : Shape) (n : ℕ) (o : Option Looking) → c.slots ≤ 4096 → left_looking c n o ≤ 57360
+left_looking_at_first c n None slots = omega arith
+left_looking_at_first c n (Some t) slots = omega arith
+
+pub driven_at_first : {D : Type 0} (gives : D → device.Call → device.Answer → D → Type 0) (disks : List D) (k : Kept) → IsKnown k → k.learner.shape.slots ≤ 4096 → IsDriven gives k.learner.shape (record { core = k; disks = disks }) (record { core = k; disks = disks }) 578816
 driven_at_first gives disks k known slots = record {
   has_heard = heard_nothing gives (record { core = k; disks = disks });
   host = known.host;
@@ -186,10 +281,11 @@ driven_at_first gives disks k known slots = record {
   left =
       let attempts : left_in k.learner.shape known.memory ≤ 517770 = left_at_first k.learner.shape (length known.memory.learned) known.memory.doing slots known.tries in
       let marks : left_marking known.memory.marking ≤ 64 = left_marking_at_first known.memory.marking in
-      omega (arith, attempts, marks);
+      let looked : left_looking k.learner.shape (length known.memory.learned) known.memory.looking ≤ 57360 = left_looking_at_first k.learner.shape (length known.memory.learned) known.memory.looking slots in
+      omega (arith, attempts, marks, looked);
 }
 
--- an answer as an attempt or a marking takes it
+-- an answer as an attempt, a marking or a look takes it
 abbrev pub answered : Made → Answered
 answered x = record { disk = x.disk; heard = heard_as x.answer }
 
@@ -199,6 +295,7 @@ pub record IsHeardBy (now new : Kept) (x : Answered) : Type 0 where
   pub leads : (c : Shape) (h : ℕ) (m : Memory) → LeadsTo c h m now → LeadsTo c h (hears_one c h m m.doing x) new
   pub alone : (c : Shape) (h : ℕ) (m : Memory) → LeadsTo c h m now → IsAnsweredAlone c h m m.doing x
   pub nine : (c : Shape) (h : ℕ) (m : Memory) → LeadsTo c h m now → IsMarkedWithinNine c m.marking
+  pub two : (c : Shape) (h : ℕ) (m : Memory) → LeadsTo c h m now → IsLookedWithinTwo c m.looking
 
 -- what a marking hears leaves it less to do
 less_marking : (c : Shape) (h : ℕ) (m : Memory) (o : Option Marking) (x : Answered) → c.disks ≤ 7 → is_some o ≡ true → IsMarkedWithinNine c o → left_marking (hears_marking c h m o x).marking < left_marking o
@@ -210,33 +307,61 @@ less_marking c h m (Some t) x few some nine =
     marked_by m (marking_with t x) (mark.status (marking_of c h m t.slot) (on (marking_with t x).heard)) in
     omega (arith, one, long, few, at_most)
 
-is_marking : (m : Memory) → m.beats.heard ≡ None → is_idle_in m None ≡ false → is_some m.marking ≡ true
-is_marking m rest busy = go m.beats.heard m.marking rest busy
+is_looking : (m : Memory) → m.beats.heard ≡ None → m.marking ≡ None → is_idle_in m None ≡ false → is_some m.looking ≡ true
+is_looking m rest unmarking busy = go m.beats.heard m.marking m.looking rest unmarking busy
   where
-    go : (beat : Option (List Beaten)) (o : Option Marking) → beat ≡ None → (rests beat && not (is_some o)) ≡ false → is_some o ≡ true
-    go None None rest busy = absurd (true≢false busy)
-    go None (Some t) rest busy = refl
-    go (Some heard) o rest busy = absurd (cc)
+    go : (beat : Option (List Beaten)) (o : Option Marking) (l : Option Looking) → beat ≡ None → o ≡ None → (rests beat && not (is_some o) && not (is_some l)) ≡ false → is_some l ≡ true
+    go None None None rest unmarking busy = absurd (true≢false busy)
+    go None None (Some t) rest unmarking busy = refl
+    go None (Some t) l rest unmarking busy = absurd (cc)
+    go (Some heard) o l rest unmarking busy = absurd (cc)
+
+looks_still : (m : Memory) (t : Marking) (st : mark.Status) → ((marking_by m t st).learned ≡ m.learned) × ((marking_by m t st).looking ≡ m.looking)
+looks_still m t (mark.Due disk) = (refl, refl)
+looks_still m t (mark.Ended (mark.Marked count)) = (refl, refl)
+looks_still m t (mark.Ended mark.NoMajority) = (refl, refl)
+
+-- what a marking or a look hears leaves it less to do
+less_apart : (c : Shape) (h : ℕ) (m : Memory) (o : Option Marking) (x : Answered) → m.doing ≡ None → m.beats.heard ≡ None → m.marking ≡ o → c.disks ≤ 7 → is_idle_in m None ≡ false → IsMarkedWithinNine c o → IsLookedWithinTwo c m.looking
+    → left_marking (hears_apart c h m o x).marking + left_looking c (length (hears_apart c h m o x).learned) (hears_apart c h m o x).looking < left_marking o + left_looking c (length m.learned) m.looking
+less_apart c h m None x doing rest is few busy nine two =
+    let less : left_looking c (length (hears_look c m m.looking x).learned) (hears_look c m m.looking x).looking < left_looking c (length m.learned) m.looking = look_less c m m.looking x few (is_looking m rest is busy) two in
+    let none : left_marking (hears_look c m m.looking x).marking ≡ 0 = ap left_marking ((quiet_hearing c m m.looking x doing).marking ∙ is) in
+    omega (arith, less, none)
+less_apart c h m (Some t) x doing rest is few busy nine two =
+    let u = marking_with t x in
+    let st = mark.status (marking_of c h m t.slot) (on u.heard) in
+    let less : left_marking (marking_by m u st).marking < left_marking (Some t) = less_marking c h m (Some t) x few refl nine in
+    let still = looks_still m u st in
+    let same : left_looking c (length (marking_by m u st).learned) (marking_by m u st).looking ≡ left_looking c (length m.learned) m.looking =
+    ap (λ (l : List Command). left_looking c (length l) (marking_by m u st).looking) still.0 ∙ ap (left_looking c (length m.learned)) still.1 in
+    omega (arith, less, same)
 
 none_left : (c : Shape) (m : Memory) → m.doing ≡ None → left_in c m ≡ 0
 none_left c m none = ap (left_with c (length m.learned)) none
 
-less_left : (c : Shape) (h : ℕ) (m : Memory) → m.beats.heard ≡ None → (o : Option Doing) → m.doing ≡ o → (x : Answered) (more : ℕ) → c.disks ≤ 7 → is_idle_in m o ≡ false → IsAnsweredAlone c h m o x → IsMarkedWithinNine c m.marking
-    → left_with c (length m.learned) o + left_marking m.marking ≤ more → left_in c (hears_one c h m o x) + left_marking (hears_one c h m o x).marking < more
-less_left c h m rest None is x more few busy alone nine left =
-    let none : left_in c (hears_marking c h m m.marking x) ≡ 0 = none_left c (hears_marking c h m m.marking x) (rests_hearing c h m m.marking x is) in
-    let fewer : left_marking (hears_marking c h m m.marking x).marking < left_marking m.marking = less_marking c h m m.marking x few (is_marking m rest busy) nine in
+less_left : (c : Shape) (h : ℕ) (m : Memory) → m.beats.heard ≡ None → (o : Option Doing) → m.doing ≡ o → (x : Answered) (more : ℕ) → c.disks ≤ 7 → is_idle_in m o ≡ false → IsAnsweredAlone c h m o x → IsMarkedWithinNine c m.marking → IsLookedWithinTwo c m.looking
+    → left_with c (length m.learned) o + left_marking m.marking + left_looking c (length m.learned) m.looking ≤ more
+    → left_in c (hears_one c h m o x) + left_marking (hears_one c h m o x).marking + left_looking c (length (hears_one c h m o x).learned) (hears_one c h m o x).looking < more
+less_left c h m rest None is x more few busy alone nine two left =
+    let none : left_in c (hears_apart c h m m.marking x) ≡ 0 = none_left c (hears_apart c h m m.marking x) (rests_hearing c h m m.marking x is) in
+    let fewer = less_apart c h m m.marking x is rest refl few busy nine two in
     omega (arith, none, fewer, left)
-less_left c h m rest (Some t) is x more few busy alone nine left =
+less_left c h m rest (Some t) is x more few busy alone nine two left =
     let long : length (t.heard ++ x ∷ []) ≤ 17 * c.disks = alone.bound in
-    let fewer : left_in c (hears c h m (Some t) x) < left_with c (length m.learned) (Some t) = falls c h m t x (omega (arith, long, few)) in
-    let same : left_marking (hears c h m (Some t) x).marking ≡ left_marking m.marking = ap left_marking (marking_heard c h m (Some t) x) in
-    omega (arith, fewer, same, left)
+    let n = hears c h m (Some t) x in
+    let fewer : left_in c n < left_with c (length m.learned) (Some t) = falls c h m t x (omega (arith, long, few)) in
+    let still = apart_heard c h m (Some t) x in
+    let same : left_marking n.marking ≡ left_marking m.marking = ap left_marking (ap (λ (p : Option Marking × Option Looking). p.0) still) in
+    let looked : left_looking c (length n.learned) n.looking ≡ left_looking c (length n.learned) m.looking = ap (left_looking c (length n.learned)) (ap (λ (p : Option Marking × Option Looking). p.1) still) in
+    let grows : length m.learned ≤ length n.learned = grows_by c m (with_heard t x) _ _ in
+    let no_more = less_by_more c (length m.learned) (length n.learned) m.looking grows in
+    omega (arith, fewer, same, looked, no_more, left)
 
-pub driven_more : {D : Type 0} (gives : D → device.Call → device.Answer → D → Type 0) (c : Shape) (old now new : Standing D) (y : Made) (x : Answered) (made : ℕ) → c.disks ≤ 7 → IsOneCall gives now new y → IsHeardBy now.core new.core x → IsDriven gives c old now (517888 - made) → IsDriven gives c old new (517888 - (made + 1))
+pub driven_more : {D : Type 0} (gives : D → device.Call → device.Answer → D → Type 0) (c : Shape) (old now new : Standing D) (y : Made) (x : Answered) (made : ℕ) → c.disks ≤ 7 → IsOneCall gives now new y → IsHeardBy now.core new.core x → IsDriven gives c old now (578816 - made) → IsDriven gives c old new (578816 - (made + 1))
 driven_more gives c old now new y x made few one by driven =
-    let fewer : left_in c (hears_one c driven.host driven.memory driven.memory.doing x) + left_marking (hears_one c driven.host driven.memory driven.memory.doing x).marking < 517888 - made =
-    less_left c driven.host driven.memory driven.rest driven.memory.doing refl x (517888 - made) few (by.busy c driven.host driven.memory driven.leads) (by.alone c driven.host driven.memory driven.leads) (by.nine c driven.host driven.memory driven.leads) driven.left in record {
+    let fewer =
+    less_left c driven.host driven.memory driven.rest driven.memory.doing refl x (578816 - made) few (by.busy c driven.host driven.memory driven.leads) (by.alone c driven.host driven.memory driven.leads) (by.nine c driven.host driven.memory driven.leads) (by.two c driven.host driven.memory driven.leads) driven.left in record {
       has_heard = heard_more gives old now new y driven.has_heard one;
       host = driven.host;
       memory = hears_one c driven.host driven.memory driven.memory.doing x;
@@ -245,7 +370,22 @@ driven_more gives c old now new y x made few one by driven =
       left = omega (arith, fewer);
     }
 
--- no beat hears the answer, so the attempt does, or the marking
+-- with none left nothing is under way
+none_left_idle : (c : Shape) (m : Memory) (o : Option Doing) (beat : Option (List Beaten)) (t : Option Marking) (l : Option Looking) → beat ≡ None → left_with c (length m.learned) o + left_marking t + left_looking c (length m.learned) l ≤ 0
+    → m.beats.heard ≡ beat → m.marking ≡ t → m.looking ≡ l → is_idle_in m o ≡ true
+none_left_idle c m None None None None none left beats marking looking = ap (λ (b : Option (List Beaten)). rests b && not (is_some m.marking) && not (is_some m.looking)) beats ∙ ap (λ (b : Option Marking). not (is_some b) && not (is_some m.looking)) marking ∙ ap (λ (b : Option Looking). not (is_some b)) looking
+none_left_idle c m (Some t) beat u l none left beats marking looking = absurd (omega arith)
+none_left_idle c m None beat (Some t) l none left beats marking looking = absurd (omega arith)
+none_left_idle c m None beat None (Some t) none left beats marking looking = absurd (omega arith)
+none_left_idle c m None (Some heard) None None none left beats marking looking = absurd (cc)
+
+pub driven_out : {D : Type 0} (gives : D → device.Call → device.Answer → D → Type 0) (c : Shape) (old new : Standing D) (more : ℕ) → more ≡ 0 → IsDriven gives c old new more → is_idle new.core ≡ true
+driven_out gives c old new more none driven =
+    let m = driven.memory in
+    idle_is c driven.host m new.core driven.leads
+    ∙ none_left_idle c m m.doing m.beats.heard m.marking m.looking driven.rest (let left = driven.left in omega arith) refl refl refl
+
+-- no beat hears the answer, so the attempt does, or the marking or the look
 none_kept : (c : Shape) (h : ℕ) (o : Option (List Beaten)) (beat : Option BeatNotes) → BeatLeadsTo c h o beat → o ≡ None → beat ≡ None
 none_kept c h None None going none = refl
 none_kept c h None (Some notes) going none = absurd going
@@ -293,28 +433,27 @@ none_doing : (m : Memory) (o : Option Doing) → is_idle_in m o ≡ true → o �
 none_doing m None idle = refl
 none_doing m (Some t) idle = absurd (true≢false (sym idle))
 
-none_beating : (o : Option (List Beaten)) (t : Option Marking) → (rests o && not (is_some t)) ≡ true → o ≡ None
-none_beating None t idle = refl
-none_beating (Some heard) t idle = absurd (true≢false (sym idle))
-
-none_marking : (o : Option (List Beaten)) (t : Option Marking) → (rests o && not (is_some t)) ≡ true → t ≡ None
-none_marking None None idle = refl
-none_marking None (Some t) idle = absurd (true≢false (sym idle))
-none_marking (Some heard) t idle = absurd (true≢false (sym idle))
+none_under_way : (o : Option (List Beaten)) (t : Option Marking) (l : Option Looking) → (rests o && not (is_some t) && not (is_some l)) ≡ true → (o ≡ None) × (t ≡ None) × (l ≡ None)
+none_under_way None None None idle = (refl, refl, refl)
+none_under_way None None (Some u) idle = absurd (true≢false (sym idle))
+none_under_way None (Some t) l idle = absurd (true≢false (sym idle))
+none_under_way (Some heard) t l idle = absurd (true≢false (sym idle))
 
 -- what is known of an idle host has no operation under way
 pub idle_memory : (c : Shape) (h : ℕ) (m : Memory) (k : Kept) → LeadsTo c h m k → is_idle k ≡ true → m.doing ≡ None
 idle_memory c h m k leads idle = none_doing m m.doing (sym (idle_is c h m k leads) ∙ idle)
 
+under_way : (c : Shape) (h : ℕ) (m : Memory) (k : Kept) → LeadsTo c h m k → is_idle k ≡ true → (m.beats.heard ≡ None) × (m.marking ≡ None) × (m.looking ≡ None)
+under_way c h m k leads idle =
+    none_under_way m.beats.heard m.marking m.looking (subst (λ (o : Option Doing). is_idle_in m o ≡ true) (idle_memory c h m k leads idle) (sym (idle_is c h m k leads) ∙ idle))
+
 -- and no beat
 pub idle_rests : (c : Shape) (h : ℕ) (m : Memory) (k : Kept) → LeadsTo c h m k → is_idle k ≡ true → m.beats.heard ≡ None
-idle_rests c h m k leads idle =
-    none_beating m.beats.heard m.marking (subst (λ (o : Option Doing). is_idle_in m o ≡ true) (idle_memory c h m k leads idle) (sym (idle_is c h m k leads) ∙ idle))
+idle_rests c h m k leads idle = (under_way c h m k leads idle).0
 
--- and no marking
-pub idle_unmarked : (c : Shape) (h : ℕ) (m : Memory) (k : Kept) → LeadsTo c h m k → is_idle k ≡ true → m.marking ≡ None
-idle_unmarked c h m k leads idle =
-    none_marking m.beats.heard m.marking (subst (λ (o : Option Doing). is_idle_in m o ≡ true) (idle_memory c h m k leads idle) (sym (idle_is c h m k leads) ∙ idle))
+-- and no marking and no look
+pub idle_apart : (c : Shape) (h : ℕ) (m : Memory) (k : Kept) → LeadsTo c h m k → is_idle k ≡ true → IsApart m
+idle_apart c h m k leads idle = let none = under_way c h m k leads idle in (none.1, none.2)
 
 no_tries : (o : Option Doing) → o ≡ None → tries_in o ≤ 255
 no_tries None is = omega arith
@@ -357,7 +496,7 @@ operated gives o tries old begun ended begins_so heard idle = record {
   ended = idle;
 }
 
--- An operation hears no answers but its own: without a beat each is an attempt's or a marking's.
+-- An operation hears no answers but its own: without a beat each is an attempt's, a marking's or a look's.
 after_own : (c : Shape) (h : ℕ) (m : Memory) (xs : List Made) → m.beats.heard ≡ None → after_made c h m xs ≡ after_answers c h m (map answered xs)
 after_own c h m [] rest = refl
 after_own c h m (x ∷ xs) rest =
@@ -381,41 +520,11 @@ operated_ends gives o tries old new back known idle done =
     let rest : begun.beats.heard ≡ None = ap (λ (b : Beats). b.heard) (beats-goes_on known.shape known.memory o tries) ∙ known.rests in
     let own = after_own known.shape known.host begun done.made rest in
     let ended : n.doing ≡ None = idle_memory known.shape known.host n new.core leads done.ended in
-    let unmarked : known.memory.marking ≡ None = idle_unmarked known.shape known.host known.memory old.core known.leads idle in
+    let alone : IsApart known.memory = idle_apart known.shape known.host known.memory old.core known.leads idle in
     let ends : Ends o n.learned n.said =
     subst (λ (k : Memory). Ends o k.learned k.said) (sym own)
-    (operation_ends known.shape known.host known.memory o tries (map answered done.made) back unmarked (subst (λ (k : Memory). k.doing ≡ None) own ended)) in
+    (operation_ends known.shape known.host known.memory o tries (map answered done.made) back alone (subst (λ (k : Memory). k.doing ≡ None) own ended)) in
     subst (λ (said : Option HostAnswer). Ends o new.core.prefix said) (sym leads.said) (subst (λ (learned : List Command). Ends o learned n.said) (sym leads.prefix) ends)
-
--- A LOOK
-
--- a call that is due while a look is under way, and nothing beside it, writes nothing
-next_reads : (c : Shape) (h : ℕ) (m : Memory) (o : Option Doing) (k : ℕ) (call : device.Call) → m.beats.heard ≡ None → m.marking ≡ None → m.doing ≡ o → IsOf Looking m → next_doing c h m o ≡ Some (k, call) → OnlyReads call
-next_reads c h m None k call rest unmarked is looks next =
-    absurd (let none : None ≡ Some (k, call) = sym (ap (next_beside c h m) rest ∙ ap (next_marking c h m) unmarked) ∙ next in cc)
-next_reads c h m (Some t) k call rest unmarked is looks next =
-    let same : t.operation ≡ Looking = subst (GoesOn Looking m) is looks in
-    looking.reads (setup_of c h m t.operation) (on t.heard) (high t.operation m.floor same) k call next
-
-reads_all : (c : Shape) (h : ℕ) (m : Memory) (xs : List Made) → m.beats.heard ≡ None → m.marking ≡ None → IsOf Looking m → AreDue c h m xs → AreReads xs
-reads_all c h m [] rest unmarked looks due = tt
-reads_all c h m (x ∷ xs) rest unmarked looks due =
-    let same : after_call c h m x ≡ hears_one c h m m.doing (answered x) = hears_own c h m m.doing x.disk x.answer rest in
-    let n = hears_one c h m m.doing (answered x) in (
-      next_reads c h m m.doing x.disk x.call rest unmarked refl looks due.0.next,
-      reads_all c h n xs (ap (λ (b : Beats). b.heard) (beats_one c h m m.doing (answered x) refl) ∙ rest) (unmarked_one c h m m.doing (answered x) unmarked)
-          (hears_of c h m Looking m.doing (answered x) tt unmarked refl looks) (subst (λ (k : Memory). AreDue c h k xs) same due.1),
-    )
-
--- a look writes nothing
-pub looked_reads : {D : Type 0} (gives : D → device.Call → device.Answer → D → Type 0) (tries : ℕ) (old new : Standing D) → IsKnown old.core → is_idle old.core ≡ true → (done : HasOperated gives Looking tries old new) → AreReads done.made
-looked_reads gives tries old new known idle done =
-    let m = known.memory in
-    reads_all known.shape known.host (goes_on known.shape m Looking tries) done.made
-    (ap (λ (b : Beats). b.heard) (beats-goes_on known.shape m Looking tries) ∙ known.rests)
-    (marking-goes_on known.shape m Looking tries ∙ idle_unmarked known.shape known.host m old.core known.leads idle)
-    (goes_on_of known.shape m Looking tries)
-    (done.due known.shape known.host m known.leads)
 
 -- A MARKING
 
@@ -454,7 +563,10 @@ module _ {D : Type 0} (gives : D → device.Call → device.Answer → D → Typ
   }
 
 -- once it has ended
-module _ {D : Type 0} (gives : D → device.Call → device.Answer → D → Type 0) (slot : ℕ) (old new : Standing D) (known : IsKnown old.core) (done : HasMarked gives slot old new) where
+module _ {D : Type 0} (gives : D → device.Call → device.Answer → D → Type 0) (slot : ℕ) (old new : Standing D) (known : IsKnown old.core) (idle : is_idle old.core ≡ true) (done : HasMarked gives slot old new) where
+  unlooking : known.memory.looking ≡ None
+  unlooking = (idle_apart known.shape known.host known.memory old.core known.leads idle).1
+
   abbrev marks_from : Memory
   marks_from = starts_marking known.memory slot
 
@@ -477,12 +589,102 @@ module _ {D : Type 0} (gives : D → device.Call → device.Answer → D → Typ
   pub marked_prefix : new.core.prefix ≡ old.core.prefix
   marked_prefix =
       leads_then.prefix ∙ ap (λ (n : Memory). n.learned) marks_own
-      ∙ marking_learns known.shape known.host known.memory slot (map answered done.made) ∙ sym known.leads.prefix
+      ∙ marking_learns known.shape known.host known.memory slot (map answered done.made) unlooking ∙ sym known.leads.prefix
 
   -- and it has said how it ended
   pub marked_ends : EndsMarking new.core.said
   marked_ends =
-      let none : marks_then.marking ≡ None = idle_unmarked known.shape known.host marks_then new.core leads_then done.ended in
+      let none : marks_then.marking ≡ None = (idle_apart known.shape known.host marks_then new.core leads_then done.ended).0 in
       subst EndsMarking (sym leads_then.said)
       (subst (λ (n : Memory). EndsMarking n.said) (sym marks_own)
-      (marking_ends known.shape known.host known.memory slot (map answered done.made) (subst (λ (n : Memory). n.marking ≡ None) marks_own none)))
+      (marking_ends known.shape known.host known.memory slot (map answered done.made) unlooking (subst (λ (n : Memory). n.marking ≡ None) marks_own none)))
+
+-- A LOOK
+
+look_quiets : (c : Shape) (m : Memory) → IsQuiet m (starts_look c m)
+look_quiets c m = on_quiet c m m 0 refl refl
+
+idle_tries : (o : Option Doing) → o ≡ None → tries_in o ≤ 255
+idle_tries None none = omega arith
+idle_tries (Some t) none = absurd (cc)
+
+module _ {D : Type 0} (gives : D → device.Call → device.Answer → D → Type 0) (old : Standing D) (begun : Kept) (known : IsKnown old.core) (begins_so : (c : Shape) (h : ℕ) (m : Memory) → LeadsTo c h m old.core → LeadsTo c h (starts_look c m) begun) where
+  -- something is known of the host where it begins
+  pub known_look : IsKnown begun
+  known_look = record {
+    shape = known.shape;
+    host = known.host;
+    memory = starts_look known.shape known.memory;
+    leads = begins_so known.shape known.host known.memory known.leads;
+    rests = ap (λ (b : Beats). b.heard) (look_quiets known.shape known.memory).beats ∙ known.rests;
+    tries = idle_tries (starts_look known.shape known.memory).doing (look_quiets known.shape known.memory).rests;
+  }
+
+  -- of a cluster of the same shape
+  pub look_shape : begun.learner.shape ≡ old.core.learner.shape
+  look_shape = (begins_so known.shape known.host known.memory known.leads).learner.shape ∙ sym known.leads.learner.shape
+
+  -- what was heard between the beginning and the end is the look's
+  pub looked : (ended : Standing D) → HasHeard gives (record { core = begun; disks = old.disks }) ended → is_idle ended.core ≡ true → HasLooked gives old ended
+  looked ended heard idle = record {
+    made = heard.made;
+    gave = heard.gave;
+    due = λ c h m leads. heard.due c h (starts_look c m) (begins_so c h m leads);
+    leads = λ c h m leads. heard.leads c h (starts_look c m) (begins_so c h m leads);
+    ended = idle;
+  }
+
+-- a call that is due while a look is under way writes nothing
+look_reads : (c : Shape) (m : Memory) (o : Option Looking) (k : ℕ) (call : device.Call) → next_look c m o ≡ Some (k, call) → OnlyReads call
+look_reads c m None k call next = absurd (cc)
+look_reads c m (Some t) k call next = looks.reads (look_of c m t.first) (on t.heard) k call next
+
+next_reads : (c : Shape) (h : ℕ) (m : Memory) (k : ℕ) (call : device.Call) → m.beats.heard ≡ None → IsOfLook m → next_doing c h m m.doing ≡ Some (k, call) → OnlyReads call
+next_reads c h m k call rest is next =
+    look_reads c m m.looking k call
+    (sym (ap (next_doing c h m) is.rests ∙ ap (next_beside c h m) rest ∙ ap (next_marking c h m) is.unmarking) ∙ next)
+
+reads_all : (c : Shape) (h : ℕ) (m : Memory) (xs : List Made) → m.beats.heard ≡ None → IsOfLook m → AreDue c h m xs → AreReads xs
+reads_all c h m [] rest is due = tt
+reads_all c h m (x ∷ xs) rest is due =
+    let same : after_call c h m x ≡ hears_one c h m m.doing (answered x) = hears_own c h m m.doing x.disk x.answer rest in
+    let n = hears_one c h m m.doing (answered x) in (
+      next_reads c h m x.disk x.call rest is due.0.next,
+      reads_all c h n xs (ap (λ (b : Beats). b.heard) (beats_one c h m m.doing (answered x) refl) ∙ rest)
+          (look_hears c h m m.doing (answered x) is.rests is) (subst (λ (k : Memory). AreDue c h k xs) same due.1),
+    )
+
+-- once it has ended
+module _ {D : Type 0} (gives : D → device.Call → device.Answer → D → Type 0) (old new : Standing D) (known : IsKnown old.core) (idle : is_idle old.core ≡ true) (done : HasLooked gives old new) where
+  abbrev looks_from : Memory
+  looks_from = starts_look known.shape known.memory
+
+  abbrev looks_then : Memory
+  looks_then = after_made known.shape known.host looks_from done.made
+
+  looks_lead : LeadsTo known.shape known.host looks_then new.core
+  looks_lead = done.leads known.shape known.host known.memory known.leads
+
+  unmarking_then : known.memory.marking ≡ None
+  unmarking_then = (idle_apart known.shape known.host known.memory old.core known.leads idle).0
+
+  beats_none : looks_from.beats.heard ≡ None
+  beats_none = ap (λ (b : Beats). b.heard) (look_quiets known.shape known.memory).beats ∙ known.rests
+
+  -- something is known of the host
+  pub known_looked : IsKnown new.core
+  known_looked = known_idle known.shape known.host looks_then new.core looks_lead done.ended
+
+  -- it has said how it ended
+  pub looked_ends : EndsLook new.core.prefix new.core.said
+  looked_ends =
+      let own = after_own known.shape known.host looks_from done.made beats_none in
+      let none : looks_then.looking ≡ None = (idle_apart known.shape known.host looks_then new.core looks_lead done.ended).1 in
+      let ends : EndsLook looks_then.learned looks_then.said =
+      subst (λ (k : Memory). EndsLook k.learned k.said) (sym own)
+      (look_ends known.shape known.host known.memory (map answered done.made) unmarking_then (subst (λ (k : Memory). k.looking ≡ None) own none)) in
+      subst (λ (said : Option HostAnswer). EndsLook new.core.prefix said) (sym looks_lead.said) (subst (λ (learned : List Command). EndsLook learned looks_then.said) (sym looks_lead.prefix) ends)
+
+  -- and it has written nothing
+  pub looked_reads : AreReads done.made
+  looked_reads = reads_all known.shape known.host looks_from done.made beats_none (look_begun known.shape known.memory unmarking_then) (done.due known.shape known.host known.memory known.leads)

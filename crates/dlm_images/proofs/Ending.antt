@@ -9,10 +9,8 @@ use Rattle.attempt.specs.Calls.{Phase, Opening, One, Two}
 use Rattle.attempt.specs.Setup.{Setup}
 use Rattle.attempt.specs.Status as attempt
 use Rattle.attempt.specs.Status.{Status, Due, Ended, status, taken, through, next_or, unless_outrun, unless_decided, proposing, voting, promising, balloting}
-use Rattle.attempt.specs.Looking.{EndsTheOpening}
 use Rattle.attempt.specs.Visits.{visited, is_left_at, are_enough}
 use Rattle.attempt.specs.Proposal.{ballot, proposal, decided, others_mbal, best}
-use Rattle.attempt.proofs.Looking as looking
 use Rattle.lock_command.specs.declared.command.Command.{Command}
 use Rattle.lock_command.specs.Command.{spelling, Fits as FitsCommand}
 use Rattle.lock_command.specs.Reading.{decoded, checked}
@@ -21,10 +19,11 @@ use Rattle.slot_log.specs.Shape.{Shape}
 use Rattle.slot_log.specs.declared.outcome.Refusal.{Refusal}
 use Rattle.slot_log.specs.declared.outcome.Refusal.TheVariants as refusal
 use Rattle.marks.specs.Status as mark
-use Rattle.host.specs.declared.answer.HostAnswer.TheVariants.{Recovered, Refused}
-use Rattle.host.proofs.Hosts.{marking-goes_on, marking_heard}
-use Rattle.host.specs.Host.{Memory, Doing, Operation, Submitting, Recovering, Looking, goes_on, hears, begins, by_status, takes, after_learning, is_submitted, learns, with_heard, with_floor, tries_again, full_answer, spent_answer, says, setup_of, input_of, floor_for, Marking, hears_marking, marking_by, marking_with, marking_of, with_marking, starts_marking}
-use Rattle.dlm_images.specs.Operations.{Ends, EndsMarking}
+use Rattle.looks.specs.Status as look
+use Rattle.host.specs.declared.answer.HostAnswer.TheVariants.{Recovered, Looked, Refused}
+use Rattle.host.proofs.Hosts.{apart, apart-goes_on, apart_heard}
+use Rattle.host.specs.Host.{Memory, Doing, Operation, Submitting, Recovering, goes_on, hears, begins, by_status, takes, after_learning, is_submitted, learns, with_heard, with_floor, tries_again, full_answer, says, setup_of, input_of, Marking, hears_apart, hears_marking, marking_by, marking_with, marking_of, with_marking, starts_marking, Looking, hears_look, look_by, look_of, looking_with, looks_on, starts_look, takes_marked, with_looking}
+use Rattle.dlm_images.specs.Operations.{Ends, EndsMarking, EndsLook}
 
 -- NO INPUT, NO PROPOSAL
 
@@ -95,7 +94,6 @@ reads_back command fits =
 abbrev pub ReadsBack : Operation → Type 0
 ReadsBack (Submitting command) = decoded (spelling command) ≡ Some command
 ReadsBack Recovering = Unit {0}
-ReadsBack Looking = Unit {0}
 
 -- GOING ON, OR ENDED
 
@@ -114,7 +112,6 @@ of_test o false x y is_x is_y = is_y
 full : (o : Operation) (m : Memory) → IsOf o (says m (full_answer o (length m.learned)))
 full (Submitting command) m = tt
 full Recovering m = refl
-full Looking m = refl
 
 pub goes_on_of : (c : Shape) (m : Memory) (o : Operation) (tries : ℕ) → IsOf o (goes_on c m o tries)
 goes_on_of c m o tries = of_test o (nat_lt (length m.learned) c.slots) (begins m o tries) (says m (full_answer o (length m.learned))) refl (full o m)
@@ -122,7 +119,6 @@ goes_on_of c m o tries = of_test o (nat_lt (length m.learned) c.slots) (begins m
 tries_of : (m : Memory) (o : Operation) (tries : ℕ) → IsOf o (tries_again m o tries)
 tries_of m (Submitting command) tries = of_test (Submitting command) (nat_le tries 1) _ _ tt refl
 tries_of m Recovering tries = of_test Recovering (nat_le tries 1) _ _ tt refl
-tries_of m Looking tries = of_test Looking (nat_le tries 1) _ _ tt refl
 
 same_command : (a b : Command) → Some a ≡ Some b → a ≡ b
 same_command a b is = cc
@@ -140,49 +136,33 @@ learned_of c m t value command read back true is = by_operation t.operation back
         subst (λ (x : Command). IsOf (Submitting x) (after_learning c m t command true)) (sym same)
         (record { before = m.learned; last = refl; at = refl; replied = refl })
     by_operation Recovering back is = absurd (cc)
-    by_operation Looking back is = absurd (cc)
 
 -- a refusal ends any operation
 refusal_of : (o : Operation) (learned : List Command) (r : Refusal) → Ends o learned (Some (Refused r))
 refusal_of (Submitting command) learned r = tt
 refusal_of Recovering learned r = tt
-refusal_of Looking learned r = tt
-
--- an operation that has no ballot left is refused, but a look tells what it learned
-spent_of : (o : Operation) (learned : List Command) → Ends o learned (Some (spent_answer o (length learned)))
-spent_of (Submitting command) learned = tt
-spent_of Recovering learned = tt
-spent_of Looking learned = refl
 
 taken_of : (c : Shape) (m : Memory) (t : Doing) (ballot : ℕ) (value : List ℕ) → ReadsBack t.operation → (o : Option Command) → decoded value ≡ o → IsOf t.operation (takes c m t ballot value o)
 taken_of c m t ballot value back None read = refusal_of t.operation m.learned refusal.NotACommand
 taken_of c m t ballot value back (Some command) read = learned_of c m t value command read back (is_submitted t.operation value) refl
 
--- a look's attempts end with their opening
-abbrev EndsSoon : Operation → Status → Type 0
-EndsSoon o at = o ≡ Looking → (end : attempt.End) → at ≡ Ended end → EndsTheOpening end
+-- only a recovery ends where nothing was proposed
+empty_of : (o : Operation) (m : Memory) → input_of o ≡ None → Ends o m.learned (Some (Recovered (length m.learned)))
+empty_of (Submitting command) m none = absurd (cc)
+empty_of Recovering m none = refl
 
-pub high : (o : Operation) (floor : ℕ) → o ≡ Looking → LAST_BALLOT ≤ floor_for o floor
-high o floor is = subst (λ (p : Operation). LAST_BALLOT ≤ floor_for p floor) (sym is) (omega arith)
+status_of : (c : Shape) (m : Memory) (t : Doing) (ballot : ℕ) (s : Setup) (at : Status) → s.input ≡ input_of t.operation → HasInput s at → ReadsBack t.operation → IsOf t.operation (by_status c m t ballot at)
+status_of c m t ballot s (Due phase disk) same has back = refl
+status_of c m t ballot s (Ended (attempt.Committed value)) same has back = taken_of c m t ballot value back (decoded value) refl
+status_of c m t ballot s (Ended (attempt.Decided value)) same has back = taken_of c m t ballot value back (decoded value) refl
+status_of c m t ballot s (Ended attempt.Empty) same has back = empty_of t.operation (with_floor m ballot) (sym same ∙ has)
+status_of c m t ballot s (Ended (attempt.Outrun mbal)) same has back = tries_of (with_floor (with_floor m ballot) mbal) t.operation t.tries
+status_of c m t ballot s (Ended attempt.NoMajority) same has back = refusal_of t.operation m.learned refusal.NoMajority
+status_of c m t ballot s (Ended attempt.BallotsSpent) same has back = refusal_of t.operation m.learned refusal.BallotsSpent
 
--- so that only a recovery ends where nothing was proposed
-empty_of : (o : Operation) (m : Memory) → input_of o ≡ None → EndsSoon o (Ended attempt.Empty) → Ends o m.learned (Some (Recovered (length m.learned)))
-empty_of (Submitting command) m none soon = absurd (cc)
-empty_of Recovering m none soon = refl
-empty_of Looking m none soon = absurd (soon refl attempt.Empty refl)
-
-status_of : (c : Shape) (m : Memory) (t : Doing) (ballot : ℕ) (s : Setup) (at : Status) → s.input ≡ input_of t.operation → HasInput s at → EndsSoon t.operation at → ReadsBack t.operation → IsOf t.operation (by_status c m t ballot at)
-status_of c m t ballot s (Due phase disk) same has soon back = refl
-status_of c m t ballot s (Ended (attempt.Committed value)) same has soon back = taken_of c m t ballot value back (decoded value) refl
-status_of c m t ballot s (Ended (attempt.Decided value)) same has soon back = taken_of c m t ballot value back (decoded value) refl
-status_of c m t ballot s (Ended attempt.Empty) same has soon back = empty_of t.operation (with_floor m ballot) (sym same ∙ has) soon
-status_of c m t ballot s (Ended (attempt.Outrun mbal)) same has soon back = tries_of (with_floor (with_floor m ballot) mbal) t.operation t.tries
-status_of c m t ballot s (Ended attempt.NoMajority) same has soon back = refusal_of t.operation m.learned refusal.NoMajority
-status_of c m t ballot s (Ended attempt.BallotsSpent) same has soon back = spent_of t.operation m.learned
-
--- what a host knows once its attempt has heard this answer, or else its marking
+-- what a host knows once its attempt has heard this answer, or else its marking or its look
 abbrev pub hears_one : Shape → ℕ → Memory → Option Doing → Answered → Memory
-hears_one c h m None x = hears_marking c h m m.marking x
+hears_one c h m None x = hears_apart c h m m.marking x
 hears_one c h m (Some t) x = hears c h m (Some t) x
 
 -- the same of these answers, one after another
@@ -190,43 +170,49 @@ abbrev pub after_answers : Shape → ℕ → Memory → List Answered → Memory
 after_answers c h m [] = m
 after_answers c h m (x ∷ xs) = after_answers c h (hears_one c h m m.doing x) xs
 
-unmarked_of : (c : Shape) (h : ℕ) (m : Memory) (o : Operation) (marking : Option Marking) (x : Answered) → marking ≡ None → IsOf o m → IsOf o (hears_marking c h m marking x)
-unmarked_of c h m o None x none is = is
-unmarked_of c h m o (Some t) x none is = absurd (cc)
+-- neither a marking nor a look is under way
+abbrev pub IsApart : Memory → Type 0
+IsApart m = (m.marking ≡ None) × (m.looking ≡ None)
 
-pub hears_of : (c : Shape) (h : ℕ) (m : Memory) (o : Operation) (doing : Option Doing) (x : Answered) → ReadsBack o → m.marking ≡ None → m.doing ≡ doing → GoesOn o m doing → IsOf o (hears_one c h m doing x)
-hears_of c h m o None x back unmarked is goes = unmarked_of c h m o m.marking x unmarked (subst (GoesOn o m) (sym is) goes)
-hears_of c h m o (Some t) x back unmarked is goes =
+pub apart_still : (m new : Memory) → apart new ≡ apart m → IsApart m → IsApart new
+apart_still m new same is = (
+  ap (λ (p : Option Marking × Option Looking). p.0) same ∙ is.0,
+  ap (λ (p : Option Marking × Option Looking). p.1) same ∙ is.1,
+)
+
+-- so nothing hears the answer
+pub nothing_hears : (c : Shape) (h : ℕ) (m : Memory) (x : Answered) → IsApart m → hears_apart c h m m.marking x ≡ m
+nothing_hears c h m x is = ap (λ (o : Option Marking). hears_apart c h m o x) is.0 ∙ ap (λ (o : Option Looking). hears_look c m o x) is.1
+
+hears_of : (c : Shape) (h : ℕ) (m : Memory) (o : Operation) (doing : Option Doing) (x : Answered) → ReadsBack o → IsApart m → m.doing ≡ doing → GoesOn o m doing → IsOf o (hears_one c h m doing x)
+hears_of c h m o None x back alone is goes = subst (IsOf o) (sym (nothing_hears c h m x alone)) (subst (GoesOn o m) (sym is) goes)
+hears_of c h m o (Some t) x back alone is goes =
     let s : Setup = setup_of c h m t.operation in
     let heard = on (t.heard ++ x ∷ []) in
     subst (λ (p : Operation). IsOf p (hears c h m (Some t) x)) goes
-    (status_of c m (with_heard t x) (taken s heard) s (status s heard) refl (has_input s heard) (λ is. looking.ends s heard (high t.operation m.floor is)) (subst ReadsBack (sym goes) back))
+    (status_of c m (with_heard t x) (taken s heard) s (status s heard) refl (has_input s heard) (subst ReadsBack (sym goes) back))
 
--- no marking begins meanwhile
-unmarked_hearing : (c : Shape) (h : ℕ) (m : Memory) (marking : Option Marking) (x : Answered) → marking ≡ None → m.marking ≡ None → (hears_marking c h m marking x).marking ≡ None
-unmarked_hearing c h m None x none is = is
-unmarked_hearing c h m (Some t) x none is = absurd (cc)
-
-pub unmarked_one : (c : Shape) (h : ℕ) (m : Memory) (doing : Option Doing) (x : Answered) → m.marking ≡ None → (hears_one c h m doing x).marking ≡ None
-unmarked_one c h m None x is = unmarked_hearing c h m m.marking x is is
-unmarked_one c h m (Some t) x is = marking_heard c h m (Some t) x ∙ is
+-- no marking and no look begins meanwhile
+pub apart_one : (c : Shape) (h : ℕ) (m : Memory) (doing : Option Doing) (x : Answered) → IsApart m → IsApart (hears_one c h m doing x)
+apart_one c h m None x is = subst IsApart (sym (nothing_hears c h m x is)) is
+apart_one c h m (Some t) x is = apart_still m (hears c h m (Some t) x) (apart_heard c h m (Some t) x) is
 
 -- whatever it hears, an operation goes on, or has ended
-after_of : (c : Shape) (h : ℕ) (m : Memory) (o : Operation) (xs : List Answered) → ReadsBack o → m.marking ≡ None → IsOf o m → IsOf o (after_answers c h m xs)
-after_of c h m o [] back unmarked is = is
-after_of c h m o (x ∷ xs) back unmarked is =
-    after_of c h (hears_one c h m m.doing x) o xs back (unmarked_one c h m m.doing x unmarked) (hears_of c h m o m.doing x back unmarked refl is)
+after_of : (c : Shape) (h : ℕ) (m : Memory) (o : Operation) (xs : List Answered) → ReadsBack o → IsApart m → IsOf o m → IsOf o (after_answers c h m xs)
+after_of c h m o [] back alone is = is
+after_of c h m o (x ∷ xs) back alone is =
+    after_of c h (hears_one c h m m.doing x) o xs back (apart_one c h m m.doing x alone) (hears_of c h m o m.doing x back alone refl is)
 
 ended_with : (o : Operation) (m : Memory) (doing : Option Doing) → doing ≡ None → GoesOn o m doing → Ends o m.learned m.said
 ended_with o m None none goes = goes
 ended_with o m (Some t) none goes = absurd (cc)
 
 -- an operation that is under way no more has ended
-pub operation_ends : (c : Shape) (h : ℕ) (m : Memory) (o : Operation) (tries : ℕ) (xs : List Answered) → ReadsBack o → m.marking ≡ None → (after_answers c h (goes_on c m o tries) xs).doing ≡ None →
+pub operation_ends : (c : Shape) (h : ℕ) (m : Memory) (o : Operation) (tries : ℕ) (xs : List Answered) → ReadsBack o → IsApart m → (after_answers c h (goes_on c m o tries) xs).doing ≡ None →
     Ends o (after_answers c h (goes_on c m o tries) xs).learned (after_answers c h (goes_on c m o tries) xs).said
-operation_ends c h m o tries xs back unmarked none =
+operation_ends c h m o tries xs back alone none =
     let n = after_answers c h (goes_on c m o tries) xs in
-    ended_with o n n.doing none (after_of c h (goes_on c m o tries) o xs back (marking-goes_on c m o tries ∙ unmarked) (goes_on_of c m o tries))
+    ended_with o n n.doing none (after_of c h (goes_on c m o tries) o xs back (apart_still m (goes_on c m o tries) (apart-goes_on c m o tries) alone) (goes_on_of c m o tries))
 
 -- A MARKING
 
@@ -237,6 +223,7 @@ MarksOn m (Some t) = Unit {0}
 
 record IsOfMarking (learned : List Command) (m : Memory) : Type 0 where
   rests : m.doing ≡ None
+  unlooking : m.looking ≡ None
   learns : m.learned ≡ learned
   ends : MarksOn m m.marking
 
@@ -244,20 +231,20 @@ refused_on : (m : Memory) (r : Refusal) (o : Option Marking) → m.said ≡ Some
 refused_on m r None is = subst EndsMarking (sym is) tt
 refused_on m r (Some t) is = tt
 
-begun_of : (m : Memory) (slot : ℕ) (b : Bool) → IsOfMarking m.learned (if b then with_marking m (Some (record { slot = slot; heard = [] })) None else with_marking m m.marking (Some (Refused refusal.NotLearned)))
-begun_of m slot true = record { rests = refl; learns = refl; ends = tt }
-begun_of m slot false =
-    record { rests = refl; learns = refl; ends = refused_on (with_marking m m.marking (Some (Refused refusal.NotLearned))) refusal.NotLearned m.marking refl }
+begun_of : (m : Memory) (slot : ℕ) (b : Bool) → m.looking ≡ None → IsOfMarking m.learned (if b then with_marking m (Some (record { slot = slot; heard = [] })) None else with_marking m m.marking (Some (Refused refusal.NotLearned)))
+begun_of m slot true none = record { rests = refl; unlooking = none; learns = refl; ends = tt }
+begun_of m slot false none =
+    record { rests = refl; unlooking = none; learns = refl; ends = refused_on (with_marking m m.marking (Some (Refused refusal.NotLearned))) refusal.NotLearned m.marking refl }
 
 module _ (c : Shape) (h : ℕ) (learned : List Command) where
-  marked_of : (m : Memory) (t : Marking) (st : mark.Status) → m.learned ≡ learned → IsOfMarking learned (marking_by m t st)
-  marked_of m t (mark.Due disk) is = record { rests = refl; learns = is; ends = tt }
-  marked_of m t (mark.Ended (mark.Marked count)) is = record { rests = refl; learns = is; ends = tt }
-  marked_of m t (mark.Ended mark.NoMajority) is = record { rests = refl; learns = is; ends = tt }
+  marked_of : (m : Memory) (t : Marking) (st : mark.Status) → m.looking ≡ None → m.learned ≡ learned → IsOfMarking learned (marking_by m t st)
+  marked_of m t (mark.Due disk) none is = record { rests = refl; unlooking = none; learns = is; ends = tt }
+  marked_of m t (mark.Ended (mark.Marked count)) none is = record { rests = refl; unlooking = none; learns = is; ends = tt }
+  marked_of m t (mark.Ended mark.NoMajority) none is = record { rests = refl; unlooking = none; learns = is; ends = tt }
 
-  marks_of : (m : Memory) (o : Option Marking) (x : Answered) → IsOfMarking learned m → IsOfMarking learned (hears_marking c h m o x)
-  marks_of m None x is = is
-  marks_of m (Some t) x is = marked_of m (marking_with t x) (mark.status (marking_of c h m t.slot) (on (marking_with t x).heard)) is.learns
+  marks_of : (m : Memory) (o : Option Marking) (x : Answered) → IsOfMarking learned m → IsOfMarking learned (hears_apart c h m o x)
+  marks_of m None x is = subst (IsOfMarking learned) (sym (ap (λ (o : Option Looking). hears_look c m o x) is.unlooking)) is
+  marks_of m (Some t) x is = marked_of m (marking_with t x) (mark.status (marking_of c h m t.slot) (on (marking_with t x).heard)) is.unlooking is.learns
 
   mark_hears : (m : Memory) (doing : Option Doing) (x : Answered) → doing ≡ None → IsOfMarking learned m → IsOfMarking learned (hears_one c h m doing x)
   mark_hears m None x none is = marks_of m m.marking x is
@@ -267,16 +254,67 @@ module _ (c : Shape) (h : ℕ) (learned : List Command) where
   after_marking m [] is = is
   after_marking m (x ∷ xs) is = after_marking (hears_one c h m m.doing x) xs (mark_hears m m.doing x is.rests is)
 
-marking_is_of : (c : Shape) (h : ℕ) (m : Memory) (slot : ℕ) (xs : List Answered) → IsOfMarking m.learned (after_answers c h (starts_marking m slot) xs)
-marking_is_of c h m slot xs = after_marking c h m.learned (starts_marking m slot) xs (begun_of m slot (nat_lt slot (length m.learned)))
+marking_is_of : (c : Shape) (h : ℕ) (m : Memory) (slot : ℕ) (xs : List Answered) → m.looking ≡ None → IsOfMarking m.learned (after_answers c h (starts_marking m slot) xs)
+marking_is_of c h m slot xs none = after_marking c h m.learned (starts_marking m slot) xs (begun_of m slot (nat_lt slot (length m.learned)) none)
 
 -- a marking changes nothing that was learned
-pub marking_learns : (c : Shape) (h : ℕ) (m : Memory) (slot : ℕ) (xs : List Answered) → (after_answers c h (starts_marking m slot) xs).learned ≡ m.learned
-marking_learns c h m slot xs = (marking_is_of c h m slot xs).learns
+pub marking_learns : (c : Shape) (h : ℕ) (m : Memory) (slot : ℕ) (xs : List Answered) → m.looking ≡ None → (after_answers c h (starts_marking m slot) xs).learned ≡ m.learned
+marking_learns c h m slot xs none = (marking_is_of c h m slot xs none).learns
 
 -- and one that is under way no more has ended
-pub marking_ends : (c : Shape) (h : ℕ) (m : Memory) (slot : ℕ) (xs : List Answered) → (after_answers c h (starts_marking m slot) xs).marking ≡ None →
+pub marking_ends : (c : Shape) (h : ℕ) (m : Memory) (slot : ℕ) (xs : List Answered) → m.looking ≡ None → (after_answers c h (starts_marking m slot) xs).marking ≡ None →
     EndsMarking (after_answers c h (starts_marking m slot) xs).said
-marking_ends c h m slot xs none =
+marking_ends c h m slot xs unlooking none =
     let n = after_answers c h (starts_marking m slot) xs in
-    subst (MarksOn n) none (marking_is_of c h m slot xs).ends
+    subst (MarksOn n) none (marking_is_of c h m slot xs unlooking).ends
+
+-- A LOOK
+
+-- the look is under way, or has ended
+abbrev LooksOn : Memory → Option Looking → Type 0
+LooksOn m None = EndsLook m.learned m.said
+LooksOn m (Some t) = Unit {0}
+
+pub record IsOfLook (m : Memory) : Type 0 where
+  pub rests : m.doing ≡ None
+  pub unmarking : m.marking ≡ None
+  pub ends : LooksOn m m.looking
+
+on_of : (c : Shape) (m : Memory) (first : ℕ) → m.marking ≡ None → IsOfLook (looks_on c m first)
+on_of c m first none = by_test (nat_lt (length m.learned) c.slots)
+  where
+    by_test : (b : Bool) → IsOfLook (if b then with_looking m (Some (record { first = first; heard = [] })) None else with_looking m None (Some (Looked (length m.learned))))
+    by_test true = record { rests = refl; unmarking = none; ends = tt }
+    by_test false = record { rests = refl; unmarking = none; ends = refl }
+
+module _ (c : Shape) (h : ℕ) where
+  taken_marked : (m : Memory) (disk : ℕ) (o : Option Command) → m.marking ≡ None → IsOfLook (takes_marked c m disk o)
+  taken_marked m disk None none = record { rests = refl; unmarking = none; ends = tt }
+  taken_marked m disk (Some command) none = on_of c (learns m command) disk none
+
+  looked_of : (m : Memory) (t : Looking) (st : look.Status) → m.marking ≡ None → IsOfLook (look_by c m t st)
+  looked_of m t (look.Due disk) none = record { rests = refl; unmarking = none; ends = tt }
+  looked_of m t (look.Ended (look.Decided disk value)) none = taken_marked m disk (decoded value) none
+  looked_of m t (look.Ended look.Unmarked) none = record { rests = refl; unmarking = none; ends = refl }
+  looked_of m t (look.Ended look.NoMajority) none = record { rests = refl; unmarking = none; ends = tt }
+
+  looks_of : (m : Memory) (o : Option Looking) (x : Answered) → IsOfLook m → IsOfLook (hears_look c m o x)
+  looks_of m None x is = is
+  looks_of m (Some t) x is = looked_of m (looking_with t x) (look.status (look_of c m t.first) (on (looking_with t x).heard)) is.unmarking
+
+  pub look_hears : (m : Memory) (doing : Option Doing) (x : Answered) → doing ≡ None → IsOfLook m → IsOfLook (hears_one c h m doing x)
+  look_hears m None x none is = subst IsOfLook (sym (ap (λ (o : Option Marking). hears_apart c h m o x) is.unmarking)) (looks_of m m.looking x is)
+  look_hears m (Some t) x none is = absurd (cc)
+
+  after_look : (m : Memory) (xs : List Answered) → IsOfLook m → IsOfLook (after_answers c h m xs)
+  after_look m [] is = is
+  after_look m (x ∷ xs) is = after_look (hears_one c h m m.doing x) xs (look_hears m m.doing x is.rests is)
+
+pub look_begun : (c : Shape) (m : Memory) → m.marking ≡ None → IsOfLook (starts_look c m)
+look_begun c m none = on_of c m 0 none
+
+-- one that is under way no more has ended
+pub look_ends : (c : Shape) (h : ℕ) (m : Memory) (xs : List Answered) → m.marking ≡ None → (after_answers c h (starts_look c m) xs).looking ≡ None → EndsLook (after_answers c h (starts_look c m) xs).learned (after_answers c h (starts_look c m) xs).said
+look_ends c h m xs unmarking none =
+    let n = after_answers c h (starts_look c m) xs in
+    subst (LooksOn n) none (after_look c h (starts_look c m) xs (look_begun c m unmarking)).ends

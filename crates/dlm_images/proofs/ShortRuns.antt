@@ -15,7 +15,7 @@ use Rattle.lock_command.specs.Reading.{lock_at, request_at, mode_of, name_at, en
 use Rattle.lock_command.specs.declared.reply.Reply.{Reply}
 use Rattle.lock_table.specs.Apply.{applied, granted}
 use Rattle.host.specs.declared.answer.HostAnswer.TheVariants.{Ack}
-use Rattle.host.specs.Host.{Memory, Doing, Submitting, fresh, next_in, next_doing, is_idle, Marking, is_idle_in, rests, next_beside, next_marking, reply_after}
+use Rattle.host.specs.Host.{Memory, Doing, Submitting, fresh, next_in, next_doing, is_idle, Marking, is_idle_in, rests, next_beside, next_marking, reply_after, Looking, next_look}
 use Rattle.host.specs.Kept.{LeadsTo}
 use Rattle.host.proofs.Hosts.{idle_is}
 use Rattle.beats.specs.Answers as beat_answers
@@ -96,12 +96,13 @@ only_calls (suc n) m d (Some call) next (x ∷ xs) new due gave ended ends =
 
 -- an idle host makes no call
 none_due : (m : Memory) (o : Option Doing) → is_idle_in m o ≡ true → next_doing one_disk 0 m o ≡ None
-none_due m None idle = by_beat m.beats.heard m.marking refl idle
+none_due m None idle = by_beat m.beats.heard m.marking m.looking refl refl idle
   where
-    by_beat : (o : Option (List beat_answers.Answered)) (t : Option Marking) → m.marking ≡ t → (rests o && not (is_some t)) ≡ true → next_beside one_disk 0 m o ≡ None
-    by_beat None None none idle = ap (next_marking one_disk 0 m) none
-    by_beat None (Some t) none idle = absurd (true≢false (sym idle))
-    by_beat (Some heard) t none idle = absurd (true≢false (sym idle))
+    by_beat : (o : Option (List beat_answers.Answered)) (t : Option Marking) (l : Option Looking) → m.marking ≡ t → m.looking ≡ l → (rests o && not (is_some t) && not (is_some l)) ≡ true → next_beside one_disk 0 m o ≡ None
+    by_beat None None None none unlooking idle = ap (next_marking one_disk 0 m) none ∙ ap (next_look one_disk m) unlooking
+    by_beat None None (Some t) none unlooking idle = absurd (true≢false (sym idle))
+    by_beat None (Some t) l none unlooking idle = absurd (true≢false (sym idle))
+    by_beat (Some heard) t l none unlooking idle = absurd (true≢false (sym idle))
 none_due m (Some t) idle = absurd (true≢false (sym idle))
 
 -- THE FIRST SUBMISSION

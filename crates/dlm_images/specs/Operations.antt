@@ -8,7 +8,7 @@ use Rattle.attempt.specs.Looking.{OnlyReads}
 use Rattle.slot_log.specs.Shape.{Shape}
 use Rattle.lock_command.specs.declared.command.Command.{Command}
 use Rattle.lock_command.specs.declared.reply.Reply.{Reply}
-use Rattle.host.specs.Host.{Memory, Doing, Operation, Submitting, Recovering, Looking, goes_on, starts_marking, hears_from, next_in, reply_after}
+use Rattle.host.specs.Host.{Memory, Doing, Operation, Submitting, Recovering, goes_on, starts_marking, starts_look, hears_from, next_in, reply_after}
 use Rattle.host.specs.Kept.{Kept, LeadsTo, is_idle}
 use Rattle.host.specs.declared.answer.HostAnswer.{HostAnswer}
 use Rattle.host.specs.declared.answer.HostAnswer.TheVariants.{Ack, Recovered, Looked, Beaten, Marked, Refused}
@@ -21,7 +21,7 @@ pub record Made : Type 0 where
   pub call : Call
   pub answer : Answer
 
--- what a host knows once it has heard the answer to this call: its attempt, its beat or its marking, whichever is under way
+-- what a host knows once it has heard the answer to this call: its attempt, its beat, its marking or its look, whichever is under way
 abbrev pub after_call : Shape → ℕ → Memory → Made → Memory
 after_call c h m x = hears_from c h m m.doing x.disk x.answer
 
@@ -110,6 +110,15 @@ pub record HasMarked {D : Type 0} (gives : D → Call → Answer → D → Type 
       LeadsTo c h (after_made c h (starts_marking m slot) made) new.core
   pub ended : is_idle new.core ≡ true
 
+-- The same, where it began to look first, and until the look ended.
+pub record HasLooked {D : Type 0} (gives : D → Call → Answer → D → Type 0) (old new : Standing D) : Type 0 where
+  pub made : List Made
+  pub gave : Gave gives old.disks made new.disks
+  pub due : (c : Shape) (h : ℕ) (m : Memory) → LeadsTo c h m old.core → AreDue c h (starts_look c m) made
+  pub leads : (c : Shape) (h : ℕ) (m : Memory) → LeadsTo c h m old.core →
+      LeadsTo c h (after_made c h (starts_look c m) made) new.core
+  pub ended : is_idle new.core ≡ true
+
 -- HOW IT ENDS
 
 -- The command is the last of those learned, at this slot, and the lock table replied so to it there.
@@ -119,8 +128,8 @@ pub record IsAcknowledged (command : Command) (slot : ℕ) (reply : Reply) (lear
   pub at : slot ≡ length before
   pub replied : reply ≡ reply_after before command
 
--- what a host says where an operation ends: a submission is acknowledged, a recovery and a look tell how much is learned, and
--- each may be refused
+-- what a host says where an operation ends: a submission is acknowledged, a recovery tells how much is learned, and each may be
+-- refused
 abbrev pub Ends : Operation → List Command → Option HostAnswer → Type 0
 Ends operation learned None = ⊥
 Ends (Submitting command) learned (Some (Ack slot reply)) = IsAcknowledged command slot reply learned
@@ -133,11 +142,6 @@ Ends Recovering learned (Some (Recovered count)) = count ≡ length learned
 Ends Recovering learned (Some (Looked count)) = ⊥
 Ends Recovering learned (Some (Beaten host)) = ⊥
 Ends Recovering learned (Some (Marked count)) = ⊥
-Ends Looking learned (Some (Ack slot reply)) = ⊥
-Ends Looking learned (Some (Recovered count)) = ⊥
-Ends Looking learned (Some (Looked count)) = count ≡ length learned
-Ends Looking learned (Some (Beaten host)) = ⊥
-Ends Looking learned (Some (Marked count)) = ⊥
 Ends operation learned (Some (Refused refusal)) = Unit {0}
 
 -- what a host says where a marking ends: on how many disks its block is marked, or a refusal
@@ -149,6 +153,16 @@ EndsMarking (Some (Looked count)) = ⊥
 EndsMarking (Some (Beaten host)) = ⊥
 EndsMarking (Some (Marked count)) = Unit {0}
 EndsMarking (Some (Refused refusal)) = Unit {0}
+
+-- what a host says where a look ends: how much is learned, or a refusal
+abbrev pub EndsLook : List Command → Option HostAnswer → Type 0
+EndsLook learned None = ⊥
+EndsLook learned (Some (Ack slot reply)) = ⊥
+EndsLook learned (Some (Recovered count)) = ⊥
+EndsLook learned (Some (Looked count)) = count ≡ length learned
+EndsLook learned (Some (Beaten host)) = ⊥
+EndsLook learned (Some (Marked count)) = ⊥
+EndsLook learned (Some (Refused refusal)) = Unit {0}
 
 -- no more disks and slots than there may be
 pub record IsSmall (c : Shape) : Type 0 where

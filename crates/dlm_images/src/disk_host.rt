@@ -4,9 +4,9 @@ ghost use Rattle.lock_command.specs.Command.{is_submittable, spelling};
 ghost use Rattle.lock_command.specs.Reading.{decoded};
 ghost use Rattle.lock_table.specs.Apply.{table_after};
 ghost use Rattle.lock_table.specs.Picture.{IsPictureOf};
-ghost use Rattle.host.specs.Host.{Submitting, Recovering, Looking, fresh};
+ghost use Rattle.host.specs.Host.{Submitting, Recovering, fresh};
 ghost use Rattle.host.specs.Kept.{Kept, LeadsTo};
-ghost use Rattle.dlm_images.specs.Operations.{HasOperated, HasMarked, AreReads, IsAcknowledged, Ends, EndsMarking};
+ghost use Rattle.dlm_images.specs.Operations.{HasOperated, HasMarked, HasLooked, AreReads, IsAcknowledged, Ends, EndsMarking, EndsLook};
 
 use crate::operation::drive;
 use disk::{Disk, NoMemory};
@@ -46,6 +46,7 @@ impl<D: Disk> Model for DiskHost<D> {
       known : IsKnown h.core;
       idle : is_idle h.core ≡ true;
       small : IsSmall h.core.learner.shape;
+      some : 1 ≤ h.core.learner.shape.disks;
       as_many : length h.disks.items ≡ h.core.learner.shape.disks;
       room : length h.core.prefix ≤ h.core.learner.shape.slots;
       large : (k : ℕ) (d : D) → slice_get h.disks.items k ≡ Some d → image_length h.core.learner.shape.slots ≤ (D.device d).size;
@@ -161,11 +162,16 @@ impl<D: Disk> DiskHost<D> {
         recovered(&self.core)
     }
 
-    /// Learns the commands that marks tell, up to the first slot of which none does, and tells how many are learned then. It writes
-    /// nothing and outruns nobody; what was acknowledged and not marked is not found.
+    /// Learns the commands that marks tell, up to the first slot of which none does, and tells how many are learned then. It syncs and
+    /// writes nothing, and outruns nobody; what was acknowledged and not marked is not found.
     pub fn look(&mut self) -> Result<u16, Refusal>
-        ensures operated { HasOperated D.gives Looking 1 self.old self.new }
-        ensures reads { (done : HasOperated D.gives Looking 1 self.old self.new) → AreReads done.made }
+        ensures looked { HasLooked D.gives self.old self.new }
+        ensures same { self.new.core.learner.host ≡ self.old.core.learner.host }
+        ensures reads { (done : HasLooked D.gives self.old self.new) → AreReads done.made }
+        ensures keeps { length self.old.core.prefix ≤ length self.new.core.prefix }
+        ensures calls { let learned = length self.new.core.prefix - length self.old.core.prefix in
+            (done : HasLooked D.gives self.old self.new) →
+            length done.made ≤ 2 * length self.old.disks * (learned + 1) }
         ensures learned { IfOk result (λ count. count ≡ length self.new.core.prefix) }
         ensures told { IfOk result (λ count. self.new.core.said ≡ Some (HostAnswer.Looked count)) }
         ensures refused { IfErr result (λ refusal. self.new.core.said ≡ Some (HostAnswer.Refused refusal)) }
@@ -206,7 +212,7 @@ fn recovered(core: &HostCore) -> Result<u16, Refusal>
 
 /// How a look has ended.
 fn looked(core: &HostCore) -> Result<u16, Refusal>
-    requires { Ends Looking core.now.prefix core.now.said }
+    requires { EndsLook core.now.prefix core.now.said }
     ensures learned { IfOk result (λ count. count ≡ length core.now.prefix) }
     ensures told { IfOk result (λ count. core.now.said ≡ Some (HostAnswer.Looked count)) }
     ensures refused { IfErr result (λ refusal. core.now.said ≡ Some (HostAnswer.Refused refusal)) }

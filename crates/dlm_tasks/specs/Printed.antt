@@ -31,7 +31,7 @@ use Rattle.simulator.specs.Events.{event_of, events_of, opening_of}
 use Rattle.simulator.specs.Kept.{Kept, LeadsTo}
 use Rattle.simulator.specs.Sweeping.{recovered_behind, variants}
 use Rattle.dlm_images.specs.Marking.{RecoversAndMarks}
-use Rattle.dlm_images.specs.Operations.{HasOperated, IsAcknowledged, Standing}
+use Rattle.dlm_images.specs.Operations.{HasLooked, HasOperated, IsAcknowledged, Standing}
 use Rattle.dlm_images.specs.Tries.{HasTried}
 use Rattle.folder_migration.specs.Filling.{Fills}
 use Rattle.folder_migration.specs.Migrating.{CameTo}
@@ -149,33 +149,42 @@ table_text recovered shown = answer_line (Recovered recovered) ++ queues_text sh
 abbrev pub IsFresh : ℕ → Standing FileState → Type 0
 IsFresh number host = (shape : Shape) × hosts.LeadsTo shape number fresh host.core
 
--- The command was submitted through a host over some disks. It is the last that the host then knows, and its slot and the lock table's reply were written.
+-- The command was submitted through a host over some disks, which looked first. It is the last that the host then knows, and its slot and the lock table's
+-- reply were written.
 pub record WritesAcknowledgement (tries : ℕ) (command : Command) (before after : Option (List ℕ)) : Type 0 where
   pub old : Standing FileState
+  pub looked : Standing FileState
   pub new : Standing FileState
   pub slot : ℕ
   pub reply : Reply
   pub started : IsFresh command.host old
-  pub tried : HasTried FileGives command tries old new
+  pub looks : HasLooked FileGives old looked
+  pub tried : HasTried FileGives command tries looked new
   pub acknowledged : IsAcknowledged command slot reply new.core.prefix
   pub written : Appends before after (answer_line (Ack slot reply))
 
--- The log was recovered by a host over some disks. How much it has learned, and the queues of the lock table after that, was written.
+-- The log was recovered by a host over some disks, which looked first. How much it has learned, and the queues of the lock table after that, was written.
 pub record WritesTable (tries number : ℕ) (before after : Option (List ℕ)) : Type 0 where
   pub old : Standing FileState
+  pub looked : Standing FileState
   pub new : Standing FileState
   pub shown : Shown
   pub started : IsFresh number old
-  pub recovers : HasOperated FileGives Recovering tries old new
+  pub looks : HasLooked FileGives old looked
+  pub recovers : HasOperated FileGives Recovering tries looked new
   pub picture : IsPictureOf shown (table_after new.core.prefix)
   pub written : Appends before after (table_text (length new.core.prefix) shown)
 
--- The log was recovered from some disks, and its new slots were marked. How much was recovered and marked, was written.
-pub record WritesMarks (tries : ℕ) (before after : Option (List ℕ)) : Type 0 where
+-- The log was recovered by a host over some disks, which looked first, and the slots that no mark had told it were marked. How much was recovered and marked,
+-- was written.
+pub record WritesMarks (tries number : ℕ) (before after : Option (List ℕ)) : Type 0 where
   pub old : Standing FileState
+  pub looked : Standing FileState
   pub new : Standing FileState
   pub marked : ℕ
-  pub marks : RecoversAndMarks FileGives tries marked old new
+  pub started : IsFresh number old
+  pub looks : HasLooked FileGives old looked
+  pub marks : RecoversAndMarks FileGives tries marked looked new
   pub written : Appends before after (marked_text (length new.core.prefix) marked)
 
 -- how many commands were moved onto how many images, or on how many the gates that were left were opened
@@ -194,14 +203,16 @@ pub record WritesMove (slots : ℕ) (before after : Option (List ℕ)) : Type 0 
 abbrev pub filled_text : ℕ → List ℕ
 filled_text count = codes "filled " ++ decimal count ++ (codes " slots" ++ 10 ∷ [])
 
--- The log of a folder was filled up by a host of this number that knew nothing, and how many slots it filled was written.
+-- The log of a folder was filled up by a host of this number that knew nothing and looked first, and how many slots it filled was written.
 pub record WritesFilling (number : ℕ) (before after : Option (List ℕ)) : Type 0 where
   pub shape : Shape
   pub old : Standing FileState
+  pub looked : Standing FileState
   pub new : Standing FileState
   pub count : ℕ
   pub started : hosts.LeadsTo shape number fresh old.core
-  pub fills : Fills FileGives shape.slots count old new
+  pub looks : HasLooked FileGives old looked
+  pub fills : Fills FileGives shape.slots count looked new
   pub written : Appends before after (filled_text count)
 
 -- how many commands carry the table over onto how many images, or on how many the gates that were left were opened

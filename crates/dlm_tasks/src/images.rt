@@ -95,7 +95,7 @@ pub fn mark<R: Files + AllocGlobal, O: Write>(
 ) -> Result<(), CommandFailure>
 where
     R::File: FileExt + OpenFile + TryLock + Drop,
-    ensures { OnOk result (WritesMarks TRIES (O.contents out.old) (O.contents out.new)) }
+    ensures { OnOk result (WritesMarks TRIES host (O.contents out.old) (O.contents out.new)) }
 {
     let (mut host, _lock) = host_over(rt, folder, host)?;
     mark_through(&mut host, out)
@@ -212,7 +212,8 @@ where
     Ok((config, over, lock))
 }
 
-// What is done through a host is a function of its own, to which the host is lent: who owns one drops it on each way out.
+// What is done through a host is a function of its own, to which the host is lent: who owns one drops it on each way out. A host that begins looks
+// first: what marks tell it then costs one read a slot. If the look is refused, the operation behind it says why.
 
 fn submit_through<R: Clock + RandomSource, F: FileExt + OpenFile + Drop, O: Write>(
     rt: &R,
@@ -224,6 +225,7 @@ fn submit_through<R: Clock + RandomSource, F: FileExt + OpenFile + Drop, O: Writ
     requires host { command.host ≡ host.old.core.learner.host }
     ensures { OnOk result (IsFresh command.host host.old → WritesAcknowledgement TRIES command (O.contents out.old) (O.contents out.new)) }
 {
+    let _ = host.look();
     match submit_patiently(rt, host, command, TRIES) {
         Ok(done) => {
             print_ack(done, out)?;
@@ -242,6 +244,7 @@ fn recover_table<F: FileExt + OpenFile + Drop, O: Write>(
 ) -> Result<(), CommandFailure>
     ensures { OnOk result ((number : ℕ) → IsFresh number host.old → WritesTable TRIES number (O.contents out.old) (O.contents out.new)) }
 {
+    let _ = host.look();
     match host.recover(TRIES) {
         Ok(length) => print_table(alloc, length, host.table(), out),
         Err(refusal) => Err(CommandFailure::from(Fault::from(refusal))),
@@ -252,9 +255,9 @@ fn mark_through<F: FileExt + OpenFile + Drop, O: Write>(
     host: &mut DiskHost<FileDisk<F>>,
     out: &mut O,
 ) -> Result<(), CommandFailure>
-    ensures { OnOk result (WritesMarks TRIES (O.contents out.old) (O.contents out.new)) }
+    ensures { OnOk result ((number : ℕ) → IsFresh number host.old → WritesMarks TRIES number (O.contents out.old) (O.contents out.new)) }
 {
-    // Look first: a slot that the look learns from a mark need not be marked again. If the look is refused, the recovery says why.
+    // A slot that the look learns from a mark need not be marked again.
     let _ = host.look();
     match host.recover_and_mark(TRIES) {
         Ok(log) => print_marked(log, out),
@@ -271,6 +274,7 @@ fn fill_through<R: Clock + RandomSource + AllocGlobal, F: FileExt + OpenFile + D
     requires { IsOver config host.old }
     ensures { OnOk result ((number : ℕ) → LeadsTo config number fresh host.old.core → WritesFilling number (O.contents out.old) (O.contents out.new)) }
 {
+    let _ = host.look();
     match fill_log(rt, rt.alloc(), host, config) {
         Ok(count) => print_filled(count, out),
         Err(fault) => Err(CommandFailure::from(Fault::from(fault))),

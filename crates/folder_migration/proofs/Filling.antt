@@ -8,6 +8,7 @@ use Rattle.attempt.specs.Status.{Status, Due, Ended, status, taken}
 use Rattle.beats.specs.Answers as beat_answers
 use Rattle.beats.specs.Status as beat
 use Rattle.marks.specs.Status as mark
+use Rattle.looks.specs.Status as look
 use Rattle.disk.specs.Disk.{Call, Answer}
 use Rattle.lock_command.specs.declared.command.Command.{Command}
 use Rattle.lock_command.specs.Reading.{decoded}
@@ -21,7 +22,7 @@ use Rattle.slot_log.specs.declared.outcome.Refusal.{Refusal}
 use Rattle.slot_log.specs.declared.outcome.Refusal.TheVariants as refusal
 use Rattle.host.specs.declared.answer.HostAnswer.{HostAnswer}
 use Rattle.host.specs.declared.answer.HostAnswer.TheVariants.{Ack, Recovered, Looked, Beaten, Marked, Refused}
-use Rattle.host.specs.Host.{Operation, Submitting, Recovering, Looking, Doing, Memory, Marking, hears_from, hears_beside, hears_marking, beat_by, beat_of, marking_by, marking_with, marking_of, goes_on, begins, by_status, takes, after_learning, is_submitted, learns, says, full_answer, spent_answer, with_heard, with_floor, tries_again, setup_of}
+use Rattle.host.specs.Host.{Operation, Submitting, Recovering, Doing, Memory, Marking, Looking, hears_from, hears_beside, hears_apart, hears_look, look_by, look_of, looking_with, looks_on, takes_marked, with_looking, beat_by, beat_of, marking_by, marking_with, marking_of, goes_on, begins, by_status, takes, after_learning, is_submitted, learns, says, full_answer, with_heard, with_floor, tries_again, setup_of}
 use Rattle.host.specs.Kept.{Kept, LeadsTo}
 use Rattle.dlm_images.specs.Operations.{Made, Standing, HasOperated, after_call, after_made}
 use Rattle.dlm_images.specs.Tries.{AreOutrun, none, more, HasTried}
@@ -56,12 +57,6 @@ module _ (c : Shape) (h had : ℕ) where
   full_told : (o : Operation) (n : ℕ) → c.slots ≤ n → Told c.slots had n (Some (full_answer o n))
   full_told (Submitting command) n full = full
   full_told Recovering n full = tt
-  full_told Looking n full = tt
-
-  spent_told : (o : Operation) (n : ℕ) → Told c.slots had n (Some (spent_answer o n))
-  spent_told (Submitting command) n = tt
-  spent_told Recovering n = tt
-  spent_told Looking n = tt
 
   goes_on_grows : (m : Memory) (o : Operation) (tries : ℕ) → had ≤ length m.learned → Grows c.slots had (goes_on c m o tries)
   goes_on_grows m o tries le =
@@ -92,15 +87,37 @@ module _ (c : Shape) (h had : ℕ) where
   status_grows m t ballot (Ended attempt.Empty) le = record { grows = le; told = tt }
   status_grows m t ballot (Ended (attempt.Outrun mbal)) le = tries_grow (with_floor (with_floor m ballot) mbal) t.operation t.tries le
   status_grows m t ballot (Ended attempt.NoMajority) le = record { grows = le; told = tt }
-  status_grows m t ballot (Ended attempt.BallotsSpent) le = record { grows = le; told = spent_told t.operation (length m.learned) }
+  status_grows m t ballot (Ended attempt.BallotsSpent) le = record { grows = le; told = tt }
 
   marked_grows : (m : Memory) (t : Marking) (st : mark.Status) → had ≤ length m.learned → Grows c.slots had (marking_by m t st)
   marked_grows m t (mark.Due d) le = record { grows = le; told = tt }
   marked_grows m t (mark.Ended (mark.Marked count)) le = record { grows = le; told = tt }
   marked_grows m t (mark.Ended mark.NoMajority) le = record { grows = le; told = tt }
 
-  marking_grows : (m : Memory) (o : Option Marking) (x : Answered) → Grows c.slots had m → Grows c.slots had (hears_marking c h m o x)
-  marking_grows m None x is = is
+  on_grows : (m : Memory) (first : ℕ) → had ≤ length m.learned → Grows c.slots had (looks_on c m first)
+  on_grows m first le =
+      by_test (Grows c.slots had) (nat_lt (length m.learned) c.slots) (with_looking m (Some (record { first = first; heard = [] })) None) (with_looking m None (Some (Looked (length m.learned))))
+      (λ is. record { grows = le; told = tt })
+      (λ is. record { grows = le; told = tt })
+
+  told_grows : (m : Memory) (disk : ℕ) (o : Option Command) → had ≤ length m.learned → Grows c.slots had (takes_marked c m disk o)
+  told_grows m disk None le = record { grows = le; told = tt }
+  told_grows m disk (Some command) le =
+      let one : length (m.learned ++ command ∷ []) ≡ length m.learned + 1 = length-append m.learned (command ∷ []) in
+      on_grows (learns m command) disk (omega (arith, one, le))
+
+  look_grows : (m : Memory) (t : Looking) (st : look.Status) → had ≤ length m.learned → Grows c.slots had (look_by c m t st)
+  look_grows m t (look.Due d) le = record { grows = le; told = tt }
+  look_grows m t (look.Ended (look.Decided disk value)) le = told_grows m disk (decoded value) le
+  look_grows m t (look.Ended look.Unmarked) le = record { grows = le; told = tt }
+  look_grows m t (look.Ended look.NoMajority) le = record { grows = le; told = tt }
+
+  looking_grows : (m : Memory) (o : Option Looking) (x : Answered) → Grows c.slots had m → Grows c.slots had (hears_look c m o x)
+  looking_grows m None x is = is
+  looking_grows m (Some t) x is = look_grows m (looking_with t x) (look.status (look_of c m t.first) (on (looking_with t x).heard)) is.grows
+
+  marking_grows : (m : Memory) (o : Option Marking) (x : Answered) → Grows c.slots had m → Grows c.slots had (hears_apart c h m o x)
+  marking_grows m None x is = looking_grows m m.looking x is
   marking_grows m (Some t) x is = marked_grows m (marking_with t x) (mark.status (marking_of c h m t.slot) (on (marking_with t x).heard)) is.grows
 
   beaten_grows : (m : Memory) (heard : List beat_answers.Answered) (st : beat.Status) → had ≤ length m.learned → Grows c.slots had (beat_by h m heard st)

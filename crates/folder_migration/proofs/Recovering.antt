@@ -13,7 +13,7 @@ use Rattle.phases.specs.declared.heard.Heard.TheVariants as answer
 use Rattle.slot_log.specs.Shape.{Shape}
 use Rattle.slot_log.specs.layouts.Alone.{IsAnsweredAlone}
 use Rattle.slot_log.specs.layouts.Kept.{Kept, LeadsTo}
-use Rattle.slot_log.specs.layouts.Learning.{Doing, Memory, Operation, fresh, goes_on, begins, says, learns, hears, by_status, with_heard, with_floor, tries_again, takes, judges, judged, after_learning, is_placed, spent_outcome, offered_in, is_idle_in, setup_of}
+use Rattle.slot_log.specs.layouts.Learning.{Doing, Memory, Operation, fresh, goes_on, begins, says, learns, hears, by_status, with_heard, with_floor, tries_again, takes, judges, judged, after_learning, is_placed, offered_in, is_idle_in, setup_of}
 use Rattle.slot_log.specs.declared.operation.Operation.TheVariants.{Recovering}
 use Rattle.slot_log.specs.declared.outcome.LogOutcome.{LogOutcome}
 use Rattle.slot_log.specs.declared.outcome.LogOutcome.TheVariants.{Placed, Recovered, Refused}
@@ -125,9 +125,7 @@ status_nearer c m t ballot (Ended (attempt.Outrun mbal)) n is due room some =
     subst (λ (o : Operation). IsNearer c n (tries_again (with_floor (with_floor m ballot) mbal) o t.tries)) (sym is)
     (tries_nearer c (with_floor (with_floor m ballot) mbal) t.tries n room some)
 status_nearer c m t ballot (Ended attempt.NoMajority) n is due room some = over c n (with_floor m ballot) (Refused refusal.NoMajority) tt some
-status_nearer c m t ballot (Ended attempt.BallotsSpent) n is due room some =
-    subst (λ (o : Operation). IsNearer c n (says (with_floor m ballot) (spent_outcome o (length m.learned)))) (sym is)
-    (over c n (with_floor m ballot) (Refused refusal.BallotsSpent) tt some)
+status_nearer c m t ballot (Ended attempt.BallotsSpent) n is due room some = over c n (with_floor m ballot) (Refused refusal.BallotsSpent) tt some
 
 -- an answer leaves less to do
 hearing_nearer : (c : Shape) (m : Memory) (o : Option Doing) (x : Answered) (n : ℕ) → c.disks ≤ 7 → is_idle_in o ≡ false → GoesWell m o → IsAnsweredAlone Version1 c 0 m o x → left_with c (length m.learned) o ≤ n → IsNearer c n (hears Version1 c 0 m o x)

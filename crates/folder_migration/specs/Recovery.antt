@@ -13,7 +13,7 @@ use Rattle.slot_log.specs.layouts.Kept.{Kept, LeadsTo}
 use Rattle.slot_log.specs.layouts.Learning.{Memory, fresh, goes_on, hears, takes, next_in, offered_in}
 use Rattle.slot_log.specs.declared.operation.Operation.TheVariants.{Recovering}
 use Rattle.slot_log.specs.declared.outcome.LogOutcome.{LogOutcome}
-use Rattle.slot_log.specs.declared.outcome.LogOutcome.TheVariants.{Placed, Recovered, Looked, Refused as Ended}
+use Rattle.slot_log.specs.declared.outcome.LogOutcome.TheVariants.{Placed, Recovered, Refused as Ended}
 use Rattle.lock_command.specs.Command.{spelling}
 use Rattle.lock_command.specs.Old.{IsOld, IsOldSpelling, upgraded}
 use Rattle.lock_command.specs.declared.old.OldCommand.{OldCommand}
@@ -103,7 +103,6 @@ abbrev pub MayEnd : List (List ℕ) → LogOutcome → Type 0
 MayEnd learned (Recovered count) = count ≡ length learned
 MayEnd learned (Ended refusal) = Unit {0}
 MayEnd learned (Placed slot) = ⊥
-MayEnd learned (Looked count) = ⊥
 
 -- It has ended, as it may, and these values stand for those that were learned.
 pub record HasEnded {D : Type 0} (gives : D → Call → Answer → D → Type 0) (c : Shape) (old new : List D) (learned log : List (List ℕ)) (said : Option LogOutcome) : Type 0 where

@@ -7,6 +7,11 @@ use Rattle.marks.specs.declared.end.End as mark_end
 use Rattle.marks.specs.declared.end.End.TheVariants as mark_ends
 use Rattle.marks.specs.Kept as mark_kept
 use Rattle.marks.specs.Status as mark
+use Rattle.looks.specs.declared.notes.Notes as look_notes
+use Rattle.looks.specs.declared.end.End as look_end
+use Rattle.looks.specs.declared.end.End.TheVariants as look_ends
+use Rattle.looks.specs.Kept as look_kept
+use Rattle.looks.specs.Status as look
 use Rattle.std.specs.Option.{option_map}
 use Rattle.std.proofs.lemmas.List.{length-map, map-append, append-nil}
 use Rattle.std.proofs.lemmas.Bool.{and_parts, lt-ltb, le-ltb}
@@ -48,10 +53,10 @@ use Rattle.slot_log.specs.declared.outcome.LogOutcome.TheVariants as outcome
 use Rattle.slot_log.specs.declared.outcome.Refusal.TheVariants as refusal
 use Rattle.host.specs.declared.answer.HostAnswer.{HostAnswer}
 use Rattle.host.specs.declared.answer.HostAnswer.TheVariants.{Ack, Recovered, Looked, Beaten, Marked, Refused}
-use Rattle.host.specs.Alone.{IsAnsweredAlone, IsWithinNine, IsMarkedWithinNine}
-use Rattle.host.specs.Host.{Beats, Memory, Doing, Operation, Submitting, Recovering, Looking, input_of, floor_for, setup_of, says, begins, goes_on, full_answer, spent_answer, learns, takes, after_learning, is_submitted, with_floor, by_status, hears, with_heard, reply_after, hears_from, beat_of, beat_by, with_beats, suggested, is_idle_in, rests, next_in, next_doing, next_beside, Marking, marking_of, marking_by, marking_with, hears_beside, hears_marking, with_marking, starts_marking, spelled}
+use Rattle.host.specs.Alone.{IsAnsweredAlone, IsWithinNine, IsMarkedWithinNine, IsLookedWithinTwo}
+use Rattle.host.specs.Host.{Beats, Memory, Doing, Operation, Submitting, Recovering, input_of, setup_of, says, begins, goes_on, full_answer, learns, takes, after_learning, is_submitted, with_floor, by_status, hears, with_heard, reply_after, hears_from, beat_of, beat_by, with_beats, suggested, is_idle_in, rests, next_in, next_doing, next_beside, Marking, marking_of, marking_by, marking_with, hears_beside, hears_apart, with_marking, starts_marking, spelled, Looking, look_of, look_by, looking_with, hears_look, with_looking, takes_marked, next_marking, next_look}
 use Rattle.host.specs.declared.host_core.HostCore.TheInside.{Inside}
-use Rattle.host.specs.Kept.{Kept, LeadsTo, operation_of, outcome_in, doing_of, values_with, values_of, answer_of, option_list, BeatLeadsTo, MarkingLeadsTo, BeatsAlone, MarksAlone, IsOneAtATime, IsAloneToo, due_in, due_call, has_no_beat, has_no_marking, is_idle}
+use Rattle.host.specs.Kept.{Kept, LeadsTo, operation_of, outcome_in, doing_of, values_with, values_of, answer_of, option_list, BeatLeadsTo, MarkingLeadsTo, LookLeadsTo, BeatsAlone, MarksAlone, LooksAlone, IsOneAtATime, IsAloneToo, IsAlone, due_in, due_call, has_no_beat, has_no_marking, has_no_look, is_idle}
 
 -- ANSWERS
 
@@ -60,7 +65,7 @@ abbrev pub Carries : Option Reply → Option HostAnswer → Type 0
 Carries reply None = Unit {0}
 Carries reply (Some (Ack slot told)) = reply ≡ Some told
 Carries reply (Some (Recovered length)) = Unit {0}
-Carries reply (Some (Looked length)) = Unit {0}
+Carries reply (Some (Looked length)) = ⊥
 Carries reply (Some (Beaten host)) = ⊥
 Carries reply (Some (Marked count)) = ⊥
 Carries reply (Some (Refused refusal)) = Unit {0}
@@ -69,7 +74,7 @@ pub answer_of-outcome_of : (reply : Option Reply) (said : Option HostAnswer) →
 answer_of-outcome_of reply None carries = refl
 answer_of-outcome_of reply (Some (Ack slot told)) carries = ap (answer_of (outcome_in (Some (Ack slot told)))) carries
 answer_of-outcome_of reply (Some (Recovered length)) carries = refl
-answer_of-outcome_of reply (Some (Looked length)) carries = refl
+answer_of-outcome_of reply (Some (Looked length)) carries = absurd carries
 answer_of-outcome_of reply (Some (Beaten host)) carries = absurd carries
 answer_of-outcome_of reply (Some (Marked count)) carries = absurd carries
 answer_of-outcome_of reply (Some (Refused refusal)) carries = refl
@@ -80,13 +85,12 @@ length_same : (m : Memory) → length (map spelling m.learned) ≡ length m.lear
 length_same m = length-map m.learned spelling
 
 abbrev setup_at : Shape → ℕ → Memory → Operation → ℕ → Setup
-setup_at c h m operation slot = record { version = cluster_version; host = h; slot = slot; disks = c.disks; floor = floor_for operation m.floor; input = input_of operation }
+setup_at c h m operation slot = record { version = cluster_version; host = h; slot = slot; disks = c.disks; floor = m.floor; input = input_of operation }
 
 -- it is the same for both
 pub setup_same : (c : Shape) (h : ℕ) (m : Memory) (operation : Operation) → log.setup_of c h (values_of m) (operation_of operation) ≡ setup_of c h m operation
 setup_same c h m (Submitting command) = ap (setup_at c h m (Submitting command)) (length_same m)
 setup_same c h m Recovering = ap (setup_at c h m Recovering) (length_same m)
-setup_same c h m Looking = ap (setup_at c h m Looking) (length_same m)
 
 -- and so is the call that is due
 pub attempt_next : (c : Shape) (h : ℕ) (m : Memory) (said : Option LogOutcome) (o : Option Doing) → m.doing ≡ o → (call : ℕ × device.Call) → log.next_in c h (values_with said m) (option_map doing_of o) ≡ Some call → next_in c h m ≡ Some call
@@ -97,12 +101,6 @@ attempt_next c h m said (Some t) is call next =
 full_same : (operation : Operation) (n : ℕ) → Some (log.full_outcome (operation_of operation) n) ≡ outcome_in (Some (full_answer operation n))
 full_same (Submitting command) n = refl
 full_same Recovering n = refl
-full_same Looking n = refl
-
-spent_same : (operation : Operation) (n : ℕ) → Some (log.spent_outcome (operation_of operation) n) ≡ outcome_in (Some (spent_answer operation n))
-spent_same (Submitting command) n = refl
-spent_same Recovering n = refl
-spent_same Looking n = refl
 
 goes_by_test : (m : Memory) (operation : Operation) (tries n : ℕ) (b : Bool) → (if b then log.begins (values_of m) (operation_of operation) tries else log.says (values_of m) (log.full_outcome (operation_of operation) n)) ≡ values_of (if b then begins m operation tries else says m (full_answer operation n))
 goes_by_test m operation tries n true = refl
@@ -127,12 +125,6 @@ carries_by_test : (reply : Option Reply) (m : Memory) (operation : Operation) (t
 carries_by_test reply m operation tries n true = tt
 carries_by_test reply m (Submitting command) tries n false = tt
 carries_by_test reply m Recovering tries n false = tt
-carries_by_test reply m Looking tries n false = tt
-
-carries_spent : (operation : Operation) (n : ℕ) → Carries None (Some (spent_answer operation n))
-carries_spent (Submitting command) n = tt
-carries_spent Recovering n = tt
-carries_spent Looking n = tt
 
 -- nothing is acknowledged there
 pub carries-goes_on : (reply : Option Reply) (c : Shape) (m : Memory) (operation : Operation) (tries : ℕ) → Carries reply (goes_on c m operation tries).said
@@ -160,9 +152,7 @@ module _ (c : Shape) (m : Memory) (t : Doing) (ballot : ℕ) where
   values_of-by_status last (Ended attempt.Empty) none = ap (λ (n : ℕ). log.says (log.with_floor (values_of m) ballot) (outcome.Recovered n)) (length_same m)
   values_of-by_status last (Ended (attempt.Outrun mbal)) none = tries_by_test (with_floor (with_floor m ballot) mbal) t.operation (t.tries - 1) (nat_le t.tries 1)
   values_of-by_status last (Ended attempt.NoMajority) none = refl
-  values_of-by_status last (Ended attempt.BallotsSpent) none =
-      ap (λ (n : ℕ). log.says (log.with_floor (values_of m) ballot) (log.spent_outcome (operation_of t.operation) n)) (length_same m)
-      ∙ ap (λ (o : Option LogOutcome). record (log.says (log.with_floor (values_of m) ballot) (outcome.Recovered 0)) { said = o }) (spent_same t.operation (length m.learned))
+  values_of-by_status last (Ended attempt.BallotsSpent) none = refl
 
   pub learned-by_status : (st : Status) → offered_by st ≡ None → (by_status c m t ballot st).learned ≡ m.learned
   learned-by_status (Due p d) none = refl
@@ -180,7 +170,7 @@ module _ (c : Shape) (m : Memory) (t : Doing) (ballot : ℕ) where
   carries-by_status (Ended attempt.Empty) none = tt
   carries-by_status (Ended (attempt.Outrun mbal)) none = carries_by_tries (with_floor (with_floor m ballot) mbal) t.operation (t.tries - 1) (nat_le t.tries 1)
   carries-by_status (Ended attempt.NoMajority) none = tt
-  carries-by_status (Ended attempt.BallotsSpent) none = carries_spent t.operation (length m.learned)
+  carries-by_status (Ended attempt.BallotsSpent) none = tt
 
 -- A COMMITTED VALUE
 
@@ -208,7 +198,6 @@ values_of-learns m command value is =
 placed_same : (operation : Operation) (value : List ℕ) → log.is_placed (operation_of operation) value ≡ is_submitted operation value
 placed_same (Submitting command) value = refl
 placed_same Recovering value = refl
-placed_same Looking value = refl
 
 module _ (c : Shape) (m : Memory) (t : Doing) (ballot : ℕ) (value : List ℕ) where
   abbrev after_values : Bool → log.Memory
@@ -374,8 +363,8 @@ module _ (c : Shape) (h : ℕ) (last : Option LogOutcome) (m : Memory) (t : Doin
 
 -- what follows for a host from what follows for its learner
 pub follows : (c : Shape) (h : ℕ) (m : Memory) (l : log.Memory) (k : Kept) (reply : Option Reply) → learners.LeadsTo c h l k.learner → l ≡ values_of m → k.prefix ≡ m.learned → k.said ≡ answer_of k.learner.said reply → Carries reply m.said
-    → option_map (take c.disks) k.readings ≡ m.beats.readings → BeatLeadsTo c h m.beats.heard k.beat → MarkingLeadsTo c h m m.marking k.marking → LeadsTo c h m k
-follows c h m l k reply leads is prefix said carries readings beat marking =
+    → option_map (take c.disks) k.readings ≡ m.beats.readings → BeatLeadsTo c h m.beats.heard k.beat → MarkingLeadsTo c h m m.marking k.marking × LookLeadsTo c m m.looking k.look → LeadsTo c h m k
+follows c h m l k reply leads is prefix said carries readings beat apart =
     let Known : log.Memory → Type 0 = λ n. learners.LeadsTo c h n k.learner in
     let known : learners.LeadsTo c h (values_of m) k.learner = subst Known is leads in
     record {
@@ -384,7 +373,8 @@ follows c h m l k reply leads is prefix said carries readings beat marking =
       said = said ∙ ap (λ (o : Option LogOutcome). answer_of o reply) known.said ∙ answer_of-outcome_of reply m.said carries;
       readings = readings;
       beat = beat;
-      marking = marking;
+      marking = apart.0;
+      looking = apart.1;
     }
 
 -- BEATS STAY
@@ -435,54 +425,77 @@ pub beats_kept : (c : Shape) (h : ℕ) (m new : Memory) (readings : Option Readi
 beats_kept c h m new readings beat same are going =
     (are ∙ ap (λ (b : Beats). b.readings) (sym same), subst (λ (b : Beats). BeatLeadsTo c h b.heard beat) (sym same) going)
 
--- NO MARKING COMES
+-- NO MARKING AND NO LOOK COMES
 
-marking_by_test : (m : Memory) (operation : Operation) (tries n : ℕ) (b : Bool) → (if b then begins m operation tries else says m (full_answer operation n)).marking ≡ m.marking
-marking_by_test m operation tries n true = refl
-marking_by_test m operation tries n false = refl
+-- the marking and the look under way
+abbrev pub apart : Memory → Option Marking × Option Looking
+apart m = (m.marking, m.looking)
 
-pub marking-goes_on : (c : Shape) (m : Memory) (operation : Operation) (tries : ℕ) → (goes_on c m operation tries).marking ≡ m.marking
-marking-goes_on c m operation tries = marking_by_test m operation tries (length m.learned) (nat_lt (length m.learned) c.slots)
+apart_by_test : (m : Memory) (operation : Operation) (tries n : ℕ) (b : Bool) → apart (if b then begins m operation tries else says m (full_answer operation n)) ≡ apart m
+apart_by_test m operation tries n true = refl
+apart_by_test m operation tries n false = refl
 
-marking_by_tries : (m : Memory) (operation : Operation) (tries : ℕ) (b : Bool) → (if b then says m (Refused refusal.Outrun) else begins m operation tries).marking ≡ m.marking
-marking_by_tries m operation tries true = refl
-marking_by_tries m operation tries false = refl
+pub apart-goes_on : (c : Shape) (m : Memory) (operation : Operation) (tries : ℕ) → apart (goes_on c m operation tries) ≡ apart m
+apart-goes_on c m operation tries = apart_by_test m operation tries (length m.learned) (nat_lt (length m.learned) c.slots)
+
+apart_by_tries : (m : Memory) (operation : Operation) (tries : ℕ) (b : Bool) → apart (if b then says m (Refused refusal.Outrun) else begins m operation tries) ≡ apart m
+apart_by_tries m operation tries true = refl
+apart_by_tries m operation tries false = refl
 
 module _ (c : Shape) (m : Memory) (t : Doing) (ballot : ℕ) where
-  marking_after : (command : Command) (placed : Bool) → (after_learning c m t command placed).marking ≡ m.marking
-  marking_after command true = refl
-  marking_after command false = marking-goes_on c (learns m command) t.operation t.tries
+  apart_after : (command : Command) (placed : Bool) → apart (after_learning c m t command placed) ≡ apart m
+  apart_after command true = refl
+  apart_after command false = apart-goes_on c (learns m command) t.operation t.tries
 
-  marking-takes : (value : List ℕ) (o : Option Command) → (takes c m t ballot value o).marking ≡ m.marking
-  marking-takes value None = refl
-  marking-takes value (Some command) = marking_after command (is_submitted t.operation value)
+  apart-takes : (value : List ℕ) (o : Option Command) → apart (takes c m t ballot value o) ≡ apart m
+  apart-takes value None = refl
+  apart-takes value (Some command) = apart_after command (is_submitted t.operation value)
 
-  marking-by_status : (st : Status) → (by_status c m t ballot st).marking ≡ m.marking
-  marking-by_status (Due p d) = refl
-  marking-by_status (Ended (attempt.Committed value)) = marking-takes value (decoded value)
-  marking-by_status (Ended (attempt.Decided value)) = marking-takes value (decoded value)
-  marking-by_status (Ended attempt.Empty) = refl
-  marking-by_status (Ended (attempt.Outrun mbal)) = marking_by_tries (with_floor (with_floor m ballot) mbal) t.operation (t.tries - 1) (nat_le t.tries 1)
-  marking-by_status (Ended attempt.NoMajority) = refl
-  marking-by_status (Ended attempt.BallotsSpent) = refl
+  apart-by_status : (st : Status) → apart (by_status c m t ballot st) ≡ apart m
+  apart-by_status (Due p d) = refl
+  apart-by_status (Ended (attempt.Committed value)) = apart-takes value (decoded value)
+  apart-by_status (Ended (attempt.Decided value)) = apart-takes value (decoded value)
+  apart-by_status (Ended attempt.Empty) = refl
+  apart-by_status (Ended (attempt.Outrun mbal)) = apart_by_tries (with_floor (with_floor m ballot) mbal) t.operation (t.tries - 1) (nat_le t.tries 1)
+  apart-by_status (Ended attempt.NoMajority) = refl
+  apart-by_status (Ended attempt.BallotsSpent) = refl
 
-pub marking_heard : (c : Shape) (h : ℕ) (m : Memory) (o : Option Doing) (x : Answered) → (hears c h m o x).marking ≡ m.marking
-marking_heard c h m None x = refl
-marking_heard c h m (Some t) x =
+pub apart_heard : (c : Shape) (h : ℕ) (m : Memory) (o : Option Doing) (x : Answered) → apart (hears c h m o x) ≡ apart m
+apart_heard c h m None x = refl
+apart_heard c h m (Some t) x =
     let s = setup_of c h m t.operation in
     let told = with_heard t x in
-    marking-by_status c m told (taken s (on told.heard)) (status s (on told.heard))
+    apart-by_status c m told (taken s (on told.heard)) (status s (on told.heard))
 
 -- where none is kept, none is under way
 pub no_marking : (c : Shape) (h : ℕ) (m : Memory) (o : Option Marking) → MarkingLeadsTo c h m o None → o ≡ None
 no_marking c h m None leads = refl
 no_marking c h m (Some t) leads = absurd leads
 
+pub no_looking : (c : Shape) (m : Memory) (o : Option Looking) → LookLeadsTo c m o None → o ≡ None
+no_looking c m None leads = refl
+no_looking c m (Some t) leads = absurd leads
+
+none_marked : (c : Shape) (h : ℕ) (m : Memory) (o : Option Marking) (kept : Option mark_notes.Notes) → kept ≡ None → o ≡ None → MarkingLeadsTo c h m o kept
+none_marked c h m o kept none same = subst (MarkingLeadsTo c h m o) (sym none) (subst (λ (t : Option Marking). MarkingLeadsTo c h m t None) (sym same) tt)
+
+none_looked : (c : Shape) (m : Memory) (o : Option Looking) (kept : Option look_notes.Notes) → kept ≡ None → o ≡ None → LookLeadsTo c m o kept
+none_looked c m o kept none same = subst (LookLeadsTo c m o) (sym none) (subst (λ (t : Option Looking). LookLeadsTo c m t None) (sym same) tt)
+
 -- and so it stays
-pub none_marked : (c : Shape) (h : ℕ) (m new : Memory) (kept : Option mark_notes.Notes) → kept ≡ None → new.marking ≡ m.marking → MarkingLeadsTo c h m m.marking kept → MarkingLeadsTo c h new new.marking kept
-none_marked c h m new kept none same leads =
-    let there : new.marking ≡ None = same ∙ no_marking c h m m.marking (subst (MarkingLeadsTo c h m m.marking) none leads) in
-    subst (MarkingLeadsTo c h new new.marking) (sym none) (subst (λ (o : Option Marking). MarkingLeadsTo c h new o None) (sym there) tt)
+pub none_apart : (c : Shape) (h : ℕ) (m new : Memory) (marking : Option mark_notes.Notes) (look : Option look_notes.Notes) → marking ≡ None → look ≡ None → apart new ≡ apart m → MarkingLeadsTo c h m m.marking marking → LookLeadsTo c m m.looking look
+    → MarkingLeadsTo c h new new.marking marking × LookLeadsTo c new new.looking look
+none_apart c h m new marking look unmarked unlooked same marks looks = (
+  none_marked c h new new.marking marking unmarked (ap (λ (p : Option Marking × Option Looking). p.0) same ∙ no_marking c h m m.marking (subst (MarkingLeadsTo c h m m.marking) unmarked marks)),
+  none_looked c new new.looking look unlooked (ap (λ (p : Option Marking × Option Looking). p.1) same ∙ no_looking c m m.looking (subst (LookLeadsTo c m m.looking) unlooked looks)),
+)
+
+-- what is kept of a look goes by how many commands were learned
+pub looking_still : (c : Shape) (m new : Memory) (o : Option Looking) (kept : Option look_notes.Notes) → new.learned ≡ m.learned → LookLeadsTo c m o kept → LookLeadsTo c new o kept
+looking_still c m new None None same leads = tt
+looking_still c m new (Some t) (Some notes) same leads = subst (λ (l : List Command). look_kept.LeadsTo (record { slot = length l; disks = c.disks; first = t.first }) t.heard notes) (sym same) leads
+looking_still c m new None (Some notes) same leads = absurd leads
+looking_still c m new (Some t) None same leads = absurd leads
 
 -- what is kept of a marking goes by what was learned
 pub marking_still : (c : Shape) (h : ℕ) (m : Memory) (bs : Beats) (said : Option HostAnswer) (o : Option Marking) (kept : Option mark_notes.Notes) → MarkingLeadsTo c h m o kept → MarkingLeadsTo c h (with_beats m bs said) o kept
@@ -509,12 +522,15 @@ and_true : (b : Bool) → (b && true) ≡ false → b ≡ false
 and_true true is = is
 and_true false is = refl
 
--- with no beat and no marking under way the learner is busy
-pub attempt_busy : (learner : learners.Kept) (beat : Option beat_notes.Notes) (marking : Option mark_notes.Notes) → beat ≡ None → marking ≡ None → (learners.is_idle learner && has_no_beat beat && has_no_marking marking) ≡ false → learners.is_idle learner ≡ false
-attempt_busy learner beat marking none none_too busy =
-    let plain : (learners.is_idle learner && true && true) ≡ false =
-    subst (λ (k : Option mark_notes.Notes). (learners.is_idle learner && true && has_no_marking k) ≡ false) none_too (subst (λ (b : Option beat_notes.Notes). (learners.is_idle learner && has_no_beat b && has_no_marking marking) ≡ false) none busy) in
-    and_true (learners.is_idle learner) (and_true (learners.is_idle learner && true) plain)
+-- with no beat, no marking and no look under way the learner is busy
+pub attempt_busy : (learner : learners.Kept) (beat : Option beat_notes.Notes) (marking : Option mark_notes.Notes) (look : Option look_notes.Notes) → beat ≡ None → marking ≡ None → look ≡ None
+    → (learners.is_idle learner && has_no_beat beat && has_no_marking marking && has_no_look look) ≡ false → learners.is_idle learner ≡ false
+attempt_busy learner beat marking look resting unmarking unlooking busy =
+    let plain : (learners.is_idle learner && true && true && true) ≡ false =
+    subst (λ (k : Option look_notes.Notes). (learners.is_idle learner && true && true && has_no_look k) ≡ false) unlooking
+    (subst (λ (k : Option mark_notes.Notes). (learners.is_idle learner && true && has_no_marking k && has_no_look look) ≡ false) unmarking
+    (subst (λ (b : Option beat_notes.Notes). (learners.is_idle learner && has_no_beat b && has_no_marking marking && has_no_look look) ≡ false) resting busy)) in
+    and_true (learners.is_idle learner) (and_true (learners.is_idle learner && true) (and_true (learners.is_idle learner && true && true) plain))
 
 idle_with : (c : Shape) (h : ℕ) (m : log.Memory) (o : Option Doing) (task : Option LogTask) (a : Notes) → AreDoing c h m (option_map doing_of o) task a → is_idle_with task ≡ true → o ≡ None
 idle_with c h m (Some t) (Some task) a are idle = absurd (cc)
@@ -533,16 +549,23 @@ unmarked_by c h m (Some t) (Some notes) going = refl
 unmarked_by c h m None (Some notes) going = absurd going
 unmarked_by c h m (Some t) None going = absurd going
 
-idle_by : (c : Shape) (h : ℕ) (m : Memory) (l : log.Memory) (o : Option Doing) (task : Option LogTask) (a : Notes) (beat : Option beat_notes.Notes) (marking : Option mark_notes.Notes) → AreDoing c h l (option_map doing_of o) task a → BeatLeadsTo c h m.beats.heard beat → MarkingLeadsTo c h m m.marking marking
-    → (is_idle_with task && has_no_beat beat && has_no_marking marking) ≡ is_idle_in m o
-idle_by c h m l None None a beat marking are going marks = ap₂ (λ (x y : Bool). x && y) (rests_by c h m.beats.heard beat going) (unmarked_by c h m m.marking marking marks)
-idle_by c h m l (Some t) (Some task) a beat marking are going marks = refl
-idle_by c h m l None (Some task) a beat marking are going marks = absurd are
-idle_by c h m l (Some t) None a beat marking are going marks = absurd are
+unlooked_by : (c : Shape) (m : Memory) (o : Option Looking) (look : Option look_notes.Notes) → LookLeadsTo c m o look → has_no_look look ≡ not (is_some o)
+unlooked_by c m None None going = refl
+unlooked_by c m (Some t) (Some notes) going = refl
+unlooked_by c m None (Some notes) going = absurd going
+unlooked_by c m (Some t) None going = absurd going
+
+idle_by : (c : Shape) (h : ℕ) (m : Memory) (l : log.Memory) (o : Option Doing) (task : Option LogTask) (a : Notes) (beat : Option beat_notes.Notes) (marking : Option mark_notes.Notes) (look : Option look_notes.Notes) → AreDoing c h l (option_map doing_of o) task a
+    → BeatLeadsTo c h m.beats.heard beat → MarkingLeadsTo c h m m.marking marking → LookLeadsTo c m m.looking look → (is_idle_with task && has_no_beat beat && has_no_marking marking && has_no_look look) ≡ is_idle_in m o
+idle_by c h m l None None a beat marking look are going marks looks =
+    ap₂ (λ (x y : Bool). x && y) (ap₂ (λ (x y : Bool). x && y) (rests_by c h m.beats.heard beat going) (unmarked_by c h m m.marking marking marks)) (unlooked_by c m m.looking look looks)
+idle_by c h m l (Some t) (Some task) a beat marking look are going marks looks = refl
+idle_by c h m l None (Some task) a beat marking look are going marks looks = absurd are
+idle_by c h m l (Some t) None a beat marking look are going marks looks = absurd are
 
 -- the host is idle where what is kept of it is
 pub idle_is : (c : Shape) (h : ℕ) (m : Memory) (k : Kept) → LeadsTo c h m k → is_idle k ≡ is_idle_in m m.doing
-idle_is c h m k is = idle_by c h m (values_with k.learner.said m) m.doing k.learner.task k.learner.attempt k.beat k.marking is.learner.doing is.beat is.marking
+idle_is c h m k is = idle_by c h m (values_with k.learner.said m) m.doing k.learner.task k.learner.attempt k.beat k.marking k.look is.learner.doing is.beat is.marking is.looking
 
 -- where the learner is idle no attempt is under way
 pub idle_doing : (c : Shape) (h : ℕ) (m : Memory) (k : learners.Kept) → learners.LeadsTo c h (values_with k.said m) k → learners.is_idle k ≡ true → m.doing ≡ None
@@ -586,7 +609,7 @@ heard_by c h (Some heard) b going = (heard, refl, going)
 
 -- what is kept in the fields
 abbrev pub kept_in : Inside → Kept
-kept_in p = record { learner = p.learner; prefix = p.prefix.items; said = p.said; beat = p.beat; readings = p.readings; marking = p.marking }
+kept_in p = record { learner = p.learner; prefix = p.prefix.items; said = p.said; beat = p.beat; readings = p.readings; marking = p.marking; look = p.look }
 
 -- The fields are what is kept, and a beat is under way.
 module _ (c : Shape) (h : ℕ) (m : Memory) (p : Inside) (view : Kept) (shown : kept_in p ≡ view) (b : beat_notes.Notes) (beats : p.beat ≡ Some b) (one : IsOneAtATime p.learner p.beat) (led : LeadsTo c h m view) (answer : code_heard.Heard (List ℕ)) where
@@ -618,7 +641,7 @@ module _ (c : Shape) (h : ℕ) (m : Memory) (p : Inside) (view : Kept) (shown : 
   of_beat : (new : Kept) (n : Memory) → beat_by h m heard behind ≡ n → LeadsTo c h n new → LeadsTo c h (hears_from c h m m.doing (due_call view).0 (device_answer answer)) new
   of_beat new n comes leads_on =
       subst (λ (v : Kept). LeadsTo c h (hears_from c h m m.doing (due_call v).0 (device_answer answer)) new) shown
-      (subst (λ (o : Option beat_notes.Notes). LeadsTo c h (hears_from c h m m.doing (due_in k.learner o k.marking).0 (device_answer answer)) new) (sym beats)
+      (subst (λ (o : Option beat_notes.Notes). LeadsTo c h (hears_from c h m m.doing (due_in k.learner o k.marking k.look).0 (device_answer answer)) new) (sym beats)
       (subst (λ (o : Memory). LeadsTo c h o new) (sym (heard_is ∙ comes)) leads_on))
 
   -- the call that is due is the beat's
@@ -642,6 +665,9 @@ module _ (c : Shape) (h : ℕ) (m : Memory) (p : Inside) (view : Kept) (shown : 
   marking_on : (bs : Beats) (said : Option HostAnswer) → MarkingLeadsTo c h (with_beats m bs said) m.marking k.marking
   marking_on bs said = marking_still c h m bs said m.marking k.marking leads.marking
 
+  looking_on : (bs : Beats) (said : Option HostAnswer) → LookLeadsTo c (with_beats m bs said) m.looking k.look
+  looking_on bs said = looking_still c m (with_beats m bs said) m.looking k.look refl leads.looking
+
   module _ (new : beat_notes.Notes) (heard_leads : (s : beat.Setup) (answers : List beat_answers.Answered) → beat_kept.LeadsTo s answers b → beat_kept.LeadsTo s (answers ++ beat_kept.answer_of b answer ∷ []) new) (same : beat_kept.IsSameBeat b new)
       (end : Option code_end.End) (ended : (s : beat.Setup) (answers : List beat_answers.Answered) → beat_kept.LeadsTo s answers new → option_map (beat_kept.end_of new) end ≡ beat_kept.end_of_status (beat.status s (beat_answers.on answers))) where
     leads_then : beat_kept.LeadsTo (beat_of c h) heard new
@@ -651,21 +677,21 @@ module _ (c : Shape) (h : ℕ) (m : Memory) (p : Inside) (view : Kept) (shown : 
     end_is = ended (beat_of c h) heard leads_then
 
     -- a call is due
-    pub beat_goes : end ≡ None → LeadsTo c h (hears_from c h m m.doing (due_call view).0 (device_answer answer)) (record { learner = k.learner; prefix = k.prefix; said = None; beat = Some new; readings = k.readings; marking = k.marking })
+    pub beat_goes : end ≡ None → LeadsTo c h (hears_from c h m m.doing (due_call view).0 (device_answer answer)) (record { learner = k.learner; prefix = k.prefix; said = None; beat = Some new; readings = k.readings; marking = k.marking; look = k.look })
     beat_goes is_none =
         let due = is_due behind (sym (ap (option_map (beat_kept.end_of new)) is_none) ∙ end_is) in
         of_beat _ (beat_by h m heard (beat.Due due.0)) (ap (beat_by h m heard) due.1)
-        (record { learner = learner_still (record { readings = m.beats.readings; heard = Some heard }) None; prefix = leads.prefix; said = refl; readings = leads.readings; beat = leads_then; marking = marking_on (record { readings = m.beats.readings; heard = Some heard }) None })
+        (record { learner = learner_still (record { readings = m.beats.readings; heard = Some heard }) None; prefix = leads.prefix; said = refl; readings = leads.readings; beat = leads_then; marking = marking_on (record { readings = m.beats.readings; heard = Some heard }) None; looking = looking_on (record { readings = m.beats.readings; heard = Some heard }) None })
 
     -- it has ended
-    pub beat_fails : end ≡ Some code_ends.NoMajority → LeadsTo c h (hears_from c h m m.doing (due_call view).0 (device_answer answer)) (record { learner = k.learner; prefix = k.prefix; said = Some (Refused refusal.NoMajority); beat = None; readings = k.readings; marking = k.marking })
+    pub beat_fails : end ≡ Some code_ends.NoMajority → LeadsTo c h (hears_from c h m m.doing (due_call view).0 (device_answer answer)) (record { learner = k.learner; prefix = k.prefix; said = Some (Refused refusal.NoMajority); beat = None; readings = k.readings; marking = k.marking; look = k.look })
     beat_fails is_end =
         let over = is_ended behind beat.NoMajority (sym (ap (option_map (beat_kept.end_of new)) is_end) ∙ end_is) in
         of_beat _ (beat_by h m heard (beat.Ended beat.NoMajority)) (ap (beat_by h m heard) over)
-        (record { learner = learner_still (record { readings = m.beats.readings; heard = None }) (Some (Refused refusal.NoMajority)); prefix = leads.prefix; said = refl; readings = leads.readings; beat = tt; marking = marking_on (record { readings = m.beats.readings; heard = None }) (Some (Refused refusal.NoMajority)) })
+        (record { learner = learner_still (record { readings = m.beats.readings; heard = None }) (Some (Refused refusal.NoMajority)); prefix = leads.prefix; said = refl; readings = leads.readings; beat = tt; marking = marking_on (record { readings = m.beats.readings; heard = None }) (Some (Refused refusal.NoMajority)); looking = looking_on (record { readings = m.beats.readings; heard = None }) (Some (Refused refusal.NoMajority)) })
 
     pub beat_ends : end ≡ Some code_ends.Beaten → (after : Readings) → after ≡ new.readings → (host : ℕ) → host ≡ suggested k.learner.host (option_map (take k.learner.shape.disks) k.readings) (take k.learner.shape.disks after)
-        → LeadsTo c h (hears_from c h m m.doing (due_call view).0 (device_answer answer)) (record { learner = k.learner; prefix = k.prefix; said = Some (Beaten host); beat = None; readings = Some after; marking = k.marking })
+        → LeadsTo c h (hears_from c h m m.doing (due_call view).0 (device_answer answer)) (record { learner = k.learner; prefix = k.prefix; said = Some (Beaten host); beat = None; readings = Some after; marking = k.marking; look = k.look })
     beat_ends is_end after after_is host host_is =
         let over = is_ended behind (beat.Beaten (beat_kept.readings_of new)) (sym (ap (option_map (beat_kept.end_of new)) is_end) ∙ end_is) in
         let shape : k.learner.shape ≡ c = leads.learner.shape in
@@ -685,12 +711,13 @@ module _ (c : Shape) (h : ℕ) (m : Memory) (p : Inside) (view : Kept) (shown : 
           readings = ap Some read;
           beat = tt;
           marking = marking_on (record { readings = Some (beat_kept.readings_of new); heard = None }) (Some (Beaten (suggested h m.beats.readings (beat_kept.readings_of new))));
+          looking = looking_on (record { readings = Some (beat_kept.readings_of new); heard = None }) (Some (Beaten (suggested h m.beats.readings (beat_kept.readings_of new))));
         })
 
 -- AN ATTEMPT GOES ON
 
--- The fields are what is kept, and an operation is carried out, with no beat and no marking under way.
-module _ (c : Shape) (h : ℕ) (m : Memory) (p : Inside) (view : Kept) (shown : kept_in p ≡ view) (resting : view.beat ≡ None) (unmarking : view.marking ≡ None) (busy : is_idle view ≡ false) (led : LeadsTo c h m view) where
+-- The fields are what is kept, and an operation is carried out, with no beat, no marking and no look under way.
+module _ (c : Shape) (h : ℕ) (m : Memory) (p : Inside) (view : Kept) (shown : kept_in p ≡ view) (resting : view.beat ≡ None) (unmarking : view.marking ≡ None) (unlooking : view.look ≡ None) (busy : is_idle view ≡ false) (led : LeadsTo c h m view) where
   pub attempt_known : LeadsTo c h m (kept_in p)
   attempt_known = subst (λ (v : Kept). LeadsTo c h m v) (sym shown) led
 
@@ -700,12 +727,19 @@ module _ (c : Shape) (h : ℕ) (m : Memory) (p : Inside) (view : Kept) (shown : 
   pub unmarked : p.marking ≡ None
   unmarked = ap (λ (v : Kept). v.marking) shown ∙ unmarking
 
+  pub unlooked : p.look ≡ None
+  unlooked = ap (λ (v : Kept). v.look) shown ∙ unlooking
+
   pub attempt_doing : (t : Doing) × (m.doing ≡ Some t)
-  attempt_doing = busy_doing c h m p.learner attempt_known.learner (attempt_busy p.learner p.beat p.marking no_beat unmarked (ap is_idle shown ∙ busy))
+  attempt_doing = busy_doing c h m p.learner attempt_known.learner (attempt_busy p.learner p.beat p.marking p.look no_beat unmarked unlooked (ap is_idle shown ∙ busy))
 
   -- the disk that is due is the learner's
-  pub attempt_due : (P : ℕ → Type 0) → P (due_in p.learner None None).0 → P (due_call view).0
-  attempt_due P holds = subst (λ (v : Kept). P (due_call v).0) shown (subst (λ (b : Option beat_notes.Notes). P (due_in p.learner b p.marking).0) (sym no_beat) (subst (λ (k : Option mark_notes.Notes). P (due_in p.learner None k).0) (sym unmarked) holds))
+  pub attempt_due : (P : ℕ → Type 0) → P (due_in p.learner None None None).0 → P (due_call view).0
+  attempt_due P holds =
+      subst (λ (v : Kept). P (due_call v).0) shown
+      (subst (λ (b : Option beat_notes.Notes). P (due_in p.learner b p.marking p.look).0) (sym no_beat)
+      (subst (λ (k : Option mark_notes.Notes). P (due_in p.learner None k p.look).0) (sym unmarked)
+      (subst (λ (k : Option look_notes.Notes). P (due_in p.learner None None k).0) (sym unlooked) holds)))
 
   pub attempt_alone : (answer : Heard) → ((n : log.Memory) → learners.LeadsTo c h n p.learner → log_alone.IsAnsweredAlone c h n n.doing (record { disk = p.learner.attempt.disk; heard = answer })) → IsAnsweredAlone c h m m.doing (record { disk = (due_call view).0; heard = answer })
   attempt_alone answer served = attempt_due (λ d. IsAnsweredAlone c h m m.doing (record { disk = d; heard = answer })) (alone c h m p.learner answer attempt_known.learner served)
@@ -764,15 +798,15 @@ module _ (c : Shape) (h : ℕ) (m : Memory) (p : Inside) (view : Kept) (shown : 
   marking_is =
       ap (λ (o : Option Doing). hears_from c h m o b.disk (device_answer answer)) no_doing
       ∙ ap (λ (o : Option (List beat_answers.Answered)). hears_beside c h m o b.disk (device_answer answer)) no_beats
-      ∙ ap (λ (o : Option Marking). hears_marking c h m o (record { disk = b.disk; heard = heard_as (device_answer answer) })) marking.1
+      ∙ ap (λ (o : Option Marking). hears_apart c h m o (record { disk = b.disk; heard = heard_as (device_answer answer) })) marking.1
       ∙ ap (λ (y : Heard). marking_by m (marking_with marking.0 (record { disk = b.disk; heard = y })) (mark.status mark_setup (on (marking_with marking.0 (record { disk = b.disk; heard = y })).heard))) (sym (heard_same answer))
 
   -- the host hears what the marking hears
   of_marking : (new : Kept) (n : Memory) → marking_by m behind_it mark_stands ≡ n → LeadsTo c h n new → LeadsTo c h (hears_from c h m m.doing (due_call view).0 (device_answer answer)) new
   of_marking new n comes leads_on =
       subst (λ (v : Kept). LeadsTo c h (hears_from c h m m.doing (due_call v).0 (device_answer answer)) new) shown
-      (subst (λ (o : Option beat_notes.Notes). LeadsTo c h (hears_from c h m m.doing (due_in mk.learner o mk.marking).0 (device_answer answer)) new) (sym marks_alone.resting)
-      (subst (λ (o : Option mark_notes.Notes). LeadsTo c h (hears_from c h m m.doing (due_in mk.learner None o).0 (device_answer answer)) new) (sym marks)
+      (subst (λ (o : Option beat_notes.Notes). LeadsTo c h (hears_from c h m m.doing (due_in mk.learner o mk.marking mk.look).0 (device_answer answer)) new) (sym marks_alone.resting)
+      (subst (λ (o : Option mark_notes.Notes). LeadsTo c h (hears_from c h m m.doing (due_in mk.learner None o mk.look).0 (device_answer answer)) new) (sym marks)
       (subst (λ (o : Memory). LeadsTo c h o new) (sym (marking_is ∙ comes)) leads_on)))
 
   -- no attempt is under way
@@ -789,6 +823,9 @@ module _ (c : Shape) (h : ℕ) (m : Memory) (p : Inside) (view : Kept) (shown : 
   learner_on o said =
       subst (λ (t : Option Doing). learners.LeadsTo c h (record { learned = map spelling m.learned; floor = m.floor; doing = option_map doing_of t; said = mk.learner.said }) mk.learner) no_doing mark_led.learner
 
+  look_on : (o : Option Marking) (said : Option HostAnswer) → LookLeadsTo c (with_marking m o said) m.looking mk.look
+  look_on o said = looking_still c m (with_marking m o said) m.looking mk.look refl mark_led.looking
+
   module _ (new : mark_notes.Notes) (heard_leads : (s : mark.Setup) (answers : List Answered) → mark_kept.LeadsTo s answers b → mark_kept.LeadsTo s (answers ++ mark_kept.answer_of b answer ∷ []) new)
       (end : Option mark_end.End) (ended : (s : mark.Setup) (answers : List Answered) → mark_kept.LeadsTo s answers new → option_map mark_kept.end_of end ≡ mark_kept.end_of_status (mark.status s (on answers))) where
     marked_then : mark_kept.LeadsTo mark_setup behind_it.heard new
@@ -798,38 +835,52 @@ module _ (c : Shape) (h : ℕ) (m : Memory) (p : Inside) (view : Kept) (shown : 
     mark_end_is = ended mark_setup behind_it.heard marked_then
 
     -- a call is due
-    pub marking_goes : end ≡ None → LeadsTo c h (hears_from c h m m.doing (due_call view).0 (device_answer answer)) (record { learner = mk.learner; prefix = mk.prefix; said = None; beat = mk.beat; readings = mk.readings; marking = Some new })
+    pub marking_goes : end ≡ None → LeadsTo c h (hears_from c h m m.doing (due_call view).0 (device_answer answer)) (record { learner = mk.learner; prefix = mk.prefix; said = None; beat = mk.beat; readings = mk.readings; marking = Some new; look = mk.look })
     marking_goes is_none =
         let due = is_marking_due mark_stands (sym (ap (option_map mark_kept.end_of) is_none) ∙ mark_end_is) in
         of_marking _ (marking_by m behind_it (mark.Due due.0)) (ap (marking_by m behind_it) due.1)
-        (record { learner = learner_on (Some behind_it) None; prefix = mark_led.prefix; said = refl; readings = mark_led.readings; beat = mark_led.beat; marking = marked_then })
+        (record { learner = learner_on (Some behind_it) None; prefix = mark_led.prefix; said = refl; readings = mark_led.readings; beat = mark_led.beat; marking = marked_then; looking = look_on (Some behind_it) None })
 
     -- it has ended
-    pub marking_fails : end ≡ Some mark_ends.NoMajority → LeadsTo c h (hears_from c h m m.doing (due_call view).0 (device_answer answer)) (record { learner = mk.learner; prefix = mk.prefix; said = Some (Refused refusal.NoMajority); beat = mk.beat; readings = mk.readings; marking = None })
+    pub marking_fails : end ≡ Some mark_ends.NoMajority → LeadsTo c h (hears_from c h m m.doing (due_call view).0 (device_answer answer)) (record { learner = mk.learner; prefix = mk.prefix; said = Some (Refused refusal.NoMajority); beat = mk.beat; readings = mk.readings; marking = None; look = mk.look })
     marking_fails is_end =
         let over = is_marking_over mark_stands mark.NoMajority (sym (ap (option_map mark_kept.end_of) is_end) ∙ mark_end_is) in
         of_marking _ (marking_by m behind_it (mark.Ended mark.NoMajority)) (ap (marking_by m behind_it) over)
-        (record { learner = learner_on None (Some (Refused refusal.NoMajority)); prefix = mark_led.prefix; said = refl; readings = mark_led.readings; beat = mark_led.beat; marking = tt })
+        (record { learner = learner_on None (Some (Refused refusal.NoMajority)); prefix = mark_led.prefix; said = refl; readings = mark_led.readings; beat = mark_led.beat; marking = tt; looking = look_on None (Some (Refused refusal.NoMajority)) })
 
-    pub marking_ends : (count : ℕ) → end ≡ Some (mark_ends.Marked count) → LeadsTo c h (hears_from c h m m.doing (due_call view).0 (device_answer answer)) (record { learner = mk.learner; prefix = mk.prefix; said = Some (Marked count); beat = mk.beat; readings = mk.readings; marking = None })
+    pub marking_ends : (count : ℕ) → end ≡ Some (mark_ends.Marked count) → LeadsTo c h (hears_from c h m m.doing (due_call view).0 (device_answer answer)) (record { learner = mk.learner; prefix = mk.prefix; said = Some (Marked count); beat = mk.beat; readings = mk.readings; marking = None; look = mk.look })
     marking_ends count is_end =
         let over = is_marking_over mark_stands (mark.Marked count) (sym (ap (option_map mark_kept.end_of) is_end) ∙ mark_end_is) in
         of_marking _ (marking_by m behind_it (mark.Ended (mark.Marked count))) (ap (marking_by m behind_it) over)
-        (record { learner = learner_on None (Some (Marked count)); prefix = mark_led.prefix; said = refl; readings = mark_led.readings; beat = mark_led.beat; marking = tt })
+        (record { learner = learner_on None (Some (Marked count)); prefix = mark_led.prefix; said = refl; readings = mark_led.readings; beat = mark_led.beat; marking = tt; looking = look_on None (Some (Marked count)) })
 
 -- AN IDLE HOST
-
-and_parts_too : (a b : Bool) → (a && b) ≡ true → b ≡ true
-and_parts_too true b is = is
-and_parts_too false b is = absurd (cc)
 
 none_kept : (o : Option mark_notes.Notes) → has_no_marking o ≡ true → o ≡ None
 none_kept None is = refl
 none_kept (Some notes) is = absurd (cc)
 
--- it marks nothing
-pub idle_unmarked : (k : Kept) → is_idle k ≡ true → k.marking ≡ None
-idle_unmarked k idle = none_kept k.marking (and_parts_too (learners.is_idle k.learner && has_no_beat k.beat) (has_no_marking k.marking) idle)
+none_looks : (o : Option look_notes.Notes) → has_no_look o ≡ true → o ≡ None
+none_looks None is = refl
+none_looks (Some notes) is = absurd (cc)
+
+none_beats : (o : Option beat_notes.Notes) → has_no_beat o ≡ true → o ≡ None
+none_beats None is = refl
+none_beats (Some notes) is = absurd (cc)
+
+-- nothing is under way
+pub record Idles (k : Kept) : Type 0 where
+  pub learner : learners.is_idle k.learner ≡ true
+  pub beat : k.beat ≡ None
+  pub marking : k.marking ≡ None
+  pub look : k.look ≡ None
+
+pub idles : (k : Kept) → is_idle k ≡ true → Idles k
+idles k idle =
+    let last = and_parts (learners.is_idle k.learner && has_no_beat k.beat && has_no_marking k.marking) (has_no_look k.look) idle in
+    let third = and_parts (learners.is_idle k.learner && has_no_beat k.beat) (has_no_marking k.marking) last.0 in
+    let second = and_parts (learners.is_idle k.learner) (has_no_beat k.beat) third.0 in
+    record { learner = second.0; beat = none_beats k.beat second.1; marking = none_kept k.marking third.1; look = none_looks k.look last.1 }
 
 -- A MARKING BEGINS
 
@@ -846,7 +897,7 @@ starts_by c h m k slot t is so leads =
 module _ (c : Shape) (h : ℕ) (m : Memory) (k : Kept) (slot host disks : ℕ) (value : List ℕ) (b : mark_notes.Notes) (leads : LeadsTo c h m k) (idle : is_idle k ≡ true) (inside : slot < length k.learner.learned) (value_is : value ≡ get_or k.learner.learned slot value) (host_is : host ≡ k.learner.host) (disks_are : disks ≡ k.learner.shape.disks)
     (begun : mark_kept.LeadsTo (record { host = host; slot = slot; disks = disks; value = value }) [] b) where
   learner_idle : learners.is_idle k.learner ≡ true
-  learner_idle = (and_parts (learners.is_idle k.learner) (has_no_beat k.beat) (and_parts (learners.is_idle k.learner && has_no_beat k.beat) (has_no_marking k.marking) idle).0).0
+  learner_idle = (idles k idle).learner
 
   no_operation : m.doing ≡ None
   no_operation = idle_doing c h m k.learner leads.learner learner_idle
@@ -872,14 +923,14 @@ module _ (c : Shape) (h : ℕ) (m : Memory) (k : Kept) (slot host disks : ℕ) (
         readings = leads.readings;
         beat = leads.beat;
         marking = subst (λ (s : mark.Setup). mark_kept.LeadsTo s [] b) setup_is begun;
+        looking = looking_still c m (with_marking m (Some (record { slot = slot; heard = [] })) None) m.looking k.look refl leads.looking;
       })
 
 module _ (c : Shape) (h : ℕ) (m : Memory) (k : Kept) (slot : ℕ) (leads : LeadsTo c h m k) (idle : is_idle k ≡ true) (beyond : length k.learner.learned ≤ slot) where
   -- or of none, which is refused
   pub refuses_marking : LeadsTo c h (starts_marking m slot) (record k { said = Some (Refused refusal.NotLearned) })
   refuses_marking =
-      let learner = (and_parts (learners.is_idle k.learner) (has_no_beat k.beat) (and_parts (learners.is_idle k.learner && has_no_beat k.beat) (has_no_marking k.marking) idle).0).0 in
-      let none = idle_doing c h m k.learner leads.learner learner in
+      let none = idle_doing c h m k.learner leads.learner (idles k idle).learner in
       let long = ap length leads.learner.learned ∙ length-map m.learned spelling in
       subst (λ (b : Bool). LeadsTo c h (if b then with_marking m (Some (record { slot = slot; heard = [] })) None else with_marking m m.marking (Some (Refused refusal.NotLearned))) (record k { said = Some (Refused refusal.NotLearned) })) (sym (le-ltb slot (length m.learned) (omega arith)))
       (record {
@@ -889,6 +940,7 @@ module _ (c : Shape) (h : ℕ) (m : Memory) (k : Kept) (slot : ℕ) (leads : Lea
         readings = leads.readings;
         beat = leads.beat;
         marking = stands m.marking k.marking leads.marking;
+        looking = looking_still c m (with_marking m m.marking (Some (Refused refusal.NotLearned))) m.looking k.look refl leads.looking;
       })
     where
       stands : (o : Option Marking) (kept : Option mark_notes.Notes) → MarkingLeadsTo c h m o kept → MarkingLeadsTo c h (with_marking m m.marking (Some (Refused refusal.NotLearned))) o kept
@@ -896,3 +948,181 @@ module _ (c : Shape) (h : ℕ) (m : Memory) (k : Kept) (slot : ℕ) (leads : Lea
       stands (Some t) (Some notes) going = going
       stands None (Some notes) going = absurd going
       stands (Some t) None going = absurd going
+
+-- A LOOK GOES ON
+
+is_look_due : (st : look.Status) → None ≡ look_kept.end_of_status st → (d : ℕ) × (st ≡ look.Due d)
+is_look_due (look.Due d) is = (d, refl)
+is_look_due (look.Ended end) is = absurd (cc)
+
+is_look_over : (st : look.Status) (end : look.End) → Some end ≡ look_kept.end_of_status st → st ≡ look.Ended end
+is_look_over (look.Due d) end is = absurd (cc)
+is_look_over (look.Ended other) end is = (let same : end ≡ other = cc in ap look.Ended (sym same))
+
+looked_by : (c : Shape) (m : Memory) (o : Option Looking) (b : look_notes.Notes) → LookLeadsTo c m o (Some b) → (t : Looking) × (o ≡ Some t) × look_kept.LeadsTo (look_of c m t.first) t.heard b
+looked_by c m None b going = absurd going
+looked_by c m (Some t) b going = (t, refl, going)
+
+-- what is taken goes by nothing that the look has come to
+takes_same : (c : Shape) (m : Memory) (disk : ℕ) (o : Option Command) → takes_marked c (with_looking m None m.said) disk o ≡ takes_marked c m disk o
+takes_same c m disk None = refl
+takes_same c m disk (Some command) = refl
+
+-- where none is kept, none has heard anything
+pub no_marking_nine : (c : Shape) (h : ℕ) (m : Memory) (o : Option Marking) → MarkingLeadsTo c h m o None → IsMarkedWithinNine c o
+no_marking_nine c h m None going = tt
+no_marking_nine c h m (Some t) going = absurd going
+
+pub no_look_two : (c : Shape) (m : Memory) (o : Option Looking) → LookLeadsTo c m o None → IsLookedWithinTwo c o
+no_look_two c m None going = tt
+no_look_two c m (Some t) going = absurd going
+
+-- The fields are what is kept, and a look is under way.
+module _ (c : Shape) (h : ℕ) (m : Memory) (p : Inside) (view : Kept) (shown : kept_in p ≡ view) (b : look_notes.Notes) (looks : p.look ≡ Some b) (one : IsAlone p.learner p.beat p.marking p.look) (led : LeadsTo c h m view) (answer : code_heard.Heard (List ℕ)) where
+  abbrev lk : Kept
+  lk = kept_in p
+
+  looks_alone : LooksAlone lk.learner p.beat p.marking b
+  looks_alone = subst (IsAlone lk.learner p.beat p.marking) looks one
+
+  look_led : LeadsTo c h m lk
+  look_led = subst (λ (v : Kept). LeadsTo c h m v) (sym shown) led
+
+  no_doing_then : m.doing ≡ None
+  no_doing_then = idle_doing c h m lk.learner look_led.learner looks_alone.idle
+
+  no_beats_then : m.beats.heard ≡ None
+  no_beats_then = no_beat_heard c h m.beats.heard (subst (BeatLeadsTo c h m.beats.heard) looks_alone.resting look_led.beat)
+
+  no_marks_then : m.marking ≡ None
+  no_marks_then = no_marking c h m m.marking (subst (MarkingLeadsTo c h m m.marking) looks_alone.unmarking look_led.marking)
+
+  looking : (t : Looking) × (m.looking ≡ Some t) × look_kept.LeadsTo (look_of c m t.first) t.heard b
+  looking = looked_by c m m.looking b (subst (LookLeadsTo c m m.looking) looks look_led.looking)
+
+  abbrev behind_look : Looking
+  behind_look = looking_with looking.0 (look_kept.answer_of b answer)
+
+  abbrev look_setup : look.Setup
+  look_setup = look_of c m looking.0.first
+
+  abbrev look_stands : look.Status
+  look_stands = look.status look_setup (on behind_look.heard)
+
+  abbrev look_disk : ℕ
+  look_disk = (look_kept.call_due b).0
+
+  looking_is : hears_from c h m m.doing look_disk (device_answer answer) ≡ look_by c m behind_look look_stands
+  looking_is =
+      ap (λ (o : Option Doing). hears_from c h m o look_disk (device_answer answer)) no_doing_then
+      ∙ ap (λ (o : Option (List beat_answers.Answered)). hears_beside c h m o look_disk (device_answer answer)) no_beats_then
+      ∙ ap (λ (o : Option Marking). hears_apart c h m o (record { disk = look_disk; heard = heard_as (device_answer answer) })) no_marks_then
+      ∙ ap (λ (o : Option Looking). hears_look c m o (record { disk = look_disk; heard = heard_as (device_answer answer) })) looking.1
+      ∙ ap (λ (y : Heard). look_by c m (looking_with looking.0 (record { disk = look_disk; heard = y })) (look.status look_setup (on (looking_with looking.0 (record { disk = look_disk; heard = y })).heard))) (sym (heard_same answer))
+
+  -- the host hears what the look hears
+  of_look : (new : Kept) (n : Memory) → look_by c m behind_look look_stands ≡ n → LeadsTo c h n new → LeadsTo c h (hears_from c h m m.doing (due_call view).0 (device_answer answer)) new
+  of_look new n comes leads_on =
+      subst (λ (v : Kept). LeadsTo c h (hears_from c h m m.doing (due_call v).0 (device_answer answer)) new) shown
+      (subst (λ (o : Option beat_notes.Notes). LeadsTo c h (hears_from c h m m.doing (due_in lk.learner o lk.marking lk.look).0 (device_answer answer)) new) (sym looks_alone.resting)
+      (subst (λ (o : Option mark_notes.Notes). LeadsTo c h (hears_from c h m m.doing (due_in lk.learner None o lk.look).0 (device_answer answer)) new) (sym looks_alone.unmarking)
+      (subst (λ (o : Option look_notes.Notes). LeadsTo c h (hears_from c h m m.doing (due_in lk.learner None None o).0 (device_answer answer)) new) (sym looks)
+      (subst (λ (o : Memory). LeadsTo c h o new) (sym (looking_is ∙ comes)) leads_on))))
+
+  -- the call that is due is the look's
+  pub look_next : (call : ℕ × device.Call) → ((s : look.Setup) (answers : List Answered) → look_kept.LeadsTo s answers b → look.next_call s (on answers) ≡ Some call) → next_in c h m ≡ Some call
+  look_next call due =
+      ap (λ (o : Option Doing). next_doing c h m o) no_doing_then
+      ∙ ap (λ (o : Option (List beat_answers.Answered)). next_beside c h m o) no_beats_then
+      ∙ ap (λ (o : Option Marking). next_marking c h m o) no_marks_then
+      ∙ ap (λ (o : Option Looking). next_look c m o) looking.1
+      ∙ due look_setup looking.0.heard looking.2
+
+  -- no attempt is under way
+  pub look_rests : m.doing ≡ None
+  look_rests = no_doing_then
+
+  -- it has heard fewer than two answers a disk before this one
+  pub look_two : ((s : look.Setup) (answers : List Answered) → look_kept.LeadsTo s answers b → length (answers ++ look_kept.answer_of b answer ∷ []) ≤ 2 * s.disks) → IsLookedWithinTwo c m.looking
+  look_two bound =
+      subst (IsLookedWithinTwo c) (sym looking.1)
+      (let all = bound look_setup looking.0.heard looking.2 in omega (arith, all, length-append looking.0.heard (look_kept.answer_of b answer ∷ [])))
+
+  -- what is kept, with this of the look
+  with_look : (o : Option Looking) (said : Option HostAnswer) (kept : Option look_notes.Notes) → LookLeadsTo c (with_looking m o said) o kept → LeadsTo c h (with_looking m o said) (record lk { said = said; look = kept })
+  with_look o said kept goes = record {
+    learner = subst (λ (t : Option Doing). learners.LeadsTo c h (record { learned = map spelling m.learned; floor = m.floor; doing = option_map doing_of t; said = lk.learner.said }) lk.learner) no_doing_then look_led.learner;
+    prefix = look_led.prefix;
+    said = refl;
+    readings = look_led.readings;
+    beat = look_led.beat;
+    marking = unmarked_still m.marking lk.marking look_led.marking;
+    looking = goes;
+  }
+    where
+      unmarked_still : (t : Option Marking) (kept : Option mark_notes.Notes) → MarkingLeadsTo c h m t kept → MarkingLeadsTo c h (with_looking m o said) t kept
+      unmarked_still None None going = tt
+      unmarked_still (Some t) (Some notes) going = going
+      unmarked_still None (Some notes) going = absurd going
+      unmarked_still (Some t) None going = absurd going
+
+  module _ (new : look_notes.Notes) (heard_leads : (s : look.Setup) (answers : List Answered) → look_kept.LeadsTo s answers b → look_kept.LeadsTo s (answers ++ look_kept.answer_of b answer ∷ []) new)
+      (end : Option look_end.End) (ended : (s : look.Setup) (answers : List Answered) → look_kept.LeadsTo s answers new → option_map look_kept.end_of end ≡ look_kept.end_of_status (look.status s (on answers))) where
+    looked_then : look_kept.LeadsTo look_setup behind_look.heard new
+    looked_then = heard_leads look_setup looking.0.heard looking.2
+
+    look_end_is : option_map look_kept.end_of end ≡ look_kept.end_of_status look_stands
+    look_end_is = ended look_setup behind_look.heard looked_then
+
+    over_by : (e : look_end.End) → end ≡ Some e → look_by c m behind_look look_stands ≡ look_by c m behind_look (look.Ended (look_kept.end_of e))
+    over_by e is_end = ap (look_by c m behind_look) (is_look_over look_stands (look_kept.end_of e) (sym (ap (option_map look_kept.end_of) is_end) ∙ look_end_is))
+
+    -- a call is due
+    pub look_goes : end ≡ None → LeadsTo c h (hears_from c h m m.doing (due_call view).0 (device_answer answer)) (record lk { said = None; look = Some new })
+    look_goes is_none =
+        let due = is_look_due look_stands (sym (ap (option_map look_kept.end_of) is_none) ∙ look_end_is) in
+        of_look _ (look_by c m behind_look (look.Due due.0)) (ap (look_by c m behind_look) due.1) (with_look (Some behind_look) None (Some new) looked_then)
+
+    -- it has ended
+    pub look_fails : end ≡ Some look_ends.NoMajority → LeadsTo c h (hears_from c h m m.doing (due_call view).0 (device_answer answer)) (record lk { said = Some (Refused refusal.NoMajority); look = None })
+    look_fails is_end = of_look _ (look_by c m behind_look (look.Ended look.NoMajority)) (over_by look_ends.NoMajority is_end) (with_look None (Some (Refused refusal.NoMajority)) None tt)
+
+    pub look_finds_none : end ≡ Some look_ends.Unmarked → (n : ℕ) → n ≡ length lk.learner.learned → LeadsTo c h (hears_from c h m m.doing (due_call view).0 (device_answer answer)) (record lk { said = Some (Looked n); look = None })
+    look_finds_none is_end n long =
+        let all : n ≡ length m.learned = long ∙ ap length look_led.learner.learned ∙ length-map m.learned spelling in
+        subst (λ (k : ℕ). LeadsTo c h (hears_from c h m m.doing (due_call view).0 (device_answer answer)) (record lk { said = Some (Looked k); look = None })) (sym all)
+        (of_look _ (look_by c m behind_look (look.Ended look.Unmarked)) (over_by look_ends.Unmarked is_end) (with_look None (Some (Looked (length m.learned))) None tt))
+
+    pub look_learns : (disk : ℕ) (value : List ℕ) → end ≡ Some (look_ends.Decided disk value) → (after : Kept) → ((n : Memory) → LeadsTo c h n (record lk { look = None }) → LeadsTo c h (takes_marked c n disk (decoded value)) after)
+        → LeadsTo c h (hears_from c h m m.doing (due_call view).0 (device_answer answer)) after
+    look_learns disk value is_end after takes =
+        let kept : LeadsTo c h (with_looking m None m.said) (record lk { look = None }) =
+        subst (λ (said : Option HostAnswer). LeadsTo c h (with_looking m None m.said) (record lk { said = said; look = None })) (sym look_led.said) (with_look None m.said None tt) in
+        of_look after (look_by c m behind_look (look.Ended (look.Decided disk value))) (over_by (look_ends.Decided disk value) is_end)
+        (subst (λ (n : Memory). LeadsTo c h n after) (takes_same c m disk (decoded value)) (takes (with_looking m None m.said) kept))
+
+-- A MARKED COMMAND IS LEARNED
+
+-- one command more is learned, and nothing is said yet
+abbrev pub with_command : Memory → Command → Memory
+with_command m command = record { learned = m.learned ++ command ∷ []; floor = 0; doing = None; said = m.said; beats = m.beats; marking = m.marking; looking = m.looking }
+
+-- so it is known of an idle host
+module _ (c : Shape) (h : ℕ) (m : Memory) (k : Kept) (leads : LeadsTo c h m k) (idle : is_idle k ≡ true) (command : Command) (value : List ℕ) (spells : value ≡ spelling command) (learner : learners.Kept) (learned : learners.LeadsTo c h (log.learns (values_with k.learner.said m) value) learner)
+    (prefix : List Command) (prefix_is : prefix ≡ k.prefix ++ command ∷ []) where
+  learner_knows : learners.LeadsTo c h (values_of (learns m command)) learner
+  learner_knows = subst (λ (l : log.Memory). learners.LeadsTo c h l learner) (values_of-learns m command value spells) learned
+
+  apart_then : MarkingLeadsTo c h (with_command m command) m.marking k.marking × LookLeadsTo c (with_command m command) m.looking k.look
+  apart_then = none_apart c h m (with_command m command) k.marking k.look (idles k idle).marking (idles k idle).look refl leads.marking leads.looking
+
+  pub learned_then : LeadsTo c h (with_command m command) (record k { learner = learner; prefix = prefix })
+  learned_then = record {
+    learner = subst (λ (o : Option LogOutcome). learners.LeadsTo c h (record { learned = map spelling (m.learned ++ command ∷ []); floor = 0; doing = None; said = o }) learner) (sym learner_knows.said) learner_knows;
+    prefix = prefix_is ∙ ap (λ (l : List Command). l ++ command ∷ []) leads.prefix;
+    said = leads.said;
+    readings = leads.readings;
+    beat = leads.beat;
+    marking = apart_then.0;
+    looking = apart_then.1;
+  }

@@ -1,10 +1,10 @@
--- How many answers an attempt, a beat and a marking hear, and how an attempt is answered whose host is left alone.
+-- How many answers an attempt, a beat, a marking and a look hear, and how an attempt is answered whose host is left alone.
 use Rattle.std.specs.Prelude.{◌<◌, ◌*◌, ℕ, List, [], ◌∷◌, ◌++◌, length, Option, Some, None}
 use Rattle.attempt.specs.Answers.{Answered}
 use Rattle.beats.specs.Answers as beat_answers
 use Rattle.slot_log.specs.Alone.{IsAnsweredIn}
 use Rattle.slot_log.specs.Shape.{Shape}
-use Rattle.host.specs.Host.{Memory, Doing, Marking, setup_of}
+use Rattle.host.specs.Host.{Memory, Doing, Marking, Looking, setup_of}
 
 -- the attempt under way, with one more answer, has heard at most seventeen a disk, and is served where the other hosts
 -- rest and most disks answer well
@@ -21,3 +21,8 @@ IsWithinNine c (Some heard) = length heard < 9 * c.disks
 abbrev pub IsMarkedWithinNine : Shape → Option Marking → Type 0
 IsMarkedWithinNine c None = Unit {0}
 IsMarkedWithinNine c (Some t) = length t.heard < 9 * c.disks
+
+-- and the look under way fewer than two a disk, of the slot that it is at
+abbrev pub IsLookedWithinTwo : Shape → Option Looking → Type 0
+IsLookedWithinTwo c None = Unit {0}
+IsLookedWithinTwo c (Some t) = length t.heard < 2 * c.disks

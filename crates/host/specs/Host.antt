@@ -1,7 +1,6 @@
 -- A host: what follows from its operations and the answers that it has heard since its start.
 use Rattle.std.specs.Prelude.{◌-◌, ◌&&◌, ℕ, Bool, true, false, not, List, [], ◌∷◌, ◌++◌, length, max, nat_lt, nat_le, slice_get, Option, Some, None, is_some, if◌then◌else◌, bytes_eq}
 use Rattle.disk.specs.Disk as device
-use Rattle.paxos_block.specs.declared.ballot.TheConstants.{LAST_BALLOT}
 use Rattle.torn_block.specs.Layout.{cluster_version}
 use Rattle.attempt.specs.Answers.{Answered, on, heard_as}
 use Rattle.attempt.specs.Setup.{Setup}
@@ -12,6 +11,7 @@ use Rattle.heartbeat.specs.Suggesting.{Readings, suggestion}
 use Rattle.beats.specs.Answers as beat_answers
 use Rattle.beats.specs.Status as beat
 use Rattle.marks.specs.Status as mark
+use Rattle.looks.specs.Status as look
 use Rattle.lock_command.specs.declared.command.Command.{Command}
 use Rattle.lock_command.specs.Command.{spelling}
 use Rattle.lock_command.specs.Reading.{decoded}
@@ -33,7 +33,6 @@ reply_after before command = (applied (table_after before) command).reply
 pub data Operation : Type 0 where
   Submitting : (command : Command) → Operation
   Recovering : Operation
-  Looking : Operation
 
 -- an operation under way: its tries left, and what its attempt on the next slot has heard
 pub record Doing : Type 0 where
@@ -51,8 +50,13 @@ pub record Marking : Type 0 where
   pub slot : ℕ
   pub heard : List Answered
 
+-- the look under way, at the next slot: the disk that it asks first, and what it has heard of this slot
+pub record Looking : Type 0 where
+  pub first : ℕ
+  pub heard : List Answered
+
 -- a running host: the commands that it has learned, by slot, its floor on the next slot, what its last entry made it say, its
--- beats, and the marking under way
+-- beats, and the marking or the look under way
 pub record Memory : Type 0 where
   pub learned : List Command
   pub floor : ℕ
@@ -60,6 +64,7 @@ pub record Memory : Type 0 where
   pub said : Option HostAnswer
   pub beats : Beats
   pub marking : Option Marking
+  pub looking : Option Looking
 
 pub data Host : Type 0 where
   Stopped : Host
@@ -67,20 +72,20 @@ pub data Host : Type 0 where
 
 -- at its start a host knows nothing
 abbrev pub fresh : Memory
-fresh = record { learned = []; floor = 0; doing = None; said = None; beats = record { readings = None; heard = None }; marking = None }
+fresh = record { learned = []; floor = 0; doing = None; said = None; beats = record { readings = None; heard = None }; marking = None; looking = None }
 
 abbrev pub says : Memory → HostAnswer → Memory
-says m said = record { learned = m.learned; floor = m.floor; doing = None; said = Some said; beats = m.beats; marking = m.marking }
+says m said = record { learned = m.learned; floor = m.floor; doing = None; said = Some said; beats = m.beats; marking = m.marking; looking = m.looking }
 
 abbrev pub does : Memory → Doing → Memory
-does m t = record { learned = m.learned; floor = m.floor; doing = Some t; said = None; beats = m.beats; marking = m.marking }
+does m t = record { learned = m.learned; floor = m.floor; doing = Some t; said = None; beats = m.beats; marking = m.marking; looking = m.looking }
 
 -- a ballot of the next slot counts from now on
 abbrev pub with_floor : Memory → ℕ → Memory
-with_floor m ballot = record { learned = m.learned; floor = max m.floor ballot; doing = None; said = None; beats = m.beats; marking = m.marking }
+with_floor m ballot = record { learned = m.learned; floor = max m.floor ballot; doing = None; said = None; beats = m.beats; marking = m.marking; looking = m.looking }
 
 abbrev pub learns : Memory → Command → Memory
-learns m command = record { learned = m.learned ++ command ∷ []; floor = 0; doing = None; said = None; beats = m.beats; marking = m.marking }
+learns m command = record { learned = m.learned ++ command ∷ []; floor = 0; doing = None; said = None; beats = m.beats; marking = m.marking; looking = m.looking }
 
 -- AN OPERATION GOES ON
 
@@ -88,17 +93,10 @@ learns m command = record { learned = m.learned ++ command ∷ []; floor = 0; do
 abbrev pub input_of : Operation → Option (List ℕ)
 input_of (Submitting command) = Some (spelling command)
 input_of Recovering = None
-input_of Looking = None
-
--- above what they take their ballots; those of a look have none to take, and so end with their opening
-abbrev pub floor_for : Operation → ℕ → ℕ
-floor_for (Submitting command) floor = floor
-floor_for Recovering floor = floor
-floor_for Looking floor = max floor LAST_BALLOT
 
 -- the attempt on the next slot
 abbrev pub setup_of : Shape → ℕ → Memory → Operation → Setup
-setup_of c h m operation = record { version = cluster_version; host = h; slot = length m.learned; disks = c.disks; floor = floor_for operation m.floor; input = input_of operation }
+setup_of c h m operation = record { version = cluster_version; host = h; slot = length m.learned; disks = c.disks; floor = m.floor; input = input_of operation }
 
 -- an attempt on the next slot begins
 abbrev pub begins : Memory → Operation → ℕ → Memory
@@ -108,13 +106,6 @@ begins m operation tries = does m (record { operation = operation; tries = tries
 abbrev pub full_answer : Operation → ℕ → HostAnswer
 full_answer (Submitting command) learned = Refused refusal.LogFull
 full_answer Recovering learned = Recovered learned
-full_answer Looking learned = Looked learned
-
--- and once an attempt has no ballot: a look has seen that no mark tells the next slot
-abbrev pub spent_answer : Operation → ℕ → HostAnswer
-spent_answer (Submitting command) learned = Refused refusal.BallotsSpent
-spent_answer Recovering learned = Refused refusal.BallotsSpent
-spent_answer Looking learned = Looked learned
 
 -- the next slot is tried, where there is one
 abbrev pub goes_on : Shape → Memory → Operation → ℕ → Memory
@@ -125,7 +116,6 @@ goes_on c m operation tries =
 abbrev pub is_submitted : Operation → List ℕ → Bool
 is_submitted (Submitting command) value = bytes_eq (spelling command) value
 is_submitted Recovering value = false
-is_submitted Looking value = false
 
 -- a submitted command that was learned is acknowledged; else the next slot is tried
 abbrev pub after_learning : Shape → Memory → Doing → Command → Bool → Memory
@@ -148,7 +138,7 @@ ended c m t ballot (attempt.Decided value) = takes c m t ballot value (decoded v
 ended c m t ballot attempt.Empty = says (with_floor m ballot) (Recovered (length m.learned))
 ended c m t ballot (attempt.Outrun mbal) = tries_again (with_floor (with_floor m ballot) mbal) t.operation t.tries
 ended c m t ballot attempt.NoMajority = says (with_floor m ballot) (Refused refusal.NoMajority)
-ended c m t ballot attempt.BallotsSpent = says (with_floor m ballot) (spent_answer t.operation (length m.learned))
+ended c m t ballot attempt.BallotsSpent = says (with_floor m ballot) (Refused refusal.BallotsSpent)
 
 abbrev pub by_status : Shape → Memory → Doing → ℕ → Status → Memory
 by_status c m t ballot (Due phase disk) = does m t
@@ -173,7 +163,7 @@ beat_of c h = record { host = h; disks = c.disks }
 
 -- its beats have come to this, and it says that; what it has learned stays
 abbrev pub with_beats : Memory → Beats → Option HostAnswer → Memory
-with_beats m beats said = record { learned = m.learned; floor = m.floor; doing = None; said = said; beats = beats; marking = m.marking }
+with_beats m beats said = record { learned = m.learned; floor = m.floor; doing = None; said = said; beats = beats; marking = m.marking; looking = m.looking }
 
 -- a beat begins
 abbrev pub starts_beat : Memory → Memory
@@ -210,7 +200,7 @@ marking_of c h m slot = record { host = h; slot = slot; disks = c.disks; value =
 
 -- its marking has come to this, and it says that; what it has learned stays
 abbrev pub with_marking : Memory → Option Marking → Option HostAnswer → Memory
-with_marking m marking said = record { learned = m.learned; floor = m.floor; doing = None; said = said; beats = m.beats; marking = marking }
+with_marking m marking said = record { learned = m.learned; floor = m.floor; doing = None; said = said; beats = m.beats; marking = marking; looking = m.looking }
 
 -- a marking begins, where the slot is learned
 abbrev pub starts_marking : Memory → ℕ → Memory
@@ -233,14 +223,60 @@ abbrev pub hears_marking : Shape → ℕ → Memory → Option Marking → Answe
 hears_marking c h m None x = m
 hears_marking c h m (Some t) x = marking_by m (marking_with t x) (mark.status (marking_of c h m t.slot) (on (marking_with t x).heard))
 
+-- A LOOK
+
+-- a host looks at the next slot, and asks this disk first
+abbrev pub look_of : Shape → Memory → ℕ → look.Setup
+look_of c m first = record { slot = length m.learned; disks = c.disks; first = first }
+
+-- its look has come to this, and it says that; what it has learned stays
+abbrev pub with_looking : Memory → Option Looking → Option HostAnswer → Memory
+with_looking m looking said = record { learned = m.learned; floor = m.floor; doing = None; said = said; beats = m.beats; marking = m.marking; looking = looking }
+
+-- the next slot is looked at, where there is one
+abbrev pub looks_on : Shape → Memory → ℕ → Memory
+looks_on c m first =
+    if nat_lt (length m.learned) c.slots then with_looking m (Some (record { first = first; heard = [] })) None else with_looking m None (Some (Looked (length m.learned)))
+
+-- a look begins
+abbrev pub starts_look : Shape → Memory → Memory
+starts_look c m = looks_on c m 0
+
+-- a mark on a disk told the next command, and the look goes on there; a value that is no command is not learned
+abbrev pub takes_marked : Shape → Memory → ℕ → Option Command → Memory
+takes_marked c m disk None = with_looking m None (Some (Refused refusal.NotACommand))
+takes_marked c m disk (Some command) = looks_on c (learns m command) disk
+
+abbrev pub look_ended : Shape → Memory → look.End → Memory
+look_ended c m (look.Decided disk value) = takes_marked c m disk (decoded value)
+look_ended c m look.Unmarked = with_looking m None (Some (Looked (length m.learned)))
+look_ended c m look.NoMajority = with_looking m None (Some (Refused refusal.NoMajority))
+
+abbrev pub look_by : Shape → Memory → Looking → look.Status → Memory
+look_by c m t (look.Due disk) = with_looking m (Some t) None
+look_by c m t (look.Ended end) = look_ended c m end
+
+abbrev pub looking_with : Looking → Answered → Looking
+looking_with t x = record { first = t.first; heard = t.heard ++ x ∷ [] }
+
+-- the look under way hears one more answer
+abbrev pub hears_look : Shape → Memory → Option Looking → Answered → Memory
+hears_look c m None x = m
+hears_look c m (Some t) x = look_by c m (looking_with t x) (look.status (look_of c m t.first) (on (looking_with t x).heard))
+
 -- A DISK ANSWERS
 
--- where no attempt is under way the beat hears it, or else the marking
+-- where no beat is under way either the marking hears it, or else the look
+abbrev pub hears_apart : Shape → ℕ → Memory → Option Marking → Answered → Memory
+hears_apart c h m None x = hears_look c m m.looking x
+hears_apart c h m (Some t) x = hears_marking c h m (Some t) x
+
+-- where no attempt is under way the beat hears it, or else the marking or the look
 abbrev pub hears_beside : Shape → ℕ → Memory → Option (List beat_answers.Answered) → ℕ → device.Answer → Memory
-hears_beside c h m None d answer = hears_marking c h m m.marking (record { disk = d; heard = heard_as answer })
+hears_beside c h m None d answer = hears_apart c h m m.marking (record { disk = d; heard = heard_as answer })
 hears_beside c h m (Some heard) d answer = hears_beat c h m (Some heard) (record { disk = d; heard = beat_answers.heard_as answer })
 
--- the attempt under way hears it, or else the beat or the marking
+-- the attempt under way hears it, or else the beat, the marking or the look
 abbrev pub hears_from : Shape → ℕ → Memory → Option Doing → ℕ → device.Answer → Memory
 hears_from c h m None d answer = hears_beside c h m m.beats.heard d answer
 hears_from c h m (Some t) d answer = hears c h m (Some t) (record { disk = d; heard = heard_as answer })
@@ -251,16 +287,20 @@ abbrev pub rests : Option (List beat_answers.Answered) → Bool
 rests None = true
 rests (Some heard) = false
 
--- neither an attempt nor a beat nor a marking is under way
+-- no attempt, no beat, no marking and no look is under way
 abbrev pub is_idle_in : Memory → Option Doing → Bool
-is_idle_in m None = rests m.beats.heard && not (is_some m.marking)
+is_idle_in m None = rests m.beats.heard && not (is_some m.marking) && not (is_some m.looking)
 is_idle_in m (Some t) = false
 
 abbrev pub is_idle : Memory → Bool
 is_idle m = is_idle_in m m.doing
 
+abbrev pub next_look : Shape → Memory → Option Looking → Option (ℕ × device.Call)
+next_look c m None = None
+next_look c m (Some t) = look.next_call (look_of c m t.first) (on t.heard)
+
 abbrev pub next_marking : Shape → ℕ → Memory → Option Marking → Option (ℕ × device.Call)
-next_marking c h m None = None
+next_marking c h m None = next_look c m m.looking
 next_marking c h m (Some t) = mark.next_call (marking_of c h m t.slot) (on t.heard)
 
 abbrev pub next_beside : Shape → ℕ → Memory → Option (List beat_answers.Answered) → Option (ℕ × device.Call)

@@ -31,7 +31,6 @@ impl HostAnswer {
                 reply: reply?,
             }),
             LogOutcome::Recovered { length } => Some(HostAnswer::Recovered { length }),
-            LogOutcome::Looked { length } => Some(HostAnswer::Looked { length }),
             LogOutcome::Refused(refusal) => Some(HostAnswer::Refused(refusal)),
         }
     }

@@ -1,4 +1,4 @@
-ghost use Rattle.std.specs.Prelude.{◌≡◌, ◌≤◌, ◌<◌, ◌++◌, ◌∷◌, [], ℕ, true, false, is_none, IfOk, Option, Some, None, is_some, take, vec_len, vec_capacity};
+ghost use Rattle.std.specs.Prelude.{◌≡◌, ◌≤◌, ◌<◌, ◌++◌, ◌∷◌, [], ℕ, true, false, length, is_none, IfOk, Option, Some, None, is_some, take, vec_len, vec_capacity};
 ghost use Rattle.std.specs.Option.{option_map};
 ghost use Rattle.paxos_block.specs.Places.{image_length};
 ghost use Rattle.attempt.specs.History.{Fits};
@@ -11,9 +11,9 @@ ghost use Rattle.slot_log.specs.Kept as learners;
 ghost use Rattle.slot_log.specs.Kept.{offered_of};
 ghost use Rattle.slot_log.specs.Learning as log;
 ghost use Rattle.slot_log.specs.Shape.{Shape};
-ghost use Rattle.host.specs.Alone.{IsAnsweredAlone, IsWithinNine, IsMarkedWithinNine};
+ghost use Rattle.host.specs.Alone.{IsAnsweredAlone, IsWithinNine, IsMarkedWithinNine, IsLookedWithinTwo};
 ghost use Rattle.beats.specs.Calls.{device_answer};
-ghost use Rattle.host.specs.Host.{Memory, Submitting, Recovering, Looking, fresh, goes_on, hears, hears_from, starts_beat, starts_marking, suggested, is_idle_in, next_in, reply_after};
+ghost use Rattle.host.specs.Host.{Memory, Submitting, Recovering, fresh, goes_on, hears, hears_from, looks_on, starts_beat, starts_look, starts_marking, suggested, takes_marked, is_idle_in, next_in, reply_after};
 ghost use Rattle.host.specs.Kept.{Kept, LeadsTo, AcknowledgesNone, answer_of, is_idle, due_call, option_list};
 
 use crate::answer::HostAnswer;
@@ -22,6 +22,7 @@ use disk::NoMemory;
 use heartbeat::suggest;
 use lock_command::{Command, HostNumber, ValueBytes, decode};
 use lock_table::{Reply, Table};
+use looks::Look;
 use marks::Marking;
 use paxos_block::Value;
 use phases::{Heard, Need};
@@ -45,6 +46,8 @@ pub struct HostCore {
     /// The readings of the last beat that ended well.
     readings: Option<Readings>,
     marking: Option<Marking>,
+    /// The look under way, at the next slot.
+    look: Option<Look>,
 }
 
 impl Model for HostCore {
@@ -54,11 +57,11 @@ impl Model for HostCore {
     ghost use Rattle.lock_table.specs.Apply.{table_after};
     ghost use Rattle.lock_table.specs.Picture.{IsPictureOf};
     ghost use Rattle.slot_log.specs.Kept.{offered_of};
-    ghost use Rattle.host.specs.Kept.{Kept, IsOneAtATime, IsAloneToo};
+    ghost use Rattle.host.specs.Kept.{Kept, IsOneAtATime, IsAloneToo, IsAlone};
 
     ghost Value = { Kept };
 
-    ghost view = { λ core. record { learner = core.learner; prefix = core.prefix.items; said = core.said; beat = core.beat; readings = core.readings; marking = core.marking } };
+    ghost view = { λ core. record { learner = core.learner; prefix = core.prefix.items; said = core.said; beat = core.beat; readings = core.readings; marking = core.marking; look = core.look } };
 
     ghost invariant = { λ core. record {
       host : core.learner.host ≡ core.host;
@@ -70,6 +73,7 @@ impl Model for HostCore {
       table : IsPictureOf core.table (table_after core.prefix.items);
       beat : IsOneAtATime core.learner core.beat;
       marking : IsAloneToo core.learner core.beat core.marking;
+      look : IsAlone core.learner core.beat core.marking core.look;
     } };
 }
 
@@ -94,6 +98,7 @@ impl HostCore {
             beat: None,
             readings: None,
             marking: None,
+            look: None,
         })
     }
 
@@ -103,7 +108,7 @@ impl HostCore {
             result ≡ is_idle_in m m.doing }
         ensures idle { result ≡ is_idle self.now }
     {
-        self.learner.idle() && self.beat.is_none() && self.marking.is_none()
+        self.learner.idle() && self.beat.is_none() && self.marking.is_none() && self.look.is_none()
     }
 
     /// The host's number.
@@ -172,15 +177,17 @@ impl HostCore {
         self.said = HostAnswer::of(self.learner.said(), None);
     }
 
-    /// Begins to learn the commands that marks tell, slot by slot, up to the first slot of which none does. It writes
-    /// nothing, and outruns nobody; but what was acknowledged and not marked is not found.
+    /// Begins to learn the commands that marks tell, slot by slot, up to the first slot of which none does. Each slot's row is read first on
+    /// the disk that told the last command, and the first slot's on disk 0. A look syncs and writes nothing, and outruns nobody;
+    /// but what was acknowledged and not marked is not found.
     pub fn look(&mut self)
         requires idle { is_idle self.old ≡ true }
         ensures { (c : Shape) (h : ℕ) (m : Memory) → LeadsTo c h m self.old →
-            LeadsTo c h (goes_on c m Looking 1) self.new }
+            LeadsTo c h (starts_look c m) self.new }
     {
-        self.learner.look();
-        self.said = HostAnswer::of(self.learner.said(), None);
+        let disks = self.config.disks();
+        prove!(0 < disks);
+        self.look_on(0);
     }
 
     /// Begins a beat: this host's heartbeat blocks get their next sequence numbers, and the counters of all hosts are read.
@@ -225,8 +232,11 @@ impl HostCore {
         if let Some(beat) = &self.beat {
             return beat.call();
         }
-        match &self.marking {
-            Some(marking) => marking.call(),
+        if let Some(marking) = &self.marking {
+            return marking.call();
+        }
+        match &self.look {
+            Some(look) => look.call(),
             None => self.learner.call(),
         }
     }
@@ -251,11 +261,17 @@ impl HostCore {
         ensures marked_nine { (c : Shape) (h : ℕ) (m : Memory) → LeadsTo c h m self.old →
             IsMarkedWithinNine c m.marking }
         ensures marks_silently { is_some self.old.marking ≡ true → AcknowledgesNone self.new.said }
+        // A look has heard at most two answers a disk of the slot that it is at, and it too acknowledges no command.
+        ensures looked_two { (c : Shape) (h : ℕ) (m : Memory) → LeadsTo c h m self.old →
+            IsLookedWithinTwo c m.looking }
+        ensures looks_silently { is_some self.old.look ≡ true → AcknowledgesNone self.new.said }
     {
         if self.beat.is_some() {
             self.hear_beat(heard);
         } else if self.marking.is_some() {
             self.hear_marking(heard);
+        } else if self.look.is_some() {
+            self.hear_look(heard);
         } else {
             self.hear_attempt(heard);
         }
@@ -266,6 +282,7 @@ impl HostCore {
     fn hear_attempt(&mut self, heard: &Heard<'_>)
         requires resting { self.old.beat ≡ None }
         requires unmarking { self.old.marking ≡ None }
+        requires unlooking { self.old.look ≡ None }
         requires busy { is_idle self.old ≡ false }
         requires fits { Fits (due_call self.old).1 (heard_of heard.now) }
         ensures leads { (c : Shape) (h : ℕ) (m : Memory) → LeadsTo c h m self.old →
@@ -349,6 +366,78 @@ impl HostCore {
         }
     }
 
+    // The look under way hears the answer.
+    #[inline(never)]
+    fn hear_look(&mut self, heard: &Heard<'_>)
+        requires resting { self.old.beat ≡ None }
+        requires unmarking { self.old.marking ≡ None }
+        requires looks { is_some self.old.look ≡ true }
+        requires fits { Fits (due_call self.old).1 (heard_of heard.now) }
+        ensures leads { (c : Shape) (h : ℕ) (m : Memory) → LeadsTo c h m self.old →
+            LeadsTo c h (hears_from c h m m.doing (due_call self.old).0 (device_answer heard.now)) self.new }
+        ensures two { (c : Shape) (h : ℕ) (m : Memory) → LeadsTo c h m self.old →
+            IsLookedWithinTwo c m.looking }
+        ensures silent { AcknowledgesNone self.new.said }
+        // No attempt is under way.
+        ensures rests { (c : Shape) (h : ℕ) (m : Memory) → LeadsTo c h m self.old → m.doing ≡ None }
+    {
+        let Some(look) = &mut self.look else {
+            return;
+        };
+        look.hear(heard);
+        let Some(end) = look.end() else {
+            self.said = None;
+            return;
+        };
+        self.look = None;
+        match end {
+            looks::End::Decided { disk, value } => self.learn_marked(disk, &value),
+            looks::End::Unmarked => {
+                let length = self.learner.learned().len() as u16;
+                self.said = Some(HostAnswer::Looked { length });
+            }
+            looks::End::NoMajority => {
+                let refusal = Refusal::NoMajority;
+                self.said = Some(HostAnswer::Refused(refusal));
+            }
+        }
+    }
+
+    // A marked block on this disk told the next slot's value. A command is learned, and the look goes on; else it ends.
+    fn learn_marked(&mut self, disk: u8, value: &Value)
+        requires idle { is_idle self.old ≡ true }
+        requires disk { disk < self.old.learner.shape.disks }
+        requires slot { length self.old.learner.learned < self.old.learner.shape.slots }
+        ensures leads { (c : Shape) (h : ℕ) (m : Memory) → LeadsTo c h m self.old →
+            LeadsTo c h (takes_marked c m disk (decoded value.now)) self.new }
+        ensures silent { AcknowledgesNone self.new.said }
+    {
+        let Some(command) = decode(value) else {
+            self.said = Some(HostAnswer::Refused(Refusal::NotACommand));
+            return;
+        };
+        carry_out(&mut self.prefix, &mut self.table, command);
+        self.learner.learn_marked(*value);
+        self.look_on(disk);
+    }
+
+    // Looks at the next slot, where there is one, and asks this disk first.
+    fn look_on(&mut self, first: u8)
+        requires idle { is_idle self.old ≡ true }
+        requires first { first < self.old.learner.shape.disks }
+        ensures leads { (c : Shape) (h : ℕ) (m : Memory) → LeadsTo c h m self.old →
+            LeadsTo c h (looks_on c m first) self.new }
+        ensures silent { AcknowledgesNone self.new.said }
+    {
+        let slot = self.learner.learned().len() as u16;
+        if slot < self.config.slots() {
+            self.look = Some(Look::new(slot, self.config.disks(), first));
+            self.said = None;
+        } else {
+            self.said = Some(HostAnswer::Looked { length: slot });
+        }
+    }
+
     // The host that these readings suggest after those of the last beat that ended well.
     fn suggested(&self, after: &Readings) -> u8
         ensures { result ≡ suggested self.now.learner.host
@@ -403,11 +492,24 @@ fn judge(
         learner.take(false);
         return None;
     };
+    let reply = carry_out(prefix, table, command);
+    learner.take(true);
+    Some(reply)
+}
+
+// A command is carried out that was learned, and gets its reply.
+fn carry_out(prefix: &mut Vec<Command>, table: &mut Table, command: Command) -> Reply
+    requires room { vec_len prefix.old < vec_capacity prefix.old }
+    requires table { IsPictureOf table.old (table_after prefix.old.items) }
+    ensures prefix { prefix.new.items ≡ prefix.old.items ++ command ∷ [] }
+    ensures room { vec_capacity prefix.new ≡ vec_capacity prefix.old }
+    ensures table { IsPictureOf table.new (table_after prefix.new.items) }
+    ensures reply { result ≡ reply_after prefix.old.items command }
+{
     // These two lines do nothing when they run. Without them the checker does not load the types inside `Command`, and the proof fails.
     let _action = &command.action;
     let _no_value: Option<ValueBytes> = None;
     let reply = table.apply(&command);
     prefix.push_reserved(command);
-    learner.take(true);
-    Some(reply)
+    reply
 }

@@ -10,7 +10,7 @@ use std::test::Fail;
 
 // The first lock is granted, the second one waits, and another host learns both, and then looks.
 const TWO_COMMANDS: &[u8] = b"cluster 1 4\nstart 0\nsubmit 0 1 enqueue 1 1 1 EX db\nstep 0 17\n\
-submit 0 1 enqueue 2 1 2 EX db\nstep 0 17\nstart 1\nrecover 1 1\nstep 1 51\nlook 1\nstep 1 3\n";
+submit 0 1 enqueue 2 1 2 EX db\nstep 0 17\nstart 1\nrecover 1 1\nstep 1 51\nlook 1\nstep 1 2\n";
 
 // What is done to one answer of a report.
 #[derive(Clone, Copy, Debug)]

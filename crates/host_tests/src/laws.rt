@@ -33,7 +33,7 @@ fn of_agreement(_rt: HostRuntime) {
 }
 
 #[test]
-fn of_attempts_beats_and_markings(_rt: HostRuntime) {
+fn of_attempts_beats_markings_and_looks(_rt: HostRuntime) {
     attempt::seventeen_calls_a_disk();
     attempt::prepared_and_proposed();
     attempt::alone_answered();
@@ -48,6 +48,10 @@ fn of_attempts_beats_and_markings(_rt: HostRuntime) {
     attempt_safety::answers_move();
     beats::nine_calls_a_disk();
     marks::nine_calls_a_disk();
+    looks::two_calls_a_disk();
+    looks::only_attaches_and_reads();
+    looks::ends_are_shown();
+    looks::asks_a_majority();
 }
 
 #[test]
@@ -62,6 +66,7 @@ fn of_the_world(_rt: HostRuntime) {
     world::attempts_hear_histories();
     world::beats_hear_histories();
     world::markings_hear_histories();
+    world::looks_hear_histories();
     world::looks_only_read();
     world::safe_lists_have_one_log();
     world::first_submission_is_acknowledged();

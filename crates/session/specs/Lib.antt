@@ -6,3 +6,4 @@ pub mod Keeping
 pub mod Numbers
 pub mod Orders
 pub mod Outcomes
+pub mod Signs

@@ -12,7 +12,7 @@ use Rattle.paxos_block.specs.Places.{image_length}
 use Rattle.torn_block.specs.declared.layout.TheConstants.{HOSTS}
 use Rattle.slot_log.specs.Shape.{Shape}
 use Rattle.beats.specs.Answers.{Answered}
-use Rattle.host.specs.Host.{Host, Running, Memory, Marking, hears_from, Doing, is_idle_in, rests, next_in, next_of, next_doing, next_beside, next_marking}
+use Rattle.host.specs.Host.{Host, Running, Memory, Marking, Looking, hears_from, Doing, is_idle_in, rests, next_in, next_of, next_doing, next_beside, next_look, next_marking}
 use Rattle.host.specs.Kept as hosts
 use Rattle.host.proofs.Hosts.{idle_is}
 use Rattle.world.specs.Entry.{Filled, Called, Torn, Crashed, Lost, disk_step, host_step, called_by}
@@ -30,11 +30,15 @@ some_given given some = lt-ltb 0 (length given) some
 
 module _ (log : List Filled) (old : Kept) (leads : LeadsTo log old) where
   -- an idle host has no call
-  no_marking : (c : Shape) (h : ℕ) (m : Memory) (o : Option Marking) → not (is_some o) ≡ true → next_marking c h m o ≡ None
-  no_marking c h m None is = refl
+  no_look : (c : Shape) (m : Memory) (o : Option Looking) → not (is_some o) ≡ true → next_look c m o ≡ None
+  no_look c m None is = refl
+  no_look c m (Some t) is = absurd (cc)
+
+  no_marking : (c : Shape) (h : ℕ) (m : Memory) (o : Option Marking) → (not (is_some o) && not (is_some m.looking)) ≡ true → next_marking c h m o ≡ None
+  no_marking c h m None is = no_look c m m.looking is
   no_marking c h m (Some t) is = absurd (cc)
 
-  no_beside : (c : Shape) (h : ℕ) (m : Memory) (o : Option (List Answered)) → (rests o && not (is_some m.marking)) ≡ true → next_beside c h m o ≡ None
+  no_beside : (c : Shape) (h : ℕ) (m : Memory) (o : Option (List Answered)) → (rests o && not (is_some m.marking) && not (is_some m.looking)) ≡ true → next_beside c h m o ≡ None
   no_beside c h m None is = no_marking c h m m.marking is
   no_beside c h m (Some heard) is = absurd (cc)
 

@@ -10,7 +10,7 @@ use Rattle.slot_log.specs.Shape.{Shape}
 use Rattle.lock_command.specs.declared.command.Command.{Command}
 use Rattle.lock_command.specs.Command.{spelling, is_submittable, Fits as FitsCommand}
 use Rattle.lock_command.specs.Reading.{decoded}
-use Rattle.host.specs.Host.{Host, Stopped, Running, Memory, Submitting, Recovering, Looking, fresh, goes_on, starts_beat, starts_marking, idles, is_stopped}
+use Rattle.host.specs.Host.{Host, Stopped, Running, Memory, Submitting, Recovering, fresh, goes_on, starts_look, starts_beat, starts_marking, idles, is_stopped}
 use Rattle.host.specs.Kept as hosts
 use Rattle.host.proofs.Hosts.{idle_is}
 use Rattle.world.specs.Entry as entries
@@ -187,19 +187,19 @@ module _ (log : List Filled) (old : Kept) (leads : LeadsTo log old) where
       (λ place. says_by log old leads e h (goes_on old.shape r.0 Recovering tries) new (self_eq h) steps kept place)
 
   pub looks : (h : ℕ) (core new : hosts.Kept) → h < HOSTS → get_or old.hosts h None ≡ Some core → hosts.is_idle core ≡ true
-      → ((c : Shape) (g : ℕ) (m : Memory) → hosts.LeadsTo c g m core → hosts.LeadsTo c g (goes_on c m Looking 1) new)
+      → ((c : Shape) (g : ℕ) (m : Memory) → hosts.LeadsTo c g m core → hosts.LeadsTo c g (starts_look c m) new)
       → Brings log (Look h) old (record old { hosts = set old.hosts h (Some new) }) (saying h new.said)
   looks h core new within is idle goes =
       let e : Filled = entries.Look h in
       let r = running_at h core is in
-      let steps : host_step old.shape h ((world old.shape log).host h) e ≡ Running (goes_on old.shape r.0 Looking 1) =
+      let steps : host_step old.shape h ((world old.shape log).host h) e ≡ Running (starts_look old.shape r.0) =
       ap (λ (x : Host). host_step old.shape h x e) r.1 in
-      let kept : hosts.LeadsTo old.shape h (goes_on old.shape r.0 Looking 1) new = goes old.shape h r.0 r.2 in
+      let kept : hosts.LeadsTo old.shape h (starts_look old.shape r.0) new = goes old.shape h r.0 r.2 in
       something log old leads (Look h) e (record old { hosts = set old.hosts h (Some new) }) (saying h new.said)
       (ap (λ (b : Bool). brings_if b (Some e)) (idle_then h core is idle)) refl
       (by_host log old leads e h (Some new) within (λ d. refl) (λ g. refl) (subst (λ (x : Host). IsHost old.shape h x (Some new)) (sym steps) kept))
       leads.sized
-      (λ place. says_by log old leads e h (goes_on old.shape r.0 Looking 1) new (self_eq h) steps kept place)
+      (λ place. says_by log old leads e h (starts_look old.shape r.0) new (self_eq h) steps kept place)
 
   pub beats : (h : ℕ) (core new : hosts.Kept) → h < HOSTS → get_or old.hosts h None ≡ Some core → hosts.is_idle core ≡ true
       → ((c : Shape) (g : ℕ) (m : Memory) → hosts.LeadsTo c g m core → hosts.LeadsTo c g (starts_beat m) new)

@@ -18,7 +18,7 @@ use Rattle.phases.specs.declared.need.Need.{Need}
 use Rattle.phases.specs.declared.need.DeviceCall as code_call
 use Rattle.phases.specs.Calls.{call_of_need, device_call_of, IsWithin}
 use Rattle.host.specs.declared.answer.HostAnswer.{HostAnswer}
-use Rattle.host.specs.Host.{Stopped, Memory, Submitting, Recovering, Looking, fresh, goes_on, hears_from, next_in, starts_beat, starts_marking}
+use Rattle.host.specs.Host.{Stopped, Memory, Submitting, Recovering, fresh, goes_on, starts_look, hears_from, next_in, starts_beat, starts_marking}
 use Rattle.host.specs.Kept as hosts
 use Rattle.world.specs.Entry.{Filled, called_by}
 use Rattle.world.specs.World.{world}
@@ -158,7 +158,7 @@ module _ (old : Kept) (h i : ℕ) (same : i ≡ h) (within : i < HOSTS) where
         (events.recovers log old leads i tries core new within some found idle goes)
 
     pub looks : hosts.is_idle core ≡ true
-        → ((c : Shape) (g : ℕ) (m : Memory) → hosts.LeadsTo c g m core → hosts.LeadsTo c g (goes_on c m Looking 1) new)
+        → ((c : Shape) (g : ℕ) (m : Memory) → hosts.LeadsTo c g m core → hosts.LeadsTo c g (starts_look c m) new)
         → (log : List Filled) → LeadsTo log old → Brings log (Look h) old (record old { hosts = set old.hosts i (Some new) }) said
     looks idle goes log leads =
         named Look log old (record old { hosts = set old.hosts i (Some new) }) i h new.said said same is_said

@@ -15,7 +15,7 @@ use Rattle.slot_log.specs.Shape.{Shape}
 use Rattle.slot_log.specs.declared.outcome.Refusal.TheVariants as refusal
 use Rattle.host.specs.declared.answer.HostAnswer.{HostAnswer}
 use Rattle.host.specs.declared.answer.HostAnswer.TheVariants.{Ack, Recovered, Looked, Beaten, Marked, Refused}
-use Rattle.host.specs.Host.{Recovering, Doing, Memory, Host, Stopped, Running, fresh, says, does, with_floor, learns, begins, goes_on, takes, ended, by_status, hears, hears_from, tries_again, idles, next_of, next_doing, next_beside, next_marking, is_stopped, said_of}
+use Rattle.host.specs.Host.{Recovering, Doing, Memory, Host, Stopped, Running, fresh, says, does, with_floor, learns, begins, goes_on, takes, ended, by_status, hears, hears_from, tries_again, idles, next_of, next_doing, next_beside, next_look, next_marking, is_stopped, said_of}
 use Rattle.torn_block.specs.declared.layout.TheConstants.{HOSTS}
 use Rattle.world.specs.Entry as entries
 use Rattle.world.specs.Entry.{Filled, Called, is_of, host_step}
@@ -57,65 +57,66 @@ record HasEnded (m : Memory) : Type 0 where
   says : m.said ≡ Some said
   ends : EndsRecovery said (length m.learned)
 
--- and no beat or marking is under way
+-- and no beat, marking or look is under way
 record Recovers (m : Memory) : Type 0 where
   no_beat : m.beats.heard ≡ None
   no_marking : m.marking ≡ None
+  no_look : m.looking ≡ None
   either : IsUnderWay m ⊎ HasEnded m
 
-under_way : (m : Memory) (tries : ℕ) (heard : List Answered) → m.beats.heard ≡ None → m.marking ≡ None → Recovers (does m (record { operation = Recovering; tries = tries; heard = heard }))
-under_way m tries heard beat marking =
-    record { no_beat = beat; no_marking = marking; either = inl (record { doing = record { operation = Recovering; tries = tries; heard = heard }; does = refl; recovers = refl; quiet = refl }) }
+under_way : (m : Memory) (tries : ℕ) (heard : List Answered) → m.beats.heard ≡ None → m.marking ≡ None → m.looking ≡ None → Recovers (does m (record { operation = Recovering; tries = tries; heard = heard }))
+under_way m tries heard beat marking look =
+    record { no_beat = beat; no_marking = marking; no_look = look; either = inl (record { doing = record { operation = Recovering; tries = tries; heard = heard }; does = refl; recovers = refl; quiet = refl }) }
 
-answers_with : (m : Memory) (said : HostAnswer) → m.beats.heard ≡ None → m.marking ≡ None → EndsRecovery said (length m.learned) → Recovers (says m said)
-answers_with m said beat marking ends = record { no_beat = beat; no_marking = marking; either = inr (record { rests = refl; said = said; says = refl; ends = ends }) }
+answers_with : (m : Memory) (said : HostAnswer) → m.beats.heard ≡ None → m.marking ≡ None → m.looking ≡ None → EndsRecovery said (length m.learned) → Recovers (says m said)
+answers_with m said beat marking look ends = record { no_beat = beat; no_marking = marking; no_look = look; either = inr (record { rests = refl; said = said; says = refl; ends = ends }) }
 
 module _ (c : Shape) where
-  tries_next : (m : Memory) (tries : ℕ) → m.beats.heard ≡ None → m.marking ≡ None → Recovers (goes_on c m Recovering tries)
-  tries_next m tries beat marking = by (nat_lt (length m.learned) c.slots)
+  tries_next : (m : Memory) (tries : ℕ) → m.beats.heard ≡ None → m.marking ≡ None → m.looking ≡ None → Recovers (goes_on c m Recovering tries)
+  tries_next m tries beat marking look = by (nat_lt (length m.learned) c.slots)
     where
       by : (less : Bool) → Recovers (if less then begins m Recovering tries else says m (Recovered (length m.learned)))
-      by true = under_way m tries [] beat marking
-      by false = answers_with m (Recovered (length m.learned)) beat marking refl
+      by true = under_way m tries [] beat marking look
+      by false = answers_with m (Recovered (length m.learned)) beat marking look refl
 
-  outrun : (m : Memory) (tries : ℕ) → m.beats.heard ≡ None → m.marking ≡ None → Recovers (tries_again m Recovering tries)
-  outrun m tries beat marking = by (nat_le tries 1)
+  outrun : (m : Memory) (tries : ℕ) → m.beats.heard ≡ None → m.marking ≡ None → m.looking ≡ None → Recovers (tries_again m Recovering tries)
+  outrun m tries beat marking look = by (nat_le tries 1)
     where
       by : (last : Bool) → Recovers (if last then says m (Refused refusal.Outrun) else begins m Recovering (tries - 1))
-      by true = answers_with m (Refused refusal.Outrun) beat marking tt
-      by false = under_way m (tries - 1) [] beat marking
+      by true = answers_with m (Refused refusal.Outrun) beat marking look tt
+      by false = under_way m (tries - 1) [] beat marking look
 
-  module _ (m : Memory) (tries : ℕ) (heard : List Answered) (ballot : ℕ) (beat : m.beats.heard ≡ None) (marking : m.marking ≡ None) where
+  module _ (m : Memory) (tries : ℕ) (heard : List Answered) (ballot : ℕ) (beat : m.beats.heard ≡ None) (marking : m.marking ≡ None) (look : m.looking ≡ None) where
     abbrev t : Doing
     t = record { operation = Recovering; tries = tries; heard = heard }
 
     takes_one : (value : List ℕ) (o : Option Command) → Recovers (takes c m t ballot value o)
-    takes_one value None = answers_with (with_floor m ballot) (Refused refusal.NotACommand) beat marking tt
-    takes_one value (Some command) = tries_next (learns m command) tries beat marking
+    takes_one value None = answers_with (with_floor m ballot) (Refused refusal.NotACommand) beat marking look tt
+    takes_one value (Some command) = tries_next (learns m command) tries beat marking look
 
     by_end : (e : End) → Recovers (ended c m t ballot e)
     by_end (attempt.Committed value) = takes_one value (decoded value)
     by_end (attempt.Decided value) = takes_one value (decoded value)
-    by_end attempt.Empty = answers_with (with_floor m ballot) (Recovered (length m.learned)) beat marking refl
-    by_end (attempt.Outrun mbal) = outrun (with_floor (with_floor m ballot) mbal) tries beat marking
-    by_end attempt.NoMajority = answers_with (with_floor m ballot) (Refused refusal.NoMajority) beat marking tt
-    by_end attempt.BallotsSpent = answers_with (with_floor m ballot) (Refused refusal.BallotsSpent) beat marking tt
+    by_end attempt.Empty = answers_with (with_floor m ballot) (Recovered (length m.learned)) beat marking look refl
+    by_end (attempt.Outrun mbal) = outrun (with_floor (with_floor m ballot) mbal) tries beat marking look
+    by_end attempt.NoMajority = answers_with (with_floor m ballot) (Refused refusal.NoMajority) beat marking look tt
+    by_end attempt.BallotsSpent = answers_with (with_floor m ballot) (Refused refusal.BallotsSpent) beat marking look tt
 
     by_stand : (s : Status) → Recovers (by_status c m t ballot s)
-    by_stand (Due phase disk) = under_way m tries heard beat marking
+    by_stand (Due phase disk) = under_way m tries heard beat marking look
     by_stand (Ended end) = by_end end
 
   -- it hears one more answer
-  hears_one : (h : ℕ) (m : Memory) (t : Doing) (x : Answered) → t.operation ≡ Recovering → m.beats.heard ≡ None → m.marking ≡ None → Recovers (hears c h m (Some t) x)
-  hears_one h m t x is beat marking =
+  hears_one : (h : ℕ) (m : Memory) (t : Doing) (x : Answered) → t.operation ≡ Recovering → m.beats.heard ≡ None → m.marking ≡ None → m.looking ≡ None → Recovers (hears c h m (Some t) x)
+  hears_one h m t x is beat marking look =
       let plain : Doing = record { operation = Recovering; tries = t.tries; heard = t.heard } in
       let same : plain ≡ t = ap (λ o. record { operation = o; tries = t.tries; heard = t.heard }) (sym is) in
-      subst (λ (d : Doing). Recovers (hears c h m (Some d) x)) same (by_stand m t.tries (t.heard ++ x ∷ []) _ beat marking _)
+      subst (λ (d : Doing). Recovers (hears c h m (Some d) x)) same (by_stand m t.tries (t.heard ++ x ∷ []) _ beat marking look _)
 
   -- once it has ended no call is due
-  none_due : (h : ℕ) (m : Memory) (doing : Option Doing) → m.beats.heard ≡ None → m.marking ≡ None → doing ≡ None → next_doing c h m doing ≡ None
-  none_due h m (Some t) beat marking rests = absurd (cc)
-  none_due h m None beat marking rests = ap (next_beside c h m) beat ∙ ap (next_marking c h m) marking
+  none_due : (h : ℕ) (m : Memory) (doing : Option Doing) → m.beats.heard ≡ None → m.marking ≡ None → m.looking ≡ None → doing ≡ None → next_doing c h m doing ≡ None
+  none_due h m (Some t) beat marking look rests = absurd (cc)
+  none_due h m None beat marking look rests = ap (next_beside c h m) beat ∙ ap (next_marking c h m) marking ∙ ap (next_look c m) look
 
 -- WHOSE EVENT IT IS
 
@@ -331,7 +332,7 @@ module _ (start now : Past) (h : ℕ) (s : Since start now h) where
       (host_here shape (run_of now.opening now.events) (stepped w h call) h (own h)
       ∙ ap (λ (x : Host). host_step shape h x (stepped w h call)) s.runs
       ∙ ap (λ (d : Option Doing). Running (hears_from shape h s.memory d call.0 answer)) u.does)
-      (hears_one shape h s.memory u.doing _ u.recovers s.recovers.no_beat s.recovers.no_marking)
+      (hears_one shape h s.memory u.doing _ u.recovers s.recovers.no_beat s.recovers.no_marking s.recovers.no_look)
 
   by_call : IsUnderWay s.memory → (o : Option (ℕ × Call)) → next_of shape h (w.host h) ≡ o → Since start stepped_now h
   by_call u None none = idle none
@@ -340,7 +341,7 @@ module _ (start now : Past) (h : ℕ) (s : Since start now h) where
   one_step : Since start stepped_now h
   one_step = elim s.recovers.either [
     | inl u ↦ by_call u (next_of shape h (w.host h)) refl
-    | inr e ↦ idle (ap (next_of shape h) s.runs ∙ none_due shape h s.memory s.memory.doing s.recovers.no_beat s.recovers.no_marking e.rests)
+    | inr e ↦ idle (ap (next_of shape h) s.runs ∙ none_due shape h s.memory s.memory.doing s.recovers.no_beat s.recovers.no_marking s.recovers.no_look e.rests)
   ]
 
 all_steps : (start now : Past) (h n : ℕ) → Since start now h → Since start (record now { events = now.events ++ replicate n (Step h) }) h
@@ -370,7 +371,7 @@ module _ (p : Past) (h : ℕ) (within : h < HOSTS) (stopped : is_stopped ((world
       moved begun begun h (Recover h 255) (entries.Recover h 255) (goes_on p.opening.shape fresh Recovering 255) refl (omega arith)
       (ap (λ (x : Host). brings_if (idles x && nat_lt 0 255) (Some (entries.Recover h 255))) is_fresh) refl
       (host_here p.opening.shape log (entries.Recover h 255) h (own h) ∙ ap (λ (x : Host). entries.begins_on p.opening.shape x Recovering 255) is_fresh)
-      (tries_next p.opening.shape fresh 255 refl refl)
+      (tries_next p.opening.shape fresh 255 refl refl refl)
 
   -- these are the answers to it, if any
   pub record Whole : Type 0 where

@@ -6,7 +6,7 @@ use Rattle.attempt.specs.Setup.{Setup}
 use Rattle.torn_block.specs.Layout.{cluster_version}
 use Rattle.slot_log.specs.Shape.{Shape}
 use Rattle.slot_log.specs.layouts.Learning as by
-pub use Rattle.slot_log.specs.layouts.Learning.{Operation, operation_as, Doing, Memory, fresh, says, does, with_floor, learns, input_of, floor_for, begins, full_outcome, spent_outcome, goes_on, tries_again, ended, by_status, with_heard, goes_by, is_placed, after_learning, judged, offered_by, judges, is_idle_in}
+pub use Rattle.slot_log.specs.layouts.Learning.{Operation, operation_as, Doing, Memory, fresh, says, does, with_floor, learns, input_of, begins, full_outcome, goes_on, tries_again, ended, by_status, with_heard, goes_by, is_placed, after_learning, judged, offered_by, judges, is_idle_in}
 
 abbrev pub setup_of : Shape → ℕ → Memory → Operation → Setup
 setup_of = by.setup_of cluster_version

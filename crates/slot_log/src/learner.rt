@@ -106,18 +106,6 @@ impl<L: Layout> Learner<L> {
         self.go_on(Operation::Recovering, tries);
     }
 
-    /// Begins to learn the values that marks tell, slot by slot, up to the first slot of which none does. Nothing is written,
-    /// so no host is outrun by it.
-    pub fn look(&mut self)
-        requires idle { is_idle self.old ≡ true }
-        ensures leads { (c : Shape) (h : ℕ) (m : Memory) → LeadsTo L.version c h m self.old →
-            LeadsTo L.version c h (goes_on c m Operation.Looking 1) self.new }
-        ensures same { IsSameLog self.old self.new }
-        ensures judged { offered_of self.new ≡ None }
-    {
-        self.go_on(Operation::Looking, 1);
-    }
-
     /// Begins to put a value into the log. Up to `tries` attempts may be outrun, the last of which ends the operation.
     pub fn place(&mut self, value: L::Value, tries: u8)
         requires idle { is_idle self.old ≡ true }
@@ -128,6 +116,20 @@ impl<L: Layout> Learner<L> {
         ensures judged { offered_of self.new ≡ None }
     {
         self.go_on(Operation::Placing(value), tries);
+    }
+
+    /// Learns the next slot's value where a marked block told it, so that no attempt is needed.
+    pub fn learn_marked(&mut self, value: L::Value)
+        requires idle { is_idle self.old ≡ true }
+        requires slot { length self.old.learned < self.old.shape.slots }
+        ensures leads { (c : Shape) (h : ℕ) (m : Memory) → LeadsTo L.version c h m self.old →
+            LeadsTo L.version c h (learns m (L.spelled value)) self.new }
+        ensures learned { self.new.learned ≡ self.old.learned ++ L.spelled value ∷ [] }
+        ensures same { (self.new.host ≡ self.old.host) × (self.new.shape ≡ self.old.shape) }
+        ensures idle { is_idle self.new ≡ true }
+        ensures judged { offered_of self.new ≡ None }
+    {
+        self.add(value);
     }
 
     /// The device call that is due.
@@ -247,8 +249,7 @@ impl<L: Layout> Learner<L> {
     {
         let slot = self.learned.len() as u16;
         let input = operation.input();
-        let floor = operation.floor(self.floor);
-        self.attempt = Attempt::new(self.host, slot, self.config.disks(), floor, input);
+        self.attempt = Attempt::new(self.host, slot, self.config.disks(), self.floor, input);
         self.task = Some(LogTask { operation, tries });
         self.said = None;
     }
@@ -296,11 +297,19 @@ impl<L: Layout> Learner<L> {
                 }
             }
             End::NoMajority => self.finish(LogOutcome::Refused(Refusal::NoMajority)),
-            End::BallotsSpent => {
-                let learned = self.learned.len() as u16;
-                self.finish(task.operation.outcome_without_ballot(learned));
-            }
+            End::BallotsSpent => self.finish(LogOutcome::Refused(Refusal::BallotsSpent)),
         }
+    }
+
+    // The next slot's value is known. No ballot was taken on the slot behind it.
+    fn add(&mut self, value: L::Value)
+        requires idle { is_idle self.old ≡ true }
+        requires slot { length self.old.learned < self.old.shape.slots }
+        ensures { self.new ≡ record self.old { learned = self.old.learned ++ L.spelled value ∷ []; floor = 0; said = None } }
+    {
+        self.learned.push_reserved(value);
+        self.floor = 0;
+        self.said = None;
     }
 
     // Learns the next slot's value.
@@ -315,9 +324,7 @@ impl<L: Layout> Learner<L> {
         ensures judged { offered_of self.new ≡ None }
     {
         let slot = self.learned.len() as u16;
-        self.learned.push_reserved(value);
-        self.floor = 0;
-        self.said = None;
+        self.add(value);
         if is_placed_by::<L>(&task.operation, &value) {
             self.finish(LogOutcome::Placed { slot });
         } else {

@@ -2,7 +2,6 @@ ghost use Rattle.std.specs.Prelude.{◌≡◌};
 ghost use Rattle.slot_log.specs.layouts.Learning.{operation_as, is_placed};
 
 use crate::outcome::{LogOutcome, Refusal};
-use paxos_block::LAST_BALLOT;
 use torn_block::Layout;
 
 /// What a learner is asked to do.
@@ -12,8 +11,6 @@ pub enum Operation<V> {
     Placing(V),
     /// To learn all that is in the log.
     Recovering,
-    /// To learn what marks tell, and to write nothing.
-    Looking,
 }
 
 /// An operation under way.
@@ -26,7 +23,7 @@ pub struct LogTask<V> {
 
 impl<V: Copy> Operation<V> {
     ghost use Rattle.std.specs.Prelude.{◌≡◌, ℕ, List, option_map};
-    ghost use Rattle.slot_log.specs.layouts.Learning.{operation_as, input_of, floor_for, full_outcome, spent_outcome};
+    ghost use Rattle.slot_log.specs.layouts.Learning.{operation_as, input_of, full_outcome};
 
     /// What its attempts propose.
     pub fn input(&self) -> Option<V>
@@ -35,18 +32,6 @@ impl<V: Copy> Operation<V> {
         match self {
             Operation::Placing(value) => Some(*value),
             Operation::Recovering => None,
-            Operation::Looking => None,
-        }
-    }
-
-    /// Its attempts take ballots above this number. For a look it is the last ballot: a look takes none, and ends with the opening.
-    pub fn floor(&self, floor: u64) -> u64
-        ensures { (spelled : V → List ℕ) → result ≡ floor_for (operation_as spelled self.now) floor }
-    {
-        match self {
-            Operation::Placing(_) => floor,
-            Operation::Recovering => floor,
-            Operation::Looking => floor.max(LAST_BALLOT),
         }
     }
 
@@ -57,18 +42,6 @@ impl<V: Copy> Operation<V> {
         match self {
             Operation::Placing(_) => LogOutcome::Refused(Refusal::LogFull),
             Operation::Recovering => LogOutcome::Recovered { length: learned },
-            Operation::Looking => LogOutcome::Looked { length: learned },
-        }
-    }
-
-    /// How it ends when the attempt on the next slot has no ballot left. So many slots are learned by then.
-    pub fn outcome_without_ballot(&self, length: u16) -> LogOutcome
-        ensures { (spelled : V → List ℕ) → result ≡ spent_outcome (operation_as spelled self.now) length }
-    {
-        match self {
-            Operation::Placing(_) => LogOutcome::Refused(Refusal::BallotsSpent),
-            Operation::Recovering => LogOutcome::Refused(Refusal::BallotsSpent),
-            Operation::Looking => LogOutcome::Looked { length },
         }
     }
 }
@@ -80,6 +53,5 @@ pub fn is_placed_by<L: Layout>(operation: &Operation<L::Value>, value: &L::Value
     match operation {
         Operation::Placing(wanted) => L::is_same(wanted, value),
         Operation::Recovering => false,
-        Operation::Looking => false,
     }
 }

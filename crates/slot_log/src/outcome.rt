@@ -57,7 +57,5 @@ pub enum LogOutcome {
     Placed { slot: u16 },
     /// So many slots are learned, and nothing had been chosen for the next one when its attempt began.
     Recovered { length: u16 },
-    /// So many slots are learned, and no mark told the value of the next one when it was looked at.
-    Looked { length: u16 },
     Refused(Refusal),
 }

@@ -1,5 +1,6 @@
--- A host's account: what it has learned, its floor and its refusals follow from how its attempts ended, and its readings from how its beats did.
-use Rattle.std.specs.Prelude.{◌-◌, not, is_some, max, nat_lt, nat_le, if◌then◌else◌}
+-- A host's account: what it has learned, its floor and its refusals follow from how its attempts ended and what its looks were told, and its
+-- readings from how its beats did.
+use Rattle.std.specs.Prelude.{◌-◌, ◌&&◌, not, is_some, max, nat_lt, nat_le, if◌then◌else◌}
 use Rattle.std.proofs.Common.{ℕ, ◌+◌, ◌<◌, ◌≤◌, ◌≡◌, ◌==◌, ◌↔◌, Bool, true, false, Option, Some, None, List, [], ◌∷◌, ◌++◌, length, refl, sym, ap, ◌∙◌, subst, arith, append_assoc, append-nil, length-append}
 use Rattle.std.proofs.lemmas.Bool.{and_parts, eq-eqb, ne_eqb, leb-true, leb-false}
 use Rattle.std.specs.Option.{option_or}
@@ -11,17 +12,18 @@ use Rattle.heartbeat.specs.Suggesting.{Readings}
 use Rattle.beats.specs.Answers as beat_answers
 use Rattle.beats.specs.Status as beat
 use Rattle.marks.specs.Status as mark
+use Rattle.looks.specs.Status as look
 use Rattle.disk.specs.Disk.{Answer}
 use Rattle.lock_command.specs.declared.command.Command.{Command}
 use Rattle.lock_command.specs.Reading.{decoded}
 use Rattle.slot_log.specs.Shape.{Shape}
 use Rattle.slot_log.specs.declared.outcome.Refusal.TheVariants as refusal
 use Rattle.host.specs.declared.answer.HostAnswer.{HostAnswer}
-use Rattle.host.specs.declared.answer.HostAnswer.TheVariants.{Refused}
-use Rattle.host.specs.Host.{Operation, Submitting, Recovering, Looking, Doing, Beats, Memory, Host, Stopped, Running, fresh, says, begins, goes_on, full_answer, spent_answer, learns, is_submitted, after_learning, takes, tries_again, with_floor, ended, by_status, with_heard, setup_of, Marking, beat_of, beat_by, hears_beat, hears_beside, hears_marking, marking_by, marking_with, marking_of, with_marking, starts_marking, hears_from, rests, is_idle, is_idle_in, said_of, learned_of}
+use Rattle.host.specs.declared.answer.HostAnswer.TheVariants.{Looked, Refused}
+use Rattle.host.specs.Host.{Operation, Submitting, Recovering, Looking, Doing, Beats, Memory, look_of, look_by, looking_with, hears_look, hears_apart, looks_on, takes_marked, with_looking, starts_look, Host, Stopped, Running, fresh, says, begins, goes_on, full_answer, learns, is_submitted, after_learning, takes, tries_again, with_floor, ended, by_status, with_heard, setup_of, Marking, beat_of, beat_by, hears_beat, hears_beside, hears_marking, marking_by, marking_with, marking_of, with_marking, starts_marking, hears_from, rests, is_idle, is_idle_in, said_of, learned_of}
 use Rattle.world.specs.Entry as entries
 use Rattle.world.specs.Entry.{Filled, Called, Torn, Crashed, Lost, Migrated, host_step, host_after}
-use Rattle.world.specs.Account.{Ending, ending_by, ending_in, ending_at, endings, read_as, committed_by, committed, outran, greatest_on, one_if_outrun, outruns, beat_ended_by, beat_ended_in, beat_ended_at, beats_ended, read_by, last_read, floor_of, readings_of, GoesOn, AllGoOn, AccountsFor, BeginsWith, IsCalled, AllCalled, GivesUp}
+use Rattle.world.specs.Account.{Ending, told_by, told_in, told_apart, told_beside, ending_by, ending_in, ending_at, endings, read_as, committed_by, committed, outran, greatest_on, one_if_outrun, outruns, beat_ended_by, beat_ended_in, beat_ended_at, beats_ended, read_by, last_read, floor_of, readings_of, GoesOn, AllGoOn, AccountsFor, BeginsWith, IsCalled, AllCalled, GivesUp}
 
 -- SUMS OF ENDINGS
 
@@ -132,12 +134,21 @@ learned_again m operation tries = on_either (nat_le tries 1) (says m (Refused re
 floor_again : (m : Memory) (operation : Operation) (tries : ℕ) → (tries_again m operation tries).floor ≡ m.floor
 floor_again m operation tries = on_either (nat_le tries 1) (says m (Refused refusal.Outrun)) (begins m operation (tries - 1)) (λ k. k.floor ≡ m.floor) (λ e. refl) (λ e. refl)
 
+-- so it is where the next slot is looked at
+looked_learned : (c : Shape) (m : Memory) (first : ℕ) → (looks_on c m first).learned ≡ m.learned
+looked_learned c m first =
+    on_either (nat_lt (length m.learned) c.slots) (with_looking m (Some (record { first = first; heard = [] })) None) (with_looking m None (Some (Looked (length m.learned)))) (λ k. k.learned ≡ m.learned) (λ e. refl) (λ e. refl)
+
+looked_floor : (c : Shape) (m : Memory) (first : ℕ) → (looks_on c m first).floor ≡ m.floor
+looked_floor c m first =
+    on_either (nat_lt (length m.learned) c.slots) (with_looking m (Some (record { first = first; heard = [] })) None) (with_looking m None (Some (Looked (length m.learned)))) (λ k. k.floor ≡ m.floor) (λ e. refl) (λ e. refl)
+
 module _ (c : Shape) (h : ℕ) (m : Memory) (past : List Ending) (is : Accounts m past) where
   learning : (t : Doing) (ballot : ℕ) (end : End) (command : Command) → committed_by end ≡ command ∷ [] → (b : Bool)
       → Accounts (after_learning c m t command b) (past ++ record { slot = length m.learned; ballot = ballot; end = end } ∷ [])
   learning t ballot end command told true = learns_one m (after_learning c m t command true) past is ballot end command told refl refl
   learning t ballot end command told false =
-      let m' : Memory = record { learned = m.learned ++ command ∷ []; floor = 0; doing = None; said = None; beats = m.beats; marking = m.marking } in
+      let m' : Memory = record { learned = m.learned ++ command ∷ []; floor = 0; doing = None; said = None; beats = m.beats; marking = m.marking; looking = m.looking } in
       learns_one m (after_learning c m t command false) past is ballot end command told (learned_on c m' t.operation t.tries) (floor_on c m' t.operation t.tries)
 
   taking : (t : Doing) (ballot : ℕ) (value : List ℕ) (end : End) → outran end ≡ 0 → (read : Option Command) → committed_by end ≡ read_as read
@@ -179,8 +190,33 @@ module _ (c : Shape) (h : ℕ) (m : Memory) (past : List Ending) (is : Accounts 
   marking None x = same_account m m past refl refl is
   marking (Some t) x = by_marking (marking_with t x) (mark.status (marking_of c h m t.slot) (on (marking_with t x).heard))
 
-  beside : (o : Option (List beat_answers.Answered)) (d : ℕ) (answer : Answer) → Accounts (hears_beside c h m o d answer) (past ++ [])
-  beside None d answer = marking m.marking (record { disk = d; heard = heard_as answer })
+  -- a look that goes on, or ends untold
+  looked : (looking : Option Looking) (said : Option HostAnswer) → Accounts (with_looking m looking said) (past ++ [])
+  looked looking said = same_account m (with_looking m looking said) past refl refl is
+
+  -- one that is told what a mark says
+  told_one : (d : ℕ) (value : List ℕ) (read : Option Command) → committed_by (attempt.Decided value) ≡ read_as read
+      → Accounts (takes_marked c m d read) (past ++ record { slot = length m.learned; ballot = 0; end = attempt.Decided value } ∷ [])
+  told_one d value None told = counts m (takes_marked c m d None) past is 0 (attempt.Decided value) told refl (omega arith)
+  told_one d value (Some command) told =
+      learns_one m (takes_marked c m d (Some command)) past is 0 (attempt.Decided value) command told (looked_learned c (learns m command) d) (looked_floor c (learns m command) d)
+
+  by_look : (t : Looking) (st : look.Status) → Accounts (look_by c m t st) (past ++ told_by (look_of c m t.first) st)
+  by_look t (look.Due disk) = looked (Some t) None
+  by_look t (look.Ended (look.Decided disk value)) = told_one disk value (decoded value) refl
+  by_look t (look.Ended look.Unmarked) = looked None (Some (Looked (length m.learned)))
+  by_look t (look.Ended look.NoMajority) = looked None (Some (Refused refusal.NoMajority))
+
+  looking_at : (o : Option Looking) (x : Answered) → Accounts (hears_look c m o x) (past ++ told_in c m o x)
+  looking_at None x = same_account m m past refl refl is
+  looking_at (Some t) x = by_look (looking_with t x) (look.status (look_of c m t.first) (on (looking_with t x).heard))
+
+  apart : (o : Option Marking) (x : Answered) → Accounts (hears_apart c h m o x) (past ++ told_apart c m o x)
+  apart None x = looking_at m.looking x
+  apart (Some t) x = marking (Some t) x
+
+  beside : (o : Option (List beat_answers.Answered)) (d : ℕ) (answer : Answer) → Accounts (hears_beside c h m o d answer) (past ++ told_beside c m o (record { disk = d; heard = heard_as answer }))
+  beside None d answer = apart m.marking (record { disk = d; heard = heard_as answer })
   beside (Some heard) d answer = beating (Some heard) (record { disk = d; heard = beat_answers.heard_as answer })
 
   hearing : (o : Option Doing) (d : ℕ) (answer : Answer) → Accounts (hears_from c h m o d answer) (past ++ ending_in c h m o (record { disk = d; heard = heard_as answer }))
@@ -198,7 +234,7 @@ one_accounts c h (Running m) past (entries.Stop g) on is = absurd on
 one_accounts c h (Running m) past (entries.Submit g command tries) on is =
     same_account m (goes_on c m (Submitting command) tries) past (learned_on c m (Submitting command) tries) (floor_on c m (Submitting command) tries) is
 one_accounts c h (Running m) past (entries.Recover g tries) on is = same_account m (goes_on c m Recovering tries) past (learned_on c m Recovering tries) (floor_on c m Recovering tries) is
-one_accounts c h (Running m) past (entries.Look g) on is = same_account m (goes_on c m Looking 1) past (learned_on c m Looking 1) (floor_on c m Looking 1) is
+one_accounts c h (Running m) past (entries.Look g) on is = same_account m (starts_look c m) past (looked_learned c m 0) (looked_floor c m 0) is
 one_accounts c h (Running m) past (entries.Beat g) on is = same_account m _ past refl refl is
 one_accounts c h (Running m) past (entries.Mark g slot) on is =
     on_either (nat_lt slot (length m.learned)) (with_marking m (Some (record { slot = slot; heard = [] })) None) (with_marking m m.marking (Some (Refused refusal.NotLearned))) (λ n. Accounts n (past ++ []))
@@ -273,6 +309,29 @@ beats_marking : (c : Shape) (h : ℕ) (m : Memory) (o : Option Marking) (x : Ans
 beats_marking c h m None x = refl
 beats_marking c h m (Some t) x = let more = marking_with t x in beats_marked m more (mark.status (marking_of c h m t.slot) (on more.heard))
 
+-- and so does a look
+beats_looked : (c : Shape) (m : Memory) (first : ℕ) → (looks_on c m first).beats ≡ m.beats
+beats_looked c m first =
+    on_either (nat_lt (length m.learned) c.slots) (with_looking m (Some (record { first = first; heard = [] })) None) (with_looking m None (Some (Looked (length m.learned)))) (λ k. k.beats ≡ m.beats) (λ e. refl) (λ e. refl)
+
+beats_told : (c : Shape) (m : Memory) (d : ℕ) (read : Option Command) → (takes_marked c m d read).beats ≡ m.beats
+beats_told c m d None = refl
+beats_told c m d (Some command) = beats_looked c (learns m command) d
+
+beats_look_by : (c : Shape) (m : Memory) (t : Looking) (st : look.Status) → (look_by c m t st).beats ≡ m.beats
+beats_look_by c m t (look.Due disk) = refl
+beats_look_by c m t (look.Ended (look.Decided disk value)) = beats_told c m disk (decoded value)
+beats_look_by c m t (look.Ended look.Unmarked) = refl
+beats_look_by c m t (look.Ended look.NoMajority) = refl
+
+beats_look : (c : Shape) (m : Memory) (o : Option Looking) (x : Answered) → (hears_look c m o x).beats ≡ m.beats
+beats_look c m None x = refl
+beats_look c m (Some t) x = let more = looking_with t x in beats_look_by c m more (look.status (look_of c m t.first) (on more.heard))
+
+beats_apart : (c : Shape) (h : ℕ) (m : Memory) (o : Option Marking) (x : Answered) → (hears_apart c h m o x).beats ≡ m.beats
+beats_apart c h m None x = beats_look c m m.looking x
+beats_apart c h m (Some t) x = beats_marking c h m (Some t) x
+
 beats_starting : (m : Memory) (slot : ℕ) → (starts_marking m slot).beats ≡ m.beats
 beats_starting m slot =
     on_either (nat_lt slot (length m.learned)) (with_marking m (Some (record { slot = slot; heard = [] })) None) (with_marking m m.marking (Some (Refused refusal.NotLearned))) (λ k. k.beats ≡ m.beats) (λ e. refl) (λ e. refl)
@@ -286,7 +345,7 @@ module _ (c : Shape) (h : ℕ) (m : Memory) where
 
   read_beside : (o : Option (List beat_answers.Answered)) (d : ℕ) (answer : Answer)
       → (hears_beside c h m o d answer).beats.readings ≡ option_or (last_read (beat_ended_in c h None o (record { disk = d; heard = beat_answers.heard_as answer }))) m.beats.readings
-  read_beside None d answer = ap (λ (b : Beats). b.readings) (beats_marking c h m m.marking (record { disk = d; heard = heard_as answer }))
+  read_beside None d answer = ap (λ (b : Beats). b.readings) (beats_apart c h m m.marking (record { disk = d; heard = heard_as answer }))
   read_beside (Some heard) d answer =
       let all = heard ++ record { disk = d; heard = beat_answers.heard_as answer } ∷ [] in read_by_status all (beat.status (beat_of c h) (beat_answers.on all))
 
@@ -316,7 +375,7 @@ one_read c h (Running m) (entries.Start g) on = refl
 one_read c h (Running m) (entries.Stop g) on = absurd on
 one_read c h (Running m) (entries.Submit g command tries) on = ap (λ (b : Beats). b.readings) (beats_on c m (Submitting command) tries)
 one_read c h (Running m) (entries.Recover g tries) on = ap (λ (b : Beats). b.readings) (beats_on c m Recovering tries)
-one_read c h (Running m) (entries.Look g) on = ap (λ (b : Beats). b.readings) (beats_on c m Looking 1)
+one_read c h (Running m) (entries.Look g) on = ap (λ (b : Beats). b.readings) (beats_looked c m 0)
 one_read c h (Running m) (entries.Beat g) on = refl
 one_read c h (Running m) (entries.Mark g slot) on = ap (λ (b : Beats). b.readings) (beats_starting m slot)
 one_read c h (Running m) (Called g d call answer left) on = read_hearing c h m m.doing d answer
@@ -347,13 +406,14 @@ abbrev IsTried : ℕ → Option Doing → Option HostAnswer → ℕ → Type 0
 IsTried tries (Some t) said n = (t.tries + n ≡ tries) × (1 ≤ t.tries) × (said ≡ None)
 IsTried tries None said n = (n ≤ tries) × ((said ≡ Some (Refused refusal.Outrun)) ↔ (n ≡ tries))
 
--- and neither a beat nor a marking is under way
-record AreResting (heard : Option (List beat_answers.Answered)) (marking : Option Marking) : Type 0 where
+-- and no beat, marking or look is under way
+record AreResting (heard : Option (List beat_answers.Answered)) (marking : Option Marking) (looking : Option Looking) : Type 0 where
   beat : heard ≡ None
   mark : marking ≡ None
+  look : looking ≡ None
 
 abbrev Tried : ℕ → Memory → ℕ → Type 0
-Tried tries m n = IsTried tries m.doing m.said n × AreResting m.beats.heard m.marking
+Tried tries m n = IsTried tries m.doing m.said n × AreResting m.beats.heard m.marking m.looking
 
 abbrev TriedAt : ℕ → Host → ℕ → Type 0
 TriedAt tries Stopped n = ⊥
@@ -366,32 +426,26 @@ ends_so tries n said left other = (omega arith, (λ is. absurd (other is), λ is
 not_full : (operation : Operation) (learned : ℕ) → Some (full_answer operation learned) ≡ Some (Refused refusal.Outrun) → ⊥
 not_full (Submitting command) learned is = cc
 not_full Recovering learned is = cc
-not_full Looking learned is = cc
 
-not_spent : (operation : Operation) (learned : ℕ) → Some (spent_answer operation learned) ≡ Some (Refused refusal.Outrun) → ⊥
-not_spent (Submitting command) learned is = cc
-not_spent Recovering learned is = cc
-not_spent Looking learned is = cc
-
-tried_on : (c : Shape) (m : Memory) (operation : Operation) (k tries n : ℕ) → k + n ≡ tries → 1 ≤ k → AreResting m.beats.heard m.marking → Tried tries (goes_on c m operation k) n
+tried_on : (c : Shape) (m : Memory) (operation : Operation) (k tries n : ℕ) → k + n ≡ tries → 1 ≤ k → AreResting m.beats.heard m.marking m.looking → Tried tries (goes_on c m operation k) n
 tried_on c m operation k tries n all some rest =
     on_either (nat_lt (length m.learned) c.slots) (begins m operation k) (says m (full_answer operation (length m.learned))) (λ x. Tried tries x n)
     (λ e. ((all, some, refl), rest))
     (λ e. (ends_so tries n (full_answer operation (length m.learned)) (omega arith) (not_full operation (length m.learned)), rest))
 
-module _ (c : Shape) (h tries : ℕ) (m : Memory) (t : Doing) (n : ℕ) (all : t.tries + n ≡ tries) (some : 1 ≤ t.tries) (rest : AreResting m.beats.heard m.marking) where
+module _ (c : Shape) (h tries : ℕ) (m : Memory) (t : Doing) (n : ℕ) (all : t.tries + n ≡ tries) (some : 1 ≤ t.tries) (rest : AreResting m.beats.heard m.marking m.looking) where
   tries_left : n < tries
   tries_left = omega (arith, all, some)
 
   tried_learning : (command : Command) (b : Bool) → Tried tries (after_learning c m t command b) n
   tried_learning command true = (ends_so tries n _ tries_left (λ is. cc), rest)
-  tried_learning command false = tried_on c (record { learned = m.learned ++ command ∷ []; floor = 0; doing = None; said = None; beats = m.beats; marking = m.marking }) t.operation t.tries tries n all some rest
+  tried_learning command false = tried_on c (record { learned = m.learned ++ command ∷ []; floor = 0; doing = None; said = None; beats = m.beats; marking = m.marking; looking = m.looking }) t.operation t.tries tries n all some rest
 
   tried_taking : (ballot : ℕ) (value : List ℕ) (read : Option Command) → Tried tries (takes c m t ballot value read) n
   tried_taking ballot value None = (ends_so tries n _ tries_left (λ is. cc), rest)
   tried_taking ballot value (Some command) = tried_learning command (is_submitted t.operation value)
 
-  tried_again : (m' : Memory) → AreResting m'.beats.heard m'.marking → Tried tries (tries_again m' t.operation t.tries) (n + 1)
+  tried_again : (m' : Memory) → AreResting m'.beats.heard m'.marking m'.looking → Tried tries (tries_again m' t.operation t.tries) (n + 1)
   tried_again m' rest' =
       on_either (nat_le t.tries 1) (says m' (Refused refusal.Outrun)) (begins m' t.operation (t.tries - 1)) (λ x. Tried tries x (n + 1))
       (λ last. let one : t.tries ≤ 1 = leb-true t.tries 1 last in ((omega (arith, all, some), (λ is. omega (arith, all, some, one), λ is. refl)), rest'))
@@ -402,25 +456,29 @@ module _ (c : Shape) (h tries : ℕ) (m : Memory) (t : Doing) (n : ℕ) (all : t
   tried_ending ballot (attempt.Decided value) = subst (Tried tries (ended c m t ballot (attempt.Decided value))) (omega arith) (tried_taking ballot value (decoded value))
   tried_ending ballot attempt.Empty = subst (Tried tries (ended c m t ballot attempt.Empty)) (omega arith) (ends_so tries n _ tries_left (λ is. cc), rest)
   tried_ending ballot attempt.NoMajority = subst (Tried tries (ended c m t ballot attempt.NoMajority)) (omega arith) (ends_so tries n _ tries_left (λ is. cc), rest)
-  tried_ending ballot attempt.BallotsSpent = subst (Tried tries (ended c m t ballot attempt.BallotsSpent)) (omega arith) (ends_so tries n _ tries_left (not_spent t.operation (length m.learned)), rest)
+  tried_ending ballot attempt.BallotsSpent = subst (Tried tries (ended c m t ballot attempt.BallotsSpent)) (omega arith) (ends_so tries n _ tries_left (λ is. cc), rest)
   tried_ending ballot (attempt.Outrun mbal) = subst (Tried tries (ended c m t ballot (attempt.Outrun mbal))) (omega arith) (tried_again (with_floor (with_floor m ballot) mbal) rest)
 
   tried_status : (s : Setup) (heard : List Answered) (st : Status) → Tried tries (by_status c m t (taken s (on heard)) st) (n + outruns (ending_by s heard st))
   tried_status s heard (Due phase d) = subst (Tried tries (by_status c m t (taken s (on heard)) (Due phase d))) (omega arith) ((all, some, refl), rest)
   tried_status s heard (Ended end) = tried_ending (taken s (on heard)) end
 
-tried_unmarked : (c : Shape) (h tries : ℕ) (m : Memory) (n : ℕ) (o : Option Marking) (x : Answered) → o ≡ None → Tried tries m n → Tried tries (hears_marking c h m o x) n
-tried_unmarked c h tries m n None x rest is = is
-tried_unmarked c h tries m n (Some t) x rest is = absurd (cc)
+tried_unlooked : (c : Shape) (tries : ℕ) (m : Memory) (n : ℕ) (o : Option Looking) (x : Answered) → o ≡ None → Tried tries m n → Tried tries (hears_look c m o x) (n + outruns (told_in c m o x))
+tried_unlooked c tries m n None x rest is = subst (Tried tries m) (omega arith) is
+tried_unlooked c tries m n (Some t) x rest is = absurd (cc)
 
-tried_idle : (c : Shape) (h tries : ℕ) (m : Memory) (n : ℕ) (o : Option (List beat_answers.Answered)) (d : ℕ) (answer : Answer) → o ≡ None → m.marking ≡ None → Tried tries m n → Tried tries (hears_beside c h m o d answer) n
-tried_idle c h tries m n None d answer rest none is = tried_unmarked c h tries m n m.marking (record { disk = d; heard = heard_as answer }) none is
-tried_idle c h tries m n (Some heard) d answer rest none is = absurd (cc)
+tried_unmarked : (c : Shape) (h tries : ℕ) (m : Memory) (n : ℕ) (o : Option Marking) (x : Answered) → o ≡ None → m.looking ≡ None → Tried tries m n → Tried tries (hears_apart c h m o x) (n + outruns (told_apart c m o x))
+tried_unmarked c h tries m n None x rest unlooked is = tried_unlooked c tries m n m.looking x unlooked is
+tried_unmarked c h tries m n (Some t) x rest unlooked is = absurd (cc)
+
+tried_idle : (c : Shape) (h tries : ℕ) (m : Memory) (n : ℕ) (o : Option (List beat_answers.Answered)) (d : ℕ) (answer : Answer) → o ≡ None → m.marking ≡ None → m.looking ≡ None → Tried tries m n
+    → Tried tries (hears_beside c h m o d answer) (n + outruns (told_beside c m o (record { disk = d; heard = heard_as answer })))
+tried_idle c h tries m n None d answer rest none unlooked is = tried_unmarked c h tries m n m.marking (record { disk = d; heard = heard_as answer }) none unlooked is
+tried_idle c h tries m n (Some heard) d answer rest none unlooked is = absurd (cc)
 
 tried_hearing : (c : Shape) (h tries : ℕ) (m : Memory) (n : ℕ) (o : Option Doing) → m.doing ≡ o → Tried tries m n → (d : ℕ) (answer : Answer)
     → Tried tries (hears_from c h m o d answer) (n + outruns (ending_in c h m o (record { disk = d; heard = heard_as answer })))
-tried_hearing c h tries m n None doing is d answer =
-    subst (Tried tries (hears_from c h m None d answer)) (omega arith) (tried_idle c h tries m n m.beats.heard d answer is.1.beat is.1.mark is)
+tried_hearing c h tries m n None doing is d answer = tried_idle c h tries m n m.beats.heard d answer is.1.beat is.1.mark is.1.look is
 tried_hearing c h tries m n (Some t) doing is d answer =
     let now : IsTried tries (Some t) m.said n = subst (λ (o : Option Doing). IsTried tries o m.said n) doing is.0 in
     let x : Answered = record { disk = d; heard = heard_as answer } in
@@ -452,14 +510,15 @@ rests_none : (o : Option (List beat_answers.Answered)) → rests o ≡ true → 
 rests_none None is = refl
 rests_none (Some heard) is = absurd (cc)
 
-unmarked_none : (o : Option Marking) → not (is_some o) ≡ true → o ≡ None
-unmarked_none None is = refl
-unmarked_none (Some t) is = absurd (cc)
+none_some : {A : Type 0} (o : Option A) → not (is_some o) ≡ true → o ≡ None
+none_some None is = refl
+none_some (Some t) is = absurd (cc)
 
-idle_rests : (m : Memory) (o : Option Doing) → is_idle_in m o ≡ true → AreResting m.beats.heard m.marking
+idle_rests : (m : Memory) (o : Option Doing) → is_idle_in m o ≡ true → AreResting m.beats.heard m.marking m.looking
 idle_rests m None is =
-    let both = and_parts (rests m.beats.heard) (not (is_some m.marking)) is in
-    record { beat = rests_none m.beats.heard both.0; mark = unmarked_none m.marking both.1 }
+    let two = and_parts (rests m.beats.heard && not (is_some m.marking)) (not (is_some m.looking)) is in
+    let both = and_parts (rests m.beats.heard) (not (is_some m.marking)) two.0 in
+    record { beat = rests_none m.beats.heard both.0; mark = none_some m.marking both.1; look = none_some m.looking two.1 }
 idle_rests m (Some t) is = absurd (cc)
 
 begins_tried : (c : Shape) (h tries : ℕ) (m : Memory) (e : Filled) → is_idle m ≡ true → 1 ≤ tries → BeginsWith tries e → TriedAt tries (host_step c h (Running m) e) (outruns (ending_at c h (Running m) e))

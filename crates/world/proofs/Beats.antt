@@ -1,7 +1,7 @@
 -- In a run each host's beat has heard a history, and a busy host has a call to make.
-use Rattle.std.specs.Prelude.{not, is_some, nat_lt, if◌then◌else◌}
+use Rattle.std.specs.Prelude.{◌&&◌, not, is_some, nat_lt, if◌then◌else◌}
 use Rattle.slot_log.specs.declared.outcome.Refusal.TheVariants as refusal
-use Rattle.host.specs.declared.answer.HostAnswer.TheVariants.{Refused}
+use Rattle.host.specs.declared.answer.HostAnswer.TheVariants.{Looked, Refused}
 use Rattle.std.proofs.Common.{ℕ, ◌*◌, ◌<◌, ◌≤◌, ◌≡◌, Bool, true, false, Option, Some, None, List, [], ◌∷◌, ◌++◌, length, refl, sym, subst, ap, ◌∙◌, inl, inr}
 use Rattle.std.proofs.lemmas.Bool.{eqb-true, cases_Bool}
 use Rattle.disk.specs.Disk.{Call, Answer}
@@ -10,18 +10,22 @@ use Rattle.beats.specs.History.{Fits, IsAnswerTo, IsHistory}
 use Rattle.beats.specs.Status.{Setup, Status, Due, Ended, Beaten, NoMajority, status, next_call}
 use Rattle.attempt.specs.Answers as attempt
 use Rattle.marks.specs.Status as mark
+use Rattle.looks.specs.Status as look
+use Rattle.lock_command.specs.declared.command.Command.{Command}
+use Rattle.lock_command.specs.Reading.{decoded}
 use Rattle.beats.proofs.Histories as histories
 use Rattle.attempt.proofs.Hearing.{history_more}
 use Rattle.beats.proofs.Histories.{fits_too, starts}
 use Rattle.slot_log.specs.Shape.{Shape}
-use Rattle.host.specs.Host.{Operation, Submitting, Recovering, Looking, Doing, Memory, Host, Stopped, Running, Marking, hears_from, hears_beside, hears_marking, marking_by, marking_with, marking_of, with_marking, beat_by, beat_of, is_idle, is_idle_in, next_beside, next_marking, next_doing, next_of}
+use Rattle.host.specs.Host.{Operation, Submitting, Recovering, Doing, Memory, Host, Stopped, Running, Marking, Looking, learns, hears_apart, hears_look, look_of, look_by, looking_with, looks_on, takes_marked, with_looking, next_look, hears_from, hears_beside, hears_marking, marking_by, marking_with, marking_of, with_marking, beat_by, beat_of, is_idle, is_idle_in, next_beside, next_marking, next_doing, next_of}
 use Rattle.host.proofs.Hosts.{beats-goes_on, beats_heard}
-use Rattle.world.specs.Entry.{Filled, Start, Stop, Submit, Recover, Look, Beat, Mark, Called, Torn, Crashed, Lost, Migrated, is_of, host_step, started, beats, marks, begins_on}
+use Rattle.world.specs.Entry.{Filled, Start, Stop, Submit, Recover, Look, Beat, Mark, Called, Torn, Crashed, Lost, Migrated, is_of, host_step, started, beats, marks, looks, begins_on}
 use Rattle.world.specs.World.{World, world, MayBegin, IsRun}
 use Rattle.world.proofs.Histories.{step_fits, has_call}
 use Rattle.world.proofs.Projections.{host_here, host_there}
 use Rattle.world.proofs.Runs.{by_run}
 use Rattle.world.proofs.Markings.{marking_call}
+use Rattle.world.proofs.Looking.{look_call}
 
 -- a beat under way has heard a history, and has a call to make
 record IsUnderWay (s : Setup) (heard : List Answered) : Type 0 where
@@ -64,6 +68,36 @@ module _ (c : Shape) (h : ℕ) where
   marking_stays m None x is = is
   marking_stays m (Some t) x is = marking_by_stays m (marking_with t x) (mark.status (marking_of c h m t.slot) (attempt.on (marking_with t x).heard)) is
 
+  -- and so does a look
+  looked_on : (m : Memory) (first : ℕ) → IsBeating m.beats.heard → IsHeard (Running (looks_on c m first))
+  looked_on m first is = go (nat_lt (length m.learned) c.slots)
+    where
+      go : (b : Bool) → IsHeard (Running (if b then with_looking m (Some (record { first = first; heard = [] })) None else with_looking m None (Some (Looked (length m.learned)))))
+      go true = is
+      go false = is
+
+  look_took : (m : Memory) (d : ℕ) (o : Option Command) → IsBeating m.beats.heard → IsHeard (Running (takes_marked c m d o))
+  look_took m d None is = is
+  look_took m d (Some command) is = looked_on (learns m command) d is
+
+  look_by_stays : (m : Memory) (t : Looking) (st : look.Status) → IsBeating m.beats.heard → IsHeard (Running (look_by c m t st))
+  look_by_stays m t (look.Due disk) is = is
+  look_by_stays m t (look.Ended (look.Decided disk value)) is = look_took m disk (decoded value) is
+  look_by_stays m t (look.Ended look.Unmarked) is = is
+  look_by_stays m t (look.Ended look.NoMajority) is = is
+
+  look_stays : (m : Memory) (o : Option Looking) (x : attempt.Answered) → IsBeating m.beats.heard → IsHeard (Running (hears_look c m o x))
+  look_stays m None x is = is
+  look_stays m (Some t) x is = look_by_stays m (looking_with t x) (look.status (look_of c m t.first) (attempt.on (looking_with t x).heard)) is
+
+  apart_stays : (m : Memory) (o : Option Marking) (x : attempt.Answered) → IsBeating m.beats.heard → IsHeard (Running (hears_apart c h m o x))
+  apart_stays m None x is = look_stays m m.looking x is
+  apart_stays m (Some t) x is = marking_stays m (Some t) x is
+
+  look_begun : (old : Host) → IsHeard old → IsHeard (looks c old)
+  look_begun Stopped is = tt
+  look_begun (Running m) is = looked_on m 0 is
+
   marking_begun : (old : Host) (slot : ℕ) → IsHeard old → IsHeard (marks old slot)
   marking_begun Stopped slot is = tt
   marking_begun (Running m) slot is = go (nat_lt slot (length m.learned))
@@ -74,7 +108,7 @@ module _ (c : Shape) (h : ℕ) where
 
   beat_heard : (m : Memory) (o : Option (List Answered)) → m.beats.heard ≡ o → (k : ℕ) (call : Call) (answer : Answer) → next_beside c h m o ≡ Some (k, call) → Fits call (heard_as answer) → IsBeating o
       → IsHeard (Running (hears_beside c h m o k answer))
-  beat_heard m None none k call answer next fits is = marking_stays m m.marking (record { disk = k; heard = attempt.heard_as answer }) (subst IsBeating (sym none) tt)
+  beat_heard m None none k call answer next fits is = apart_stays m m.marking (record { disk = k; heard = attempt.heard_as answer }) (subst IsBeating (sym none) tt)
   beat_heard m (Some heard) same k call answer next fits is =
       let s = beat_of c h in
       let x : Answered = record { disk = k; heard = heard_as answer } in
@@ -99,7 +133,7 @@ module _ (c : Shape) (h : ℕ) where
   step_heard w (Stop g) of m is = tt
   step_heard w (Submit g command tries) of m is = operated (w.host h) (Submitting command) tries is
   step_heard w (Recover g tries) of m is = operated (w.host h) Recovering tries is
-  step_heard w (Look g) of m is = operated (w.host h) Looking 1 is
+  step_heard w (Look g) of m is = look_begun (w.host h) is
   step_heard w (Beat g) of m is = begun (w.host h)
   step_heard w (Mark g slot) of m is = marking_begun (w.host h) slot is
   step_heard w (Called g k call answer left) of m is =
@@ -147,8 +181,14 @@ module _ (c : Shape) (log : List Filled) (h : ℕ) (m : Memory) where
   pub busy_call : 1 ≤ c.disks → IsRun c log → (world c log).host h ≡ Running m → is_idle m ≡ false → (k : ℕ) × (call : Call) × (k < c.disks) × (next_of c h (Running m) ≡ Some (k, call))
   busy_call some run running busy = go m.doing refl busy
     where
-      by_marking : (o : Option Marking) → m.doing ≡ None → m.beats.heard ≡ None → m.marking ≡ o → not (is_some o) ≡ false → (k : ℕ) × (call : Call) × (k < c.disks) × (next_of c h (Running m) ≡ Some (k, call))
-      by_marking None none rests marking busy = absurd (cc)
+      by_look : (o : Option Looking) → m.doing ≡ None → m.beats.heard ≡ None → m.marking ≡ None → m.looking ≡ o → not (is_some o) ≡ false → (k : ℕ) × (call : Call) × (k < c.disks) × (next_of c h (Running m) ≡ Some (k, call))
+      by_look None none rests unmarked looking busy = absurd (cc)
+      by_look (Some t) none rests unmarked looking busy =
+          let call = look_call c log h m t run running looking some in
+          (call.0, call.1, call.2, ap (next_doing c h m) none ∙ ap (next_beside c h m) rests ∙ ap (next_marking c h m) unmarked ∙ ap (next_look c m) looking ∙ call.3)
+
+      by_marking : (o : Option Marking) → m.doing ≡ None → m.beats.heard ≡ None → m.marking ≡ o → (not (is_some o) && not (is_some m.looking)) ≡ false → (k : ℕ) × (call : Call) × (k < c.disks) × (next_of c h (Running m) ≡ Some (k, call))
+      by_marking None none rests marking busy = by_look m.looking none rests marking refl busy
       by_marking (Some t) none rests marking busy =
           let call = marking_call c log h m t some run running marking in
           (call.0, call.1, call.2, ap (next_doing c h m) none ∙ ap (next_beside c h m) rests ∙ ap (next_marking c h m) marking ∙ call.3)

@@ -29,12 +29,13 @@ use Rattle.lock_command.specs.declared.command.Command.{Command}
 use Rattle.lock_command.specs.Reading.{decoded}
 use Rattle.slot_log.specs.Shape.{Shape}
 use Rattle.slot_log.specs.declared.outcome.Refusal.TheVariants as refusal
-use Rattle.host.specs.declared.answer.HostAnswer.TheVariants.{Refused}
-use Rattle.host.specs.Host.{Operation, Submitting, Recovering, Looking, Doing, Memory, Host, Stopped, Running, setup_of, says, begins, full_answer, goes_on, is_submitted, after_learning, learns, takes, tries_again, ended, by_status, with_heard, with_floor, hears, next_doing, next_of, hears_from, hears_beside, hears_beat, beat_by, beat_of, Marking, marking_by, marking_with, marking_of, hears_marking, with_marking}
+use Rattle.host.specs.declared.answer.HostAnswer.TheVariants.{Looked, Refused}
+use Rattle.host.specs.Host.{Operation, Submitting, Recovering, Doing, Looking, Memory, Host, Stopped, Running, setup_of, says, begins, full_answer, goes_on, is_submitted, after_learning, learns, takes, tries_again, ended, by_status, with_heard, with_floor, hears, next_doing, next_of, hears_from, hears_beside, hears_beat, beat_by, beat_of, Marking, marking_by, marking_with, marking_of, hears_marking, with_marking, hears_apart, hears_look, look_of, look_by, looking_with, looks_on, takes_marked, with_looking}
 use Rattle.beats.specs.Answers as beat_answers
 use Rattle.beats.specs.Status as beat
 use Rattle.marks.specs.Status as mark
-use Rattle.world.specs.Entry.{Filled, Start, Stop, Submit, Recover, Look, Beat, Mark, Called, Torn, Crashed, Lost, Migrated, is_of, host_step, started, beats, marks, begins_on}
+use Rattle.looks.specs.Status as look
+use Rattle.world.specs.Entry.{Filled, Start, Stop, Submit, Recover, Look, Beat, Mark, Called, Torn, Crashed, Lost, Migrated, is_of, host_step, started, beats, marks, looks, begins_on}
 use Rattle.world.specs.World.{World, world, MayBegin, IsRun}
 use Rattle.world.proofs.Projections.{host_here, host_there}
 use Rattle.world.specs.Chosen.{at, Hears, IsChosenAt}
@@ -166,13 +167,39 @@ module _ (c : Shape) (h : ℕ) where
   marking_heard m None x none = subst (IsHeardIn m) (sym none) tt
   marking_heard m (Some t) x none = marking_heard_by m (marking_with t x) (mark.status (marking_of c h m t.slot) (on (marking_with t x).heard))
 
+  -- nor has a look
+  looked_on : (m : Memory) (first : ℕ) → IsHeard (Running (looks_on c m first))
+  looked_on m first = one_of (nat_lt (length m.learned) c.slots) (with_looking m (Some (record { first = first; heard = [] })) None) (with_looking m None (Some (Looked (length m.learned)))) tt tt
+
+  look_took : (m : Memory) (d : ℕ) (o : Option Command) → IsHeard (Running (takes_marked c m d o))
+  look_took m d None = tt
+  look_took m d (Some command) = looked_on (learns m command) d
+
+  look_heard_by : (m : Memory) (t : Looking) (st : look.Status) → IsHeard (Running (look_by c m t st))
+  look_heard_by m t (look.Due disk) = tt
+  look_heard_by m t (look.Ended (look.Decided disk value)) = look_took m disk (decoded value)
+  look_heard_by m t (look.Ended look.Unmarked) = tt
+  look_heard_by m t (look.Ended look.NoMajority) = tt
+
+  look_heard : (m : Memory) (o : Option Looking) (x : Answered) → m.doing ≡ None → IsHeard (Running (hears_look c m o x))
+  look_heard m None x none = subst (IsHeardIn m) (sym none) tt
+  look_heard m (Some t) x none = look_heard_by m (looking_with t x) (look.status (look_of c m t.first) (on (looking_with t x).heard))
+
+  apart_heard : (m : Memory) (o : Option Marking) (x : Answered) → m.doing ≡ None → IsHeard (Running (hears_apart c h m o x))
+  apart_heard m None x none = look_heard m m.looking x none
+  apart_heard m (Some t) x none = marking_heard m (Some t) x none
+
   beside_heard : (m : Memory) (o : Option (List beat_answers.Answered)) (d : ℕ) (answer : Answer) → m.doing ≡ None → IsHeard (Running (hears_beside c h m o d answer))
-  beside_heard m None d answer none = marking_heard m m.marking (record { disk = d; heard = heard_as answer }) none
+  beside_heard m None d answer none = apart_heard m m.marking (record { disk = d; heard = heard_as answer }) none
   beside_heard m (Some heard) d answer none = beat_heard m (Some heard) (record { disk = d; heard = beat_answers.heard_as answer }) none
 
   marking_begun : (old : Host) (slot : ℕ) → IsHeard (marks old slot)
   marking_begun Stopped slot = tt
   marking_begun (Running m) slot = one_of (nat_lt slot (length m.learned)) (with_marking m (Some (record { slot = slot; heard = [] })) None) (with_marking m m.marking (Some (Refused refusal.NotLearned))) tt tt
+
+  look_begun : (old : Host) → IsHeard (looks c old)
+  look_begun Stopped = tt
+  look_begun (Running m) = looked_on m 0
 
   beat_begun : (old : Host) → IsHeard (beats old)
   beat_begun Stopped = tt
@@ -208,7 +235,7 @@ module _ (c : Shape) (h : ℕ) where
   step_heard w (Stop g) of m is = tt
   step_heard w (Submit g command tries) of m is = operated (w.host h) (Submitting command) tries (Submit g command tries) refl
   step_heard w (Recover g tries) of m is = operated (w.host h) Recovering tries (Recover g tries) refl
-  step_heard w (Look g) of m is = operated (w.host h) Looking 1 (Look g) refl
+  step_heard w (Look g) of m is = look_begun (w.host h)
   step_heard w (Beat g) of m is = beat_begun (w.host h)
   step_heard w (Mark g slot) of m is = marking_begun (w.host h) slot
   step_heard w (Called g k call answer left) of m is =

@@ -4,6 +4,8 @@ pub mod Projections
 pub mod Rows
 pub mod Runs
 pub mod Safe
+pub mod Beside
+pub mod Looking
 pub mod Looks
 pub mod Markings
 pub mod Beats

@@ -1,5 +1,5 @@
 -- In a run each host's marking has heard a history, and has a call to make.
-use Rattle.std.specs.Prelude.{not, is_some, nat_lt, if◌then◌else◌}
+use Rattle.std.specs.Prelude.{◌&&◌, not, is_some, nat_lt, if◌then◌else◌}
 use Rattle.std.proofs.Common.{ℕ, ◌*◌, ◌<◌, ◌≤◌, ◌≡◌, Bool, true, false, Option, Some, None, List, [], ◌∷◌, ◌++◌, length, refl, sym, subst, ◌∙◌, inl, inr}
 use Rattle.std.proofs.lemmas.Bool.{eqb-true, cases_Bool, and_parts}
 use Rattle.disk.specs.Disk.{Call, Answer}
@@ -12,13 +12,16 @@ use Rattle.marks.specs.Status.{Setup, Status, Due, Ended, Marked, NoMajority, st
 use Rattle.marks.proofs.Histories as histories
 use Rattle.marks.proofs.Histories.{starts}
 use Rattle.attempt.proofs.Hearing.{history_more}
+use Rattle.looks.specs.Status as look
+use Rattle.lock_command.specs.declared.command.Command.{Command}
+use Rattle.lock_command.specs.Reading.{decoded}
 use Rattle.slot_log.specs.Shape.{Shape}
 use Rattle.slot_log.specs.declared.outcome.Refusal.TheVariants as refusal
-use Rattle.host.specs.declared.answer.HostAnswer.TheVariants.{Refused}
-use Rattle.host.specs.Host.{Operation, Submitting, Recovering, Looking, Doing, Marking, Memory, Host, Stopped, Running, goes_on, hears, hears_from, hears_beside, hears_marking, marking_by, marking_with, marking_of, with_marking, with_beats, beat_by, beat_of, rests, is_idle_in, idles, next_beside, next_marking, next_doing, next_of}
-use Rattle.host.proofs.Hosts.{marking-goes_on, marking_heard}
-use Rattle.world.specs.Entry.{Filled, Start, Stop, Submit, Recover, Look, Beat, Mark, Called, Torn, Crashed, Lost, Migrated, is_of, host_step, started, beats, marks, begins_on}
+use Rattle.host.specs.declared.answer.HostAnswer.TheVariants.{Looked, Refused}
+use Rattle.host.specs.Host.{Operation, Submitting, Recovering, Doing, Marking, Looking, Memory, learns, hears_apart, hears_look, look_of, look_by, looking_with, looks_on, takes_marked, with_looking, Host, Stopped, Running, goes_on, hears, hears_from, hears_beside, hears_marking, marking_by, marking_with, marking_of, with_marking, with_beats, beat_by, beat_of, rests, is_idle_in, idles, next_beside, next_marking, next_doing, next_of}
+use Rattle.world.specs.Entry.{Filled, Start, Stop, Submit, Recover, Look, Beat, Mark, Called, Torn, Crashed, Lost, Migrated, is_of, host_step, started, beats, marks, looks, begins_on}
 use Rattle.world.specs.World.{World, world, MayBegin, IsRun}
+use Rattle.world.proofs.Beside.{marking-goes_on, marking_heard}
 use Rattle.world.proofs.Histories.{step_fits}
 use Rattle.world.proofs.Projections.{host_here, host_there}
 use Rattle.world.proofs.Runs.{by_run}
@@ -48,7 +51,7 @@ module _ (c : Shape) (h : ℕ) where
   idle_none_by (Some t) is = absurd (cc)
 
   idle_none : (m : Memory) (o : Option Doing) → is_idle_in m o ≡ true → m.marking ≡ None
-  idle_none m None is = idle_none_by m.marking (and_parts (rests m.beats.heard) (not (is_some m.marking)) is).1
+  idle_none m None is = idle_none_by m.marking (and_parts (rests m.beats.heard) (not (is_some m.marking)) (and_parts (rests m.beats.heard && not (is_some m.marking)) (not (is_some m.looking)) is).0).1
   idle_none m (Some t) is = absurd (cc)
 
   -- so it is where another operation begins
@@ -77,12 +80,43 @@ module _ (c : Shape) (h : ℕ) where
 
   marking_more : (m : Memory) (o : Option Marking) → m.marking ≡ o → (k : ℕ) (call : Call) (answer : Answer) → next_marking c h m o ≡ Some (k, call) → Fits call (heard_as answer) → IsMarking m o
       → IsHeard (Running (hears_marking c h m o (record { disk = k; heard = heard_as answer })))
-  marking_more m None none k call answer next fits is = absurd (cc)
+  marking_more m None none k call answer next fits is = none_so m none
   marking_more m (Some t) same k call answer next fits is =
       let x : Answered = record { disk = k; heard = heard_as answer } in
       let s = marking_of c h m t.slot in
       goes m (marking_with t x) (status s (on (marking_with t x).heard)) refl
       (history_more (next_call s) t.heard x is.history (subst (λ (o : Option (ℕ × Call)). IsAnswerTo o x) (sym next) (refl, fits)))
+
+  -- a look leaves it as it was
+  looked_on : (m : Memory) (first : ℕ) → m.marking ≡ None → IsHeard (Running (looks_on c m first))
+  looked_on m first none = go (nat_lt (length m.learned) c.slots)
+    where
+      go : (b : Bool) → IsHeard (Running (if b then with_looking m (Some (record { first = first; heard = [] })) None else with_looking m None (Some (Looked (length m.learned)))))
+      go true = none_so (with_looking m (Some (record { first = first; heard = [] })) None) none
+      go false = none_so (with_looking m None (Some (Looked (length m.learned)))) none
+
+  look_took : (m : Memory) (d : ℕ) (o : Option Command) → m.marking ≡ None → IsHeard (Running (takes_marked c m d o))
+  look_took m d None none = none_so (takes_marked c m d None) none
+  look_took m d (Some command) none = looked_on (learns m command) d none
+
+  look_by_stays : (m : Memory) (t : Looking) (st : look.Status) → m.marking ≡ None → IsHeard (Running (look_by c m t st))
+  look_by_stays m t (look.Due disk) none = none_so (look_by c m t (look.Due disk)) none
+  look_by_stays m t (look.Ended (look.Decided disk value)) none = look_took m disk (decoded value) none
+  look_by_stays m t (look.Ended look.Unmarked) none = none_so (look_by c m t (look.Ended look.Unmarked)) none
+  look_by_stays m t (look.Ended look.NoMajority) none = none_so (look_by c m t (look.Ended look.NoMajority)) none
+
+  look_stays : (m : Memory) (o : Option Looking) (x : Answered) → m.marking ≡ None → IsHeard (Running (hears_look c m o x))
+  look_stays m None x none = none_so m none
+  look_stays m (Some t) x none = look_by_stays m (looking_with t x) (look.status (look_of c m t.first) (on (looking_with t x).heard)) none
+
+  look_begun : (old : Host) → idles old ≡ true → IsHeard (looks c old)
+  look_begun Stopped idle = tt
+  look_begun (Running m) idle = looked_on m 0 (idle_none m m.doing idle)
+
+  apart_more : (m : Memory) (o : Option Marking) → m.marking ≡ o → (k : ℕ) (call : Call) (answer : Answer) → next_marking c h m o ≡ Some (k, call) → Fits call (heard_as answer) → IsMarking m o
+      → IsHeard (Running (hears_apart c h m o (record { disk = k; heard = heard_as answer })))
+  apart_more m None none k call answer next fits is = look_stays m m.looking (record { disk = k; heard = heard_as answer }) none
+  apart_more m (Some t) same k call answer next fits is = marking_more m (Some t) same k call answer next fits is
 
   -- a beat leaves it as it was
   beat_stays : (m : Memory) (heard : List beat_answers.Answered) (st : beat.Status) (o : Option Marking) → m.marking ≡ o → m.doing ≡ None → IsMarking m o → IsHeard (Running (beat_by h m heard st))
@@ -107,7 +141,7 @@ module _ (c : Shape) (h : ℕ) where
       by_some (beat.Ended beat.NoMajority) = some_so (beat_by h m heard (beat.Ended beat.NoMajority)) refl refl refl
 
   beside : (m : Memory) (o : Option (List beat_answers.Answered)) → m.doing ≡ None → (k : ℕ) (call : Call) (answer : Answer) → next_beside c h m o ≡ Some (k, call) → Fits call (heard_as answer) → IsMarking m m.marking → IsHeard (Running (hears_beside c h m o k answer))
-  beside m None none k call answer next fits is = marking_more m m.marking refl k call answer next fits is
+  beside m None none k call answer next fits is = apart_more m m.marking refl k call answer next fits is
   beside m (Some heard) none k call answer next fits is =
       let x : beat_answers.Answered = record { disk = k; heard = beat_answers.heard_as answer } in
       beat_stays m (heard ++ x ∷ []) (beat.status (beat_of c h) (beat_answers.on (heard ++ x ∷ []))) m.marking refl none is
@@ -139,7 +173,7 @@ module _ (c : Shape) (h : ℕ) where
   step_heard w (Stop g) of m is = tt
   step_heard w (Submit g command tries) of m is = operated (w.host h) (Submitting command) tries (idle_here w g (eqb-true g h of) m.0)
   step_heard w (Recover g tries) of m is = operated (w.host h) Recovering tries (idle_here w g (eqb-true g h of) m.0)
-  step_heard w (Look g) of m is = operated (w.host h) Looking 1 (idle_here w g (eqb-true g h of) m)
+  step_heard w (Look g) of m is = look_begun (w.host h) (idle_here w g (eqb-true g h of) m)
   step_heard w (Beat g) of m is = beaten (w.host h) (idle_here w g (eqb-true g h of) m)
   step_heard w (Mark g slot) of m is = begun (w.host h) slot (idle_here w g (eqb-true g h of) m.0)
   step_heard w (Called g k call answer left) of m is =

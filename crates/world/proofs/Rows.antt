@@ -191,13 +191,13 @@ outrun_vote : accepting 1 (Start 0 ∷ Start 1 ∷ Submit 0 (asks 0) 1 ∷ (step
 unfolding fresh_disk sequence_of body_of number_bytes tail_with copy_in decoded_row zeros heading body_saying number_at claim_of is_said number lock_at request_at mode_of name_at enqueue_at action_at command_at applied
 outrun_vote = refl
 
--- start 0; submit 0; step 0 17; mark 0 0; step 0 9; start 1; look 1; step 1 6: a mark is seen, and behind it nothing
-look_sees_a_mark : says 1 2 (Start 0 ∷ Submit 0 (asks 0) 1 ∷ (steps 0 17 ++ Mark 0 0 ∷ (steps 0 9 ++ Start 1 ∷ Look 1 ∷ steps 1 6)))
-    ≡ at 18 0 (Ack 0 granted) ∷ at 28 0 (Marked 1) ∷ at 36 1 (Looked 1) ∷ []
+-- start 0; submit 0; step 0 17; mark 0 0; step 0 9; start 1; look 1; step 1 4: a mark is seen, and behind it nothing
+look_sees_a_mark : says 1 2 (Start 0 ∷ Submit 0 (asks 0) 1 ∷ (steps 0 17 ++ Mark 0 0 ∷ (steps 0 9 ++ Start 1 ∷ Look 1 ∷ steps 1 4)))
+    ≡ at 18 0 (Ack 0 granted) ∷ at 28 0 (Marked 1) ∷ at 34 1 (Looked 1) ∷ []
 unfolding fresh_disk sequence_of body_of number_bytes tail_with copy_in decoded_row zeros heading body_saying number_at claim_of is_said number lock_at request_at mode_of name_at enqueue_at action_at command_at applied
 look_sees_a_mark = refl
 
--- start 0; submit 0; step 0 17; start 1; look 1; step 1 3: what is not marked is not seen
-look_sees_no_more : says 1 2 (Start 0 ∷ Submit 0 (asks 0) 1 ∷ (steps 0 17 ++ Start 1 ∷ Look 1 ∷ steps 1 3)) ≡ at 18 0 (Ack 0 granted) ∷ at 23 1 (Looked 0) ∷ []
+-- start 0; submit 0; step 0 17; start 1; look 1; step 1 2: what is not marked is not seen
+look_sees_no_more : says 1 2 (Start 0 ∷ Submit 0 (asks 0) 1 ∷ (steps 0 17 ++ Start 1 ∷ Look 1 ∷ steps 1 2)) ≡ at 18 0 (Ack 0 granted) ∷ at 22 1 (Looked 0) ∷ []
 unfolding fresh_disk sequence_of body_of number_bytes tail_with copy_in decoded_row zeros heading body_saying number_at claim_of is_said number lock_at request_at mode_of name_at enqueue_at action_at command_at applied
 look_sees_no_more = refl

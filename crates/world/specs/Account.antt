@@ -1,4 +1,5 @@
--- What a host has learned, its floor, and when it gives up, told by how its attempts ended; and its readings, by how its beats did.
+-- What a host has learned, its floor, and when it gives up, told by how its attempts ended and by what its looks were told; and its
+-- readings, by how its beats did.
 use Rattle.std.specs.Prelude.{◌≡◌, ◌+◌, ◌≤◌, ◌==◌, ◌↔◌, ℕ, true, List, [], ◌∷◌, ◌++◌, length, max, Option, Some, None, if◌then◌else◌}
 use Rattle.std.specs.Option.{option_or}
 use Rattle.attempt.specs.Answers.{Answered, on, heard_as}
@@ -8,12 +9,13 @@ use Rattle.attempt.specs.Status as attempt
 use Rattle.heartbeat.specs.Suggesting.{Readings}
 use Rattle.beats.specs.Answers as beat_answers
 use Rattle.beats.specs.Status as beat
+use Rattle.looks.specs.Status as look
 use Rattle.lock_command.specs.declared.command.Command.{Command}
 use Rattle.lock_command.specs.Reading.{decoded}
 use Rattle.slot_log.specs.Shape.{Shape}
 use Rattle.slot_log.specs.declared.outcome.Refusal.TheVariants as refusal
 use Rattle.host.specs.declared.answer.HostAnswer.TheVariants.{Refused}
-use Rattle.host.specs.Host.{Doing, Memory, Host, Stopped, Running, fresh, setup_of, beat_of, with_heard, said_of, learned_of, is_idle}
+use Rattle.host.specs.Host.{Doing, Marking, Looking, Memory, Host, Stopped, Running, fresh, setup_of, beat_of, look_of, with_heard, looking_with, said_of, learned_of, is_idle}
 use Rattle.world.specs.Entry.{Filled, Stop, Submit, Recover, Called, Torn, host_step, host_after}
 
 -- ATTEMPTS THAT END
@@ -28,16 +30,36 @@ abbrev pub ending_by : Setup → List Answered → Status → List Ending
 ending_by s heard (Due phase d) = []
 ending_by s heard (Ended end) = record { slot = s.slot; ballot = taken s (on heard); end = end } ∷ []
 
--- the attempt that ends with this answer, if one does
+-- a look that a mark told its slot's value ends there as an attempt does that a mark told it, and takes no ballot
+abbrev pub told_by : look.Setup → look.Status → List Ending
+told_by s (look.Due d) = []
+told_by s (look.Ended (look.Decided d value)) = record { slot = s.slot; ballot = 0; end = attempt.Decided value } ∷ []
+told_by s (look.Ended look.Unmarked) = []
+told_by s (look.Ended look.NoMajority) = []
+
+abbrev pub told_in : Shape → Memory → Option Looking → Answered → List Ending
+told_in c m None x = []
+told_in c m (Some t) x = let s = look_of c m t.first in told_by s (look.status s (on (looking_with t x).heard))
+
+-- the look under way is told so, where neither a beat nor a marking hears the answer
+abbrev pub told_apart : Shape → Memory → Option Marking → Answered → List Ending
+told_apart c m None x = told_in c m m.looking x
+told_apart c m (Some t) x = []
+
+abbrev pub told_beside : Shape → Memory → Option (List beat_answers.Answered) → Answered → List Ending
+told_beside c m None x = told_apart c m m.marking x
+told_beside c m (Some heard) x = []
+
+-- the attempt that ends with this answer, if one does, or the look that it tells a value
 abbrev pub ending_in : Shape → ℕ → Memory → Option Doing → Answered → List Ending
-ending_in c h m None x = []
+ending_in c h m None x = told_beside c m m.beats.heard x
 ending_in c h m (Some t) x = let s = setup_of c h m t.operation in let heard = (with_heard t x).heard in ending_by s heard (status s (on heard))
 
 abbrev pub ending_at : Shape → ℕ → Host → Filled → List Ending
 ending_at c h (Running m) (Called g d call answer left) = ending_in c h m m.doing (record { disk = d; heard = heard_as answer })
 ending_at c h host e = []
 
--- the attempts of a host that end with these entries, in their order
+-- the attempts of a host that end with these entries, and what its looks are told, in their order
 abbrev pub endings : Shape → ℕ → Host → List Filled → List Ending
 endings c h host [] = []
 endings c h host (e ∷ es) = ending_at c h host e ++ endings c h (host_step c h host e) es
@@ -130,9 +152,9 @@ abbrev pub AllGoOn : List Filled → Type 0
 AllGoOn [] = Unit {0}
 AllGoOn (e ∷ es) = GoesOn e × AllGoOn es
 
--- By the attempts that ended since its start: what a host has learned is what they committed, slot by slot, and its floor on the
--- next slot is the greatest ballot that those on that slot took or were outrun by. Its readings are those of its last beat since its start that
--- ended well.
+-- By the attempts that ended since its start, and by what its looks were told: what a host has learned is what they committed, slot by
+-- slot, and its floor on the next slot is the greatest ballot that those on that slot took or were outrun by. Its readings are those of
+-- its last beat since its start that ended well.
 pub record IsAccountedFor (c : Shape) (h : ℕ) (since : List Filled) : Type 0 where
   pub learned : learned_of (host_after c h (Running fresh) since) ≡ committed (endings c h (Running fresh) since)
   pub floor : let host = host_after c h (Running fresh) since in floor_of host ≡ greatest_on (length (learned_of host)) (endings c h (Running fresh) since)

@@ -7,7 +7,7 @@ use Rattle.migration.specs.Image.{rows_for}
 use Rattle.lock_command.specs.declared.command.Command.{Command}
 use Rattle.lock_command.specs.Command.{spelling}
 use Rattle.slot_log.specs.Shape.{Shape}
-use Rattle.host.specs.Host.{Operation, Submitting, Recovering, Looking, Host, Stopped, Running, fresh, goes_on, starts_beat, starts_marking, hears_from}
+use Rattle.host.specs.Host.{Operation, Submitting, Recovering, Host, Stopped, Running, fresh, goes_on, starts_beat, starts_marking, starts_look, hears_from}
 
 pub data Filled : Type 0 where
   Start : (host : ℕ) → Filled
@@ -116,6 +116,11 @@ abbrev pub marks : Host → ℕ → Host
 marks Stopped slot = Stopped
 marks (Running m) slot = Running (starts_marking m slot)
 
+-- or a look
+abbrev pub looks : Shape → Host → Host
+looks c Stopped = Stopped
+looks c (Running m) = Running (starts_look c m)
+
 -- a running host hears an answer of a disk
 abbrev pub hears_on : Shape → ℕ → Host → ℕ → Answer → Host
 hears_on c h Stopped d answer = Stopped
@@ -126,7 +131,7 @@ host_step c h old (Start g) = started old
 host_step c h old (Stop g) = Stopped
 host_step c h old (Submit g command tries) = begins_on c old (Submitting command) tries
 host_step c h old (Recover g tries) = begins_on c old Recovering tries
-host_step c h old (Look g) = begins_on c old Looking 1
+host_step c h old (Look g) = looks c old
 host_step c h old (Beat g) = beats old
 host_step c h old (Mark g slot) = marks old slot
 host_step c h old (Called g d call answer left) = hears_on c h old d answer

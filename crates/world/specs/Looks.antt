@@ -1,8 +1,41 @@
--- What a host says that looks.
-use Rattle.std.specs.Prelude.{◌≡◌, ℕ, Option, Some, None}
+-- A host that looks: what it says, and what its look hears.
+use Rattle.std.specs.Prelude.{◌≡◌, ℕ, List, slice_get, Option, Some, None}
+use Rattle.disk.specs.Disk.{Call, Answer}
+use Rattle.attempt.specs.Answers.{Answered, heard_as}
+use Rattle.looks.specs.Status.{Setup}
+use Rattle.slot_log.specs.Shape.{Shape}
 use Rattle.slot_log.specs.declared.outcome.Refusal.TheVariants as refusal
 use Rattle.host.specs.declared.answer.HostAnswer.{HostAnswer}
 use Rattle.host.specs.declared.answer.HostAnswer.TheVariants.{Looked, Refused}
+use Rattle.host.specs.Host.{Looking, Memory, Running, look_of, looking_with}
+use Rattle.world.specs.Entry.{Filled, Called}
+use Rattle.world.specs.Chosen.{at}
+
+-- WHO LOOKS
+
+-- The host looks, and does nothing else.
+pub record IsLooking (m : Memory) (t : Looking) : Type 0 where
+  pub tries : m.doing ≡ None
+  pub beats : m.beats.heard ≡ None
+  pub marks : m.marking ≡ None
+  pub looks : m.looking ≡ Some t
+
+-- At entry i a host's look at a slot hears an answer, and has heard these then.
+pub record HearsLooking (c : Shape) (log : List Filled) (i : ℕ) (s : Setup) (heard : List Answered) : Type 0 where
+  pub host : ℕ
+  pub disk : ℕ
+  pub call : Call
+  pub answer : Answer
+  pub left : List ℕ
+  pub entry : slice_get log i ≡ Some (Called host disk call answer left)
+  pub memory : Memory
+  pub running : (at c log i).host host ≡ Running memory
+  pub looking : Looking
+  pub looks : IsLooking memory looking
+  pub is_setup : s ≡ look_of c memory looking.first
+  pub is_heard : heard ≡ (looking_with looking (record { disk = disk; heard = heard_as answer })).heard
+
+-- WHAT IT SAYS
 
 -- nothing yet; or how many commands it has learned; or that too few disks are left, or that what was decided is no command
 abbrev pub SaysLooking : (learned : ℕ) → Option HostAnswer → Type 0

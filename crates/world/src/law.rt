@@ -12,10 +12,12 @@ ghost use Rattle.lock_command.specs.Command.{Fits as FitsCommand};
 ghost use Rattle.beats.specs.Answers.{Answered as Beaten};
 ghost use Rattle.beats.specs.History.{IsHistory as IsBeatHistory};
 ghost use Rattle.marks.specs.History.{IsHistory as IsMarkingHistory};
+ghost use Rattle.looks.specs.History.{IsHistory as IsLookHistory};
+ghost use Rattle.looks.specs.Status.{Setup as LookSetup};
 ghost use Rattle.slot_log.specs.Shape.{Shape};
-ghost use Rattle.host.specs.Host.{Doing, Looking, Marking, Memory, Running, goes_on, hears_from, setup_of, beat_of, marking_of, is_idle, next_of};
+ghost use Rattle.host.specs.Host.{Doing, Looking, Marking, Memory, Running, starts_look, hears_from, setup_of, beat_of, marking_of, look_of, is_idle, next_of};
 ghost use Rattle.world.specs.Entry.{Filled, is_on, is_of, disk_step, host_step};
-ghost use Rattle.world.specs.Looks.{SaysLooking};
+ghost use Rattle.world.specs.Looks.{HearsLooking, IsLooking, SaysLooking};
 ghost use Rattle.world.specs.World.{world, ReadsBack, MayFollow, CanMigrate, MayBegin, IsFreshRun, IsRun};
 ghost use Rattle.world.specs.Happens.{Event, entry_of, happens, run, run_after, lines_at, answers};
 ghost use Rattle.world.specs.Chosen.{at, Hears, IsChosenAt};
@@ -103,8 +105,8 @@ pub fn attempts_hear_histories()
         status s (on heard) ≡ Ended (Committed value) → IsChosenAt c log i s.slot value }
 {}
 
-/// The attempts that ended since a host's start decide what it has learned, its floor, and when it gives up.
-/// It has learned the commands that they committed, slot by slot. Its floor is the greatest ballot that those on
+/// The attempts that ended since a host's start, and what its looks were told, decide what it has learned, its floor, and when it gives up.
+/// It has learned the commands that they committed or were told, slot by slot. Its floor is the greatest ballot that those on
 /// the next slot took or were outrun by. It gives up when the last of an operation's tries is outrun. The
 /// readings that it uses are those of its last beat since then that ended well.
 pub fn hosts_account_for_themselves()
@@ -139,23 +141,40 @@ pub fn markings_hear_histories()
         (world c log).host h ≡ Running m → m.marking ≡ Some t → m.doing ≡ None }
 {}
 
-/// A host that looks makes calls that only read, at most three a disk for each slot, and leaves the bytes of every disk as they
+/// What a busy host's look has heard in a run is a history of it, of fewer than two answers a disk for the slot that it looks at. That is a slot
+/// of the log, and nothing else is under way beside the look. At each entry with which it hears an answer that is a history too.
+pub fn looks_hear_histories()
+    ensures now { (c : Shape) (log : List Filled) (h : ℕ) (m : Memory) (t : Looking) → IsRun c log →
+        (world c log).host h ≡ Running m → m.looking ≡ Some t →
+        IsLookHistory (look_of c m t.first) t.heard }
+    ensures two { (c : Shape) (log : List Filled) (h : ℕ) (m : Memory) (t : Looking) →
+        1 ≤ c.disks → IsRun c log → (world c log).host h ≡ Running m → m.looking ≡ Some t →
+        length t.heard < 2 * c.disks }
+    ensures first { (c : Shape) (log : List Filled) (h : ℕ) (m : Memory) (t : Looking) →
+        1 ≤ c.disks → IsRun c log → (world c log).host h ≡ Running m → m.looking ≡ Some t →
+        t.first < c.disks }
+    ensures fits { (c : Shape) (log : List Filled) (h : ℕ) (m : Memory) (t : Looking) → IsRun c log →
+        (world c log).host h ≡ Running m → m.looking ≡ Some t → length m.learned < c.slots }
+    ensures alone { (c : Shape) (log : List Filled) (h : ℕ) (m : Memory) (t : Looking) → IsRun c log →
+        (world c log).host h ≡ Running m → m.looking ≡ Some t → IsLooking m t }
+    ensures at_entries { (c : Shape) (log : List Filled) (i : ℕ) (s : LookSetup)
+        (heard : List Answered) → IsRun c log → HearsLooking c log i s heard → IsLookHistory s heard }
+{}
+
+/// A host that looks makes calls that only read, at most two a disk for each slot, and leaves the bytes of every disk as they
 /// were. It says how many commands it has learned, or that too few disks are left, or that what was decided is no command: it
 /// is not outrun, and has no ballot to spend.
 pub fn looks_only_read()
-    ensures reads { (c : Shape) (h k : ℕ) (m : Memory) (t : Doing) (call : Call) → m.doing ≡ Some t →
-        t.operation ≡ Looking → next_of c h (Running m) ≡ Some (k, call) → OnlyReads call }
-    ensures three { (c : Shape) (log : List Filled) (h : ℕ) (m : Memory) (t : Doing) → IsRun c log →
-        (world c log).host h ≡ Running m → m.doing ≡ Some t → t.operation ≡ Looking →
-        length t.heard ≤ 3 * c.disks }
-    ensures bytes { (c : Shape) (log : List Filled) (h k : ℕ) (m : Memory) (t : Doing) (e : Filled) →
-        (world c log).host h ≡ Running m → m.doing ≡ Some t → t.operation ≡ Looking →
+    ensures reads { (c : Shape) (h k : ℕ) (m : Memory) (t : Looking) (call : Call) → IsLooking m t →
+        next_of c h (Running m) ≡ Some (k, call) → OnlyReads call }
+    ensures bytes { (c : Shape) (log : List Filled) (h k : ℕ) (m : Memory) (t : Looking) (e : Filled) →
+        (world c log).host h ≡ Running m → IsLooking m t →
         MayFollow c (world c log) e → is_of h e ≡ true →
         (disk_step ((world c log).disk k) e).bytes ≡ ((world c log).disk k).bytes }
-    ensures begins { (c : Shape) (m : Memory) → let new = goes_on c m Looking 1 in
+    ensures begins { (c : Shape) (m : Memory) → let new = starts_look c m in
         SaysLooking (length new.learned) new.said }
-    ensures says { (c : Shape) (h k : ℕ) (m : Memory) (t : Doing) (answer : Answer) → m.doing ≡ Some t →
-        t.operation ≡ Looking → let new = hears_from c h m m.doing k answer in
+    ensures says { (c : Shape) (h k : ℕ) (m : Memory) (t : Looking) (answer : Answer) → IsLooking m t →
+        let new = hears_from c h m m.doing k answer in
         SaysLooking (length new.learned) new.said }
 {}
 

@@ -9,23 +9,25 @@ use Rattle.attempt.specs.Status.{status, taken}
 use Rattle.beats.specs.Answers as beat_answers
 use Rattle.beats.specs.Status as beat
 use Rattle.marks.specs.Status as mark
+use Rattle.looks.specs.Status as look
 use Rattle.slot_log.specs.Shape.{Shape}
 use Rattle.host.specs.declared.answer.HostAnswer.TheVariants as said
-use Rattle.host.specs.Host.{Doing, Marking, Host, Stopped, Running, setup_of, with_heard, goes_by, hears_from, hears_beside, hears_marking, marking_by, marking_with, marking_of, with_marking, beat_of, beat_by, idles, said_of}
+use Rattle.host.specs.Host.{Doing, Marking, Host, Stopped, Running, setup_of, with_heard, goes_by, hears_from, hears_beside, hears_apart, marking_by, marking_with, marking_of, with_marking, beat_of, beat_by, look_of, look_by, looking_with, idles, said_of}
 use Rattle.slot_log.specs.declared.outcome.Refusal.TheVariants as refusal
 use Rattle.world.specs.Entry.{Filled, Mark, Called, is_of, host_step, marks}
 use Rattle.world.specs.World.{World, MayFollow, IsRun}
 use Rattle.world.specs.Chosen.{at}
+use Rattle.world.proofs.Looks.{hears_is}
 use Rattle.world.proofs.Runs.{each, follows_of}
 use Rattle.world_safety.specs.Next.{next_world}
-use Rattle.world_safety.proofs.Moves.Due.{Attempts, IsBeatCall, IsMarkCall, busy}
+use Rattle.world_safety.proofs.Moves.Due.{Attempts, IsBeatCall, IsMarkCall, IsLookCall, busy}
 use Rattle.world_safety.proofs.Moves.Moving.{idle_is}
 use Rattle.world_safety.proofs.Runs.Places.{at_next, at_end, host_next}
 use Rattle.world_safety.proofs.Runs.Tracks.{moves_at, tied_at}
 use Rattle.world_marks.specs.Found.{IsMarkedOn, IsMarking, IsMarkedOnMany, CountsMarked}
 use Rattle.world_marks.proofs.Marking.{Counts, Marked, kept, marked_more}
 use Rattle.world_marks.proofs.Places.{keeps_at, marked_at}
-use Rattle.world_marks.proofs.Saying.{status_counts, beat_counts, begun_counts, marking_counts}
+use Rattle.world_marks.proofs.Saying.{status_apart, beat_apart, begun_apart, look_counts, marking_counts}
 use Rattle.world_marks.proofs.Steps.{Marks, MarksIn, marks_at, marks_next}
 
 -- what a marking that has ended counts
@@ -122,7 +124,7 @@ module _ (c : Shape) (log : List Filled) (run : IsRun c log) (i j host slot n : 
     by_attempt who =
         let s = setup_of c host who.memory who.doing.operation in
         let t = with_heard who.doing (record { disk = k; heard = heard_as answer }) in
-        status_counts c who.memory t (taken s (on t.heard)) (status s (on t.heard)) n
+        status_apart c who.memory t (taken s (on t.heard)) (said.Marked n) tt (status s (on t.heard))
         (goes_said (Running (goes_by c who.memory t s))
         (ap (λ (old : Host). host_step c host old (Called host k call answer left)) who.running ∙ ap (λ (o : Option Doing). Running (hears_from c host who.memory o k answer)) who.does))
 
@@ -131,10 +133,19 @@ module _ (c : Shape) (log : List Filled) (run : IsRun c log) (i j host slot n : 
         let m = who.memory in
         let heard = who.heard ++ record { disk = k; heard = beat_answers.heard_as answer } ∷ [] in
         let st = beat.status (beat_of c host) (beat_answers.on heard) in
-        beat_counts host m heard st n
+        beat_apart host m heard st (said.Marked n) tt
         (goes_said (Running (beat_by host m heard st))
         (ap (λ (old : Host). host_step c host old (Called host k call answer left)) who.running ∙ ap (λ (o : Option Doing). Running (hears_from c host m o k answer)) who.rests
         ∙ ap (λ (o : Option (List beat_answers.Answered)). Running (hears_beside c host m o k answer)) who.beats))
+
+    by_look : IsLookCall c k call (here.host host) → ⊥
+    by_look who =
+        let m = who.memory in
+        let t = looking_with who.looking (record { disk = k; heard = heard_as answer }) in
+        let st = look.status (look_of c m who.looking.first) (on t.heard) in
+        look_counts c m t st n
+        (goes_said (Running (look_by c m t st))
+        (ap (λ (old : Host). host_step c host old (Called host k call answer left)) who.running ∙ ap Running (hears_is c host k m who.looking answer who.looks)))
 
     by_marking : IsMarkCall c host k call (here.host host) → IsMarkedOnMany c (at c log (j + 1)) slot host n
     by_marking who =
@@ -147,7 +158,7 @@ module _ (c : Shape) (log : List Filled) (run : IsRun c log) (i j host slot n : 
         (goes_said (Running (marking_by m (marking_with t y) (mark.status s (on heard))))
         (ap (λ (old : Host). host_step c host old (Called host k call answer left)) who.running ∙ ap (λ (o : Option Doing). Running (hears_from c host m o k answer)) who.rests
         ∙ ap (λ (o : Option (List beat_answers.Answered)). Running (hears_beside c host m o k answer)) who.beats
-        ∙ ap (λ (o : Option Marking). Running (hears_marking c host m o y)) who.marks)) in
+        ∙ ap (λ (o : Option Marking). Running (hears_apart c host m o y)) who.marks)) in
         let ms = moves_at c log run j in
         let tied = tied_at c log run j in
         let keeps = keeps_at c log run j e is.says.is in
@@ -165,7 +176,8 @@ module _ (c : Shape) (log : List Filled) (run : IsRun c log) (i j host slot n : 
     by_call = elim (busy c host k call (here.host host) (subst (MayFollow c here) same may).0) [
       | inl who ↦ absurd (by_attempt who)
       | inr (inl who) ↦ absurd (by_beat who)
-      | inr (inr who) ↦ by_marking who
+      | inr (inr (inl who)) ↦ by_marking who
+      | inr (inr (inr who)) ↦ absurd (by_look who)
     ]
 
   pub counts_marked : IsMarkedOnMany c (at c log (j + 1)) slot host n
@@ -176,7 +188,7 @@ module _ (c : Shape) (log : List Filled) (run : IsRun c log) (i j host slot n : 
         let same : i ≡ j = omega arith in
         let both : Some (Mark host slot) ≡ Some e = sym is.begins ∙ ap (slice_get log) same ∙ is.says.is in
         let one : Mark host slot ≡ e = cc in
-        absurd (begun_counts (here.host host) slot n (ap (λ (f : Filled). said_of (host_step c host (here.host host) f)) one ∙ says_then)))
+        absurd (begun_apart (here.host host) slot (said.Marked n) tt (ap (λ (f : Filled). said_of (host_step c host (here.host host) f)) one ∙ says_then)))
   ]
 
 pub counts : (c : Shape) (log : List Filled) → IsRun c log → CountsMarked c log

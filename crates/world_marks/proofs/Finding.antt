@@ -13,33 +13,34 @@ use Rattle.attempt.specs.History.{IsHistory}
 use Rattle.attempt.specs.Numbers.{count}
 use Rattle.attempt.specs.Proposal.{decided}
 use Rattle.attempt.specs.Setup.{Setup}
-use Rattle.attempt.specs.Status.{Ended, NoMajority, next_or, unless_decided, balloting, status, taken}
+use Rattle.attempt.specs.Status.{Ended, NoMajority, next_or, unless_decided, balloting, status}
 use Rattle.attempt.specs.Visits.{visited, is_left, are_enough}
 use Rattle.attempt.proofs.Firsts.{count_all}
 use Rattle.attempt.proofs.Histories.{history_reached}
 use Rattle.attempt.proofs.Visitors.{left_is, left_over}
 use Rattle.lock_command.specs.Command.{spelling}
+use Rattle.looks.specs.Status as look
+use Rattle.looks.proofs.Ends.{no_mark_read, unmarked_is}
 use Rattle.slot_log.specs.Shape.{Shape}
-use Rattle.host.specs.declared.answer.HostAnswer.TheVariants as said
-use Rattle.host.specs.Host.{Memory, Host, Stopped, Running, setup_of, with_heard, idles}
+use Rattle.host.specs.Host.{Memory, Host, Stopped, Running, look_of, looking_with, idles}
 use Rattle.world.specs.Entry.{Filled, Look, Mark, Migrated}
 use Rattle.world.specs.World.{World, IsRun}
 use Rattle.world.specs.Chosen.{at, migrated, Hears}
+use Rattle.world.specs.Looks.{HearsLooking}
 use Rattle.world.proofs.Histories.{heard_then}
 use Rattle.world.proofs.Runs.{each, begins_migrated, migrated_fits}
 use Rattle.world_safety.specs.Claims.{HasHeardNothing}
 use Rattle.world_safety.proofs.Moves.Moving.{IsIdle, idle_is, running_at}
 use Rattle.world_safety.proofs.Runs.Commands.{map_there}
 use Rattle.world_safety.proofs.Runs.Migrated.{is_next, marked_first}
-use Rattle.world_safety.proofs.Runs.Saying.{heard_at, hears_at, whence}
 use Rattle.world_safety.proofs.Runs.Tracks.{moves_at, tied_at}
-use Rattle.world_marks.specs.Found.{IsMarkedOn, IsMarkedOnMany, IsMarkedBefore, IsFoundBefore, FindsMark, AttemptsFind, HasLooked, LooksFind, LooksFindMigrated}
+use Rattle.world_marks.specs.Found.{IsMarkedOn, IsMarkedOnMany, IsMarkedBefore, IsFoundBefore, FindsMark, AttemptsFind, SeesMark, HasSeenNothing, LooksSee, HasLooked, LooksFind, LooksFindMigrated}
 use Rattle.world_marks.proofs.Counting.{counts_marked}
 use Rattle.world_marks.proofs.Keeping.{some_row, undecided_block}
 use Rattle.world_marks.proofs.Places.{stays_marked}
-use Rattle.world_marks.proofs.Saying.{full_looks, status_looks}
-use Rattle.world_marks.proofs.Showing.{IsMarkShown, Shown, shown_more, shown_at}
-use Rattle.world_marks.proofs.Steps.{tries_at}
+use Rattle.world_marks.proofs.Saying.{look_answers, looks_from}
+use Rattle.world_marks.proofs.Showing.{IsMarkShown, Shown, shown_more, shown_at, LookShown, look_shown_more, look_shown_at}
+use Rattle.world_marks.proofs.Steps.{tries_at, looks_at}
 
 -- a list has an item at each place below its length
 item_below : {A : Type 0} (l : List A) (k : ℕ) → k < length l → (x : A) × (slice_get l k ≡ Some x)
@@ -101,6 +102,26 @@ module _ (s : Setup) (heard : List Answered) (is : IsHistory s heard) (g n : ℕ
       by true enough (Some d) at v is = tt
       by true enough None at (Some value) is = tt
       by true enough None at None is = absurd (not_undecided enough at is)
+
+-- A LOOK THAT IS SHOWN A MARK ON MORE THAN HALF OF THE DISKS
+
+module _ (s : look.Setup) (f : Answers) (g n : ℕ) (below : g < HOSTS) (those : ℕ → Bool) (many : count s.disks those ≡ n) (most : s.disks < 2 * n)
+    (shown : (d : ℕ) → d < s.disks → those d ≡ true → (row : List DecodedBlock) → look.row_of (f d) ≡ Some row → IsMarkShown (says_in row g)) where
+  not_unmarked : look.status s f ≡ look.Ended look.Unmarked → ⊥
+  not_unmarked ended =
+      let half = unmarked_is s f ended in
+      let both = overlap s.disks those (λ d. look.shows_no_mark (f d)) (omega (arith, many, most, half)) in
+      let none = no_mark_read (f both.disk) both.second in
+      shown_marked (says_in none.row g) (shown both.disk both.inside both.first none.row none.read) (none.none g below)
+
+  pub sees : SeesMark (look.status s f)
+  sees = by (look.status s f) refl
+    where
+      by : (st : look.Status) → look.status s f ≡ st → SeesMark st
+      by (look.Due d) is = tt
+      by (look.Ended (look.Decided d value)) is = tt
+      by (look.Ended look.Unmarked) is = absurd (not_unmarked is)
+      by (look.Ended look.NoMajority) is = tt
 
 module _ (c : Shape) (log : List Filled) (run : IsRun c log) where
   -- what is marked before a place is a slot, marked by a host
@@ -178,39 +199,65 @@ module _ (c : Shape) (log : List Filled) (run : IsRun c log) where
 
   -- LOOKS
 
-  module _ (i j host n k : ℕ) (look : HasLooked c log i j host n) (marked : (slot : ℕ) → slot ≤ k → IsFoundBefore c log i slot) where
+  look_sees_it : (i j : ℕ) (s : look.Setup) (heard : List Answered) (hears : HearsLooking c log j s heard) → i ≤ j → IsFoundBefore c log i s.slot → HasSeenNothing (at c log i) hears.host s.slot → SeesMark (look.status s (on heard))
+  look_sees_it i j s heard hears later found nothing =
+      let m = hears.memory in
+      let t = hears.looking in
+      let h = hears.host in
+      let marked = marked_there i s.slot found in
+      let on_slot : length m.learned ≡ s.slot = ap (λ (q : look.Setup). q.slot) (sym hears.is_setup) in
+      let disks : s.disks ≡ c.disks = ap (λ (q : look.Setup). q.disks) hears.is_setup in
+      let before = looks_at (LookShown c log run i s.slot marked.host marked.slot_below marked.below h) ((at c log j).host h) m t (look_shown_at c log run i s.slot marked.host marked.slot_below marked.below h nothing j later) hears.running hears.looks.looks in
+      let behind = look_shown_more c log run i s.slot marked.host marked.slot_below marked.below h j later m t hears.running hears.looks.looks hears.disk hears.call hears.answer hears.left hears.entry before in
+      sees s (on heard) marked.host marked.n marked.below marked.those (ap (λ (q : ℕ). count q marked.those) disks ∙ marked.many) (let most = marked.most in omega (arith, most, disks))
+      (λ d inside those row read. behind on_slot d (marked.firm d (omega (arith, inside, disks)) those) row (ap (λ (xs : List Answered). look.row_of (on xs d)) (sym hears.is_heard) ∙ read))
+
+  module _ (i j host n k : ℕ) (looked : HasLooked c log i j host n) (marked : (slot : ℕ) → slot ≤ k → IsFoundBefore c log i slot) where
     -- the host was idle where the look begins
-    nothing_yet : (slot : ℕ) → HasHeardNothing (at c log i) host slot
-    nothing_yet slot trying =
+    nothing_yet : (slot : ℕ) → HasSeenNothing (at c log i) host slot
+    nothing_yet slot m t running looks same =
         let w = at c log i in
-        let idle = idle_host w host (w.host host) refl (each c log i (Look host) run look.begins) in
-        let both : Running idle.0 ≡ Running trying.memory = sym idle.1 ∙ trying.running in
-        let same : idle.0 ≡ trying.memory = cc in
-        let none : None ≡ Some trying.doing = sym idle.2.tries ∙ ap (λ (m : Memory). m.doing) same ∙ trying.does in
+        let idle = idle_host w host (w.host host) refl (each c log i (Look host) run looked.begins) in
+        let both : Running idle.0 ≡ Running m = sym idle.1 ∙ running in
+        let one : idle.0 ≡ m = cc in
+        let none : None ≡ Some t = sym idle.2.looks ∙ ap (λ (q : Memory). q.looking) one ∙ looks in
         absurd (cc)
 
     -- it does not end behind a slot up to k that no mark tells
     not_short : n ≤ k → ⊥
-    not_short short = elim (whence c log j host (said.Looked n) tt run look.says).is [
-      | inl first ↦
-          (let many = full_looks first.operation (length first.memory.learned) n first.says.0 in
-          let full = first.says.1 in
-          let fits = (marked_there i k (marked k (omega arith))).slot_below in
-          omega (arith, many, full, fits, short))
-      | inr later ↦
-          (let call = later.0 in
-          let heard = heard_at c log j host (said.Looked n) call in
-          let s = setup_of c host call.memory call.doing.operation in
-          elim (status_looks c call.memory (with_heard call.doing (record { disk = call.disk; heard = heard_as call.answer })) (taken s (on heard)) (status s (on heard)) n later.1) [
+    not_short short = elim (looks_from c log j host n run looked.says) [
+      | inl full ↦ (let fits = (marked_there i k (marked k (omega arith))).slot_below in omega (arith, full, fits, short))
+      | inr call ↦
+          (let m = call.memory in
+          let x : Answered = record { disk = call.disk; heard = heard_as call.answer } in
+          let t = looking_with call.looking x in
+          let s = look_of c m call.looking.first in
+          let hears : HearsLooking c log j s t.heard = record {
+            host = host;
+            disk = call.disk;
+            call = call.call;
+            answer = call.answer;
+            left = call.left;
+            entry = call.entry;
+            memory = m;
+            running = call.running;
+            looking = call.looking;
+            looks = call.looks;
+            is_setup = refl;
+            is_heard = refl;
+          } in
+          elim (look_answers c m t (look.status s (on t.heard)) n call.says) [
             | inl full ↦ (let fits = (marked_there i k (marked k (omega arith))).slot_below in omega (arith, full, fits, short))
-            | inr spent ↦
-                (let found = attempt_finds i j s heard (hears_at c log j host (said.Looked n) call) look.order (subst (IsFoundBefore c log i) (sym spent.1) (marked n short)) (nothing_yet s.slot) in
-                subst FindsMark spent.0 found)
+            | inr unmarked ↦
+                subst SeesMark unmarked.0 (look_sees_it i j s t.heard hears looked.order (subst (IsFoundBefore c log i) (sym unmarked.1) (marked n short)) (nothing_yet s.slot))
           ])
     ]
 
     look_finds : k < n
     look_finds = elim (cases_lt k n) [ inl less ↦ less | inr over ↦ absurd (not_short over) ]
+
+pub looks_see : (c : Shape) (log : List Filled) → IsRun c log → LooksSee c log
+looks_see c log run i j s heard hears later found nothing = look_sees_it c log run i j s heard hears later found nothing
 
 pub attempts_find : (c : Shape) (log : List Filled) → IsRun c log → AttemptsFind c log
 attempts_find c log run i j s heard hears later marked nothing = attempt_finds c log run i j s heard hears later marked nothing

@@ -1,4 +1,5 @@
--- No call writes over a marked block: not an attempt's, which has read the mark and ended; not a marking's, which would have read it; not another host's.
+-- No call writes over a marked block: not an attempt's, which has read the mark and ended; not a marking's, which would have read it; not a look's,
+-- which writes nothing; not another host's.
 use Rattle.std.specs.Prelude.{slice_get, if◌then◌else◌}
 use Rattle.std.proofs.Common.{ℕ, zero, suc, ◌<◌, ◌≤◌, ◌≡◌, ◌≢◌, inl, inr, Bool, true, false, not, Option, Some, None, List, length, is_some, refl, sym, subst, ap, ◌∙◌, arith}
 use Rattle.std.proofs.lemmas.Bool.{and_parts, cases_eq}
@@ -30,7 +31,7 @@ use Rattle.attempt.proofs.Votes.{told_is}
 use Rattle.beats.specs.Answers as beat_answers
 use Rattle.marks.specs.Status as mark
 use Rattle.slot_log.specs.Shape.{Shape}
-use Rattle.host.specs.Host.{Doing, Memory, Running, beat_of, marking_of, setup_of, next_of}
+use Rattle.host.specs.Host.{Doing, Memory, Running, beat_of, marking_of, look_of, setup_of, next_of}
 use Rattle.world.specs.Entry.{Called, disk_step}
 use Rattle.world.specs.World.{World}
 use Rattle.world_safety.specs.Marking.{KnowsMarkFor, IsMarking, IsMarkingSlot, IsMarkingIf}
@@ -40,7 +41,8 @@ use Rattle.world_safety.proofs.Blocks.Keeping.{spares_others}
 use Rattle.world_safety.proofs.Blocks.Owning.{under_is}
 use Rattle.world_safety.proofs.Blocks.Values.{all_say_by}
 use Rattle.world_safety.proofs.Moves.Beating.{beat_within}
-use Rattle.world_safety.proofs.Moves.Due.{IsBeatCall, IsMarkCall, busy, IsCall, Due, due_of}
+use Rattle.world_safety.proofs.Moves.Due.{IsBeatCall, IsMarkCall, IsLookCall, busy, IsCall, Due, due_of}
+use Rattle.world_safety.proofs.Moves.Looking.{is_calm, leaves}
 use Rattle.world_safety.proofs.Moves.Marking.{IsMarkDue, mark_due, to_mark, mark_inside}
 use Rattle.world_safety.proofs.Moves.Moving.{running_at}
 use Rattle.world_marks.proofs.Unmarked.{HasNone, HasMark, Unmarked, one_mark, not_marked}
@@ -283,11 +285,19 @@ module _ (c : Shape) (w : World) (ms : Moves) (tied : Tied c w ms) (h k : ℕ) (
         (spares_others c.slots (VoteOf it.marking.slot h) (VoteOf slot host) disk new call answer (inside.0, mark_run.below) (slot_below, below) differ (tied.images k) inside.1 step).outcomes
         before))
 
+  -- A LOOK'S
+
+  look_keeps : IsLookCall c k call (w.host h) → (slot host : ℕ) → Keeps slot host
+  look_keeps it slot host slot_below below before =
+      let calm = is_calm (look_of c it.memory it.looking.first) (on it.looking.heard) k call it.due in
+      subst (AllSay HasMark (place_of (VoteOf slot host))) (sym (leaves disk call answer left calm)) before
+
   -- ANY CALL
 
   pub call_keeps : (K : ℕ → List ℕ → Type 0) → AttemptKnown K w h → (slot host : ℕ) → Keeps slot host
   call_keeps K attempt slot host slot_below below before = elim (busy c h k call (w.host h) next) [
     | inl who ↦ (let is = attempt who.memory who.doing who.running who.does in attempt_keeps who.memory who.doing who.running who.does (K (length who.memory.learned)) is.0 is.1 slot host slot_below below before)
     | inr (inl who) ↦ beat_keeps who slot host slot_below below before
-    | inr (inr who) ↦ marking_keeps who slot host slot_below below before
+    | inr (inr (inl who)) ↦ marking_keeps who slot host slot_below below before
+    | inr (inr (inr who)) ↦ look_keeps who slot host slot_below below before
   ]

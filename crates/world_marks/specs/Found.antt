@@ -1,5 +1,5 @@
 -- When a block stays marked, when a slot is marked on most disks, and what attempts and looks find of that.
-use Rattle.std.specs.Prelude.{◌≡◌, ◌⊎◌, ◌*◌, ◌+◌, ◌<◌, ◌≤◌, ℕ, Bool, true, List, length, slice_get, Some}
+use Rattle.std.specs.Prelude.{◌≡◌, ◌⊎◌, ◌*◌, ◌+◌, ◌<◌, ◌≤◌, ℕ, Bool, true, List, [], length, slice_get, Some}
 use Rattle.torn_block.specs.declared.layout.TheConstants.{HOSTS}
 use Rattle.paxos_block.specs.Places.{VoteOf, place_of}
 use Rattle.attempt.specs.Answers.{Answered, on}
@@ -7,11 +7,14 @@ use Rattle.attempt.specs.Calls.{Opening, One, Two}
 use Rattle.attempt.specs.Numbers.{count}
 use Rattle.attempt.specs.Setup.{Setup}
 use Rattle.attempt.specs.Status.{Status, Due, Ended, Committed, Decided, Empty, Outrun, NoMajority, BallotsSpent, status}
+use Rattle.looks.specs.Status as look
 use Rattle.slot_log.specs.Shape.{Shape}
 use Rattle.host.specs.declared.answer.HostAnswer.TheVariants.{Looked, Marked}
+use Rattle.host.specs.Host.{Looking, Memory, Running}
 use Rattle.world.specs.Entry.{Filled, Look, Mark, is_of}
 use Rattle.world.specs.World.{World}
 use Rattle.world.specs.Chosen.{at, migrated, Hears, SaysAt, IsCallOf}
+use Rattle.world.specs.Looks.{HearsLooking}
 use Rattle.world_safety.specs.Claims.{HasHeardNothing}
 use Rattle.world_safety.specs.Marks.{AllSay}
 
@@ -76,6 +79,23 @@ IsFoundBefore c log i slot = IsMarkedBefore c log i slot ⊎ ((0 < i) × (slot <
 abbrev pub AttemptsFind : Shape → List Filled → Type 0
 AttemptsFind c log =
     (i j : ℕ) (s : Setup) (heard : List Answered) (hears : Hears c log j s heard) → i ≤ j → IsFoundBefore c log i s.slot → HasHeardNothing (at c log i) hears.host s.slot → FindsMark (status s (on heard))
+
+-- the look goes on, or is told what was decided, or finds too few sound rows to say that nothing is
+abbrev pub SeesMark : look.Status → Type 0
+SeesMark (look.Due d) = Unit {0}
+SeesMark (look.Ended (look.Decided d value)) = Unit {0}
+SeesMark (look.Ended look.Unmarked) = ⊥
+SeesMark (look.Ended look.NoMajority) = Unit {0}
+
+-- no look of the host at this slot is under way, or it has heard nothing yet
+abbrev pub HasSeenNothing : World → ℕ → ℕ → Type 0
+HasSeenNothing w host slot = (m : Memory) (t : Looking) → w.host host ≡ Running m → m.looking ≡ Some t → length m.learned ≡ slot → t.heard ≡ []
+
+-- So it is with each look that has heard nothing yet when its slot is marked on more than half of the disks: though it syncs nothing, it never
+-- says that no mark tells the slot.
+abbrev pub LooksSee : Shape → List Filled → Type 0
+LooksSee c log =
+    (i j : ℕ) (s : look.Setup) (heard : List Answered) (hears : HearsLooking c log j s heard) → i ≤ j → IsFoundBefore c log i s.slot → HasSeenNothing (at c log i) hears.host s.slot → SeesMark (look.status s (on heard))
 
 -- A look of the host begins at entry i, and at entry j this one, or a later one, answers that it has learned n commands.
 pub record HasLooked (c : Shape) (log : List Filled) (i j host n : ℕ) : Type 0 where

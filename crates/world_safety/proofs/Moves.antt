@@ -12,6 +12,7 @@ pub mod Moving
 pub mod Operating
 pub mod Calling
 pub mod Beating
+pub mod Looking
 pub mod Marking
 pub mod Crashing
 pub mod Entries

@@ -8,6 +8,7 @@ use Rattle.attempt.specs.Prepared.{Proposes, IsPrepared, IsAccepted, IsMarkSeen}
 use Rattle.attempt.specs.Proposal.{ballot}
 use Rattle.attempt.specs.Setup.{Setup}
 use Rattle.attempt.specs.Status.{Ended, Decided, status}
+use Rattle.looks.specs.Status as look
 use Rattle.lock_command.specs.declared.command.Command.{Command}
 use Rattle.lock_command.specs.Command.{spelling}
 use Rattle.lock_command.specs.declared.reply.Reply.{Reply}
@@ -19,6 +20,7 @@ use Rattle.host.specs.Host.{Submitting}
 use Rattle.world.specs.Chosen.{at, Hears, IsChosenAt, IsMigrated, IsLog, SaysAt, IsRecovery}
 use Rattle.world_safety.specs.Goes.{IsTryingAt}
 use Rattle.world.specs.Headline.{IsPrefix}
+use Rattle.world.specs.Looks.{HearsLooking}
 use Rattle.world_safety.specs.Marks.{AllMarksTrue}
 use Rattle.world_safety.specs.Tracks.{IsChosenBefore}
 
@@ -151,3 +153,8 @@ MarksChosen c log = (i : ℕ) → AllMarksTrue c (at c log i) (IsChosenBefore c 
 -- What an attempt takes as decided with the answer of entry i was chosen before, for its slot.
 abbrev pub DecidesChosenBefore : Shape → List Filled → Type 0
 DecidesChosenBefore c log = (i : ℕ) (s : Setup) (heard : List Answered) (value : List ℕ) → Hears c log i s heard → status s (on heard) ≡ Ended (Decided value) → IsChosenBefore c log i s.slot value
+
+-- And so was what a look is told with the answer of entry i, by one marked block on one disk.
+abbrev pub LooksToldChosen : Shape → List Filled → Type 0
+LooksToldChosen c log =
+    (i : ℕ) (s : look.Setup) (heard : List Answered) (d : ℕ) (value : List ℕ) → HearsLooking c log i s heard → look.status s (on heard) ≡ look.Ended (look.Decided d value) → IsChosenBefore c log i s.slot value

@@ -1,15 +1,18 @@
 -- What an entry is in the machines: a few moves, and what they tell of it.
 use Rattle.std.specs.Prelude.{◌≡◌, ◌≤◌, ◌⊎◌, ℕ, true, List, [], ◌∷◌, ◌++◌, length, Some}
+use Rattle.disk.specs.Disk.{Answer}
 use Rattle.attempt.specs.Answers.{Answers, on, heard_as}
 use Rattle.attempt.specs.Chosen.{Chooses}
 use Rattle.attempt.specs.Prepared.{Proposes}
 use Rattle.attempt.specs.Proposal.{ballot}
 use Rattle.attempt.specs.Setup.{Setup}
 use Rattle.attempt.specs.Status.{Ended, Decided, status}
+use Rattle.looks.specs.Status as look
 use Rattle.slot_log.specs.Shape.{Shape}
 use Rattle.host.specs.declared.answer.HostAnswer.TheVariants.{Recovered}
-use Rattle.host.specs.Host.{Doing, Memory, Running, input_of, setup_of}
+use Rattle.host.specs.Host.{Doing, Looking, Memory, Running, input_of, setup_of, look_of, looking_with}
 use Rattle.world.specs.Entry.{Filled, Called, is_of, host_step}
+use Rattle.world.specs.Looks.{IsLooking}
 use Rattle.world.specs.World.{World}
 use Rattle.agreement.specs.Chosen.{IsInput, IsProposed, IsChosenBy, IsChosen, IsEmpty}
 use Rattle.agreement.specs.Event.Event.{Starts}
@@ -69,11 +72,21 @@ CarriesOn c w ms (Called h k call answer left) =
 CarriesOn c w ms other = Unit {0}
 
 -- Where an attempt ends with the entry by what a marked block tells, that is chosen in the slot.
-abbrev pub DecidesChosen : Shape → World → Moves → Filled → Type 0
-DecidesChosen c w ms (Called h k call answer left) =
+abbrev pub AttemptDecides : Shape → World → Moves → (h k : ℕ) → Answer → Type 0
+AttemptDecides c w ms h k answer =
     (m : Memory) (t : Doing) (v : List ℕ) → w.host h ≡ Running m → m.doing ≡ Some t
     → status (setup_of c h m t.operation) (on (t.heard ++ record { disk = k; heard = heard_as answer } ∷ [])) ≡ Ended (Decided v)
     → IsChosen c.disks (machine ms (length m.learned)) v
+
+-- And where a look is told by one, that is chosen in the slot.
+abbrev pub LookDecides : Shape → World → Moves → (h k : ℕ) → Answer → Type 0
+LookDecides c w ms h k answer =
+    (m : Memory) (t : Looking) (d : ℕ) (u : List ℕ) → w.host h ≡ Running m → IsLooking m t
+    → look.status (look_of c m t.first) (on (looking_with t (record { disk = k; heard = heard_as answer })).heard) ≡ look.Ended (look.Decided d u)
+    → IsChosen c.disks (machine ms (length m.learned)) u
+
+abbrev pub DecidesChosen : Shape → World → Moves → Filled → Type 0
+DecidesChosen c w ms (Called h k call answer left) = AttemptDecides c w ms h k answer × LookDecides c w ms h k answer
 DecidesChosen c w ms other = Unit {0}
 
 -- The entry is a few moves.

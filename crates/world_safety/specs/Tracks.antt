@@ -6,7 +6,7 @@ use Rattle.lock_command.specs.Command.{spelling}
 use Rattle.slot_log.specs.Shape.{Shape}
 use Rattle.host.specs.declared.answer.HostAnswer.{HostAnswer}
 use Rattle.host.specs.declared.answer.HostAnswer.TheVariants.{Recovered, Looked}
-use Rattle.host.specs.Host.{Operation, Submitting, Doing, Memory, Host, Stopped, Running}
+use Rattle.host.specs.Host.{Operation, Submitting, Doing, Looking, Memory, Host, Stopped, Running}
 use Rattle.world.specs.Entry.{Filled, Submit}
 use Rattle.world.specs.World.{ReadsBack}
 use Rattle.world.specs.Chosen.{IsChosenAt, IsMigrated}
@@ -52,6 +52,8 @@ pub record IsTrue (c : Shape) (log : List Filled) (i h : ℕ) (m : Memory) : Typ
   pub counts : Counts m.said (length m.learned)
   -- what a marked block told its attempt was chosen before
   pub told : (t : Doing) → m.doing ≡ Some t → (d : ℕ) → TellsTrueMarks (IsChosenBefore c log i (length m.learned)) (on t.heard d)
+  -- and so was what one told its look
+  pub looked : (t : Looking) → m.looking ≡ Some t → (d : ℕ) → TellsTrueMarks (IsChosenBefore c log i (length m.learned)) (on t.heard d)
 
 abbrev pub IsTrueOf : Shape → List Filled → ℕ → ℕ → Host → Type 0
 IsTrueOf c log i h Stopped = Unit {0}

@@ -7,7 +7,7 @@ ghost use Rattle.world.specs.Headline.{Headline, HeadlineOfEvents, HeadlineOfMig
 ghost use Rattle.world_safety.specs.Claims.{BindsGreater, BindsAll, OneProposal, ProposesInOrder};
 ghost use Rattle.world_safety.specs.Claims.{LogGrows, AllBegun, EmptyShows, MissesNothing, NoneShorter};
 ghost use Rattle.world_safety.specs.Claims.{AcknowledgesByMajority, RecoversByMajority};
-ghost use Rattle.world_safety.specs.Claims.{MarksChosen, DecidesChosenBefore};
+ghost use Rattle.world_safety.specs.Claims.{MarksChosen, DecidesChosenBefore, LooksToldChosen};
 ghost use Rattle.world_safety.specs.Renewals.{FullLogsAreFinal, RecoveriesGoOn, RecoveriesGoOnWithout};
 
 /// One log, whatever happens, and nothing that was acknowledged is lost: so it is with every run,
@@ -49,10 +49,12 @@ pub fn majorities_answer()
 {}
 
 /// Marks are true. At each place of a run, and after a crash just then, each marked block has an input
-/// that was chosen before for its slot; so what an attempt takes as decided was chosen before.
+/// that was chosen before for its slot; so what an attempt takes as decided was chosen before, and so was what a look is told
+/// by one marked block on one disk, which it reads without a sync.
 pub fn marks_are_true()
     ensures blocks { (c : Shape) (log : List Filled) → IsRun c log → MarksChosen c log }
     ensures decided { (c : Shape) (log : List Filled) → IsRun c log → DecidesChosenBefore c log }
+    ensures looked { (c : Shape) (log : List Filled) → IsRun c log → LooksToldChosen c log }
 {}
 
 /// A full log is final: whoever has learned all of it has learned the same. So its table may be carried over to another cluster. Each

@@ -1,6 +1,6 @@
 -- What an entry leaves of the rows that an attempt has read: of the attempt's own call, and of whatever else may happen meanwhile.
 use Rattle.std.specs.Prelude.{cond, slice_get}
-use Rattle.std.proofs.Common.{ℕ, ◌<◌, ◌≡◌, ◌≢◌, ◌==◌, ◌⊎◌, inl, inr, Bool, true, false, Some, List, [], ◌∷◌, ◌++◌, length, refl, sym, subst, ap, ap₂, ◌∙◌, arith}
+use Rattle.std.proofs.Common.{ℕ, ◌<◌, ◌≡◌, ◌≢◌, ◌==◌, ◌⊎◌, inl, inr, Bool, true, false, Some, None, List, [], ◌∷◌, ◌++◌, length, refl, sym, subst, ap, ap₂, ◌∙◌, arith}
 use Rattle.std.proofs.lemmas.Bool.{both_ways, cases_eq, eq-eqb, eqb-true, ne_eqb}
 use Rattle.disk.specs.declared.fault.DiskFault.TheVariants.{Failed}
 use Rattle.disk.specs.Disk.{DiskState, Call, Answer, Fault, Step}
@@ -16,7 +16,7 @@ use Rattle.attempt.specs.NextCall.{call_by}
 use Rattle.attempt.proofs.More.{on_more, by_disk}
 use Rattle.beats.specs.Answers as beat_answers
 use Rattle.slot_log.specs.Shape.{Shape}
-use Rattle.host.specs.Host.{Looking, Doing, Memory, Host, Running, setup_of, beat_of, next_of}
+use Rattle.host.specs.Host.{Doing, Memory, Host, Running, setup_of, beat_of, next_of}
 use Rattle.world.specs.Entry.{Filled, Start, Stop, Submit, Recover, Look, Beat, Mark, Called, Torn, Crashed, Lost, Migrated, is_on, is_of, disk_step}
 use Rattle.world.specs.World.{World, IsRun}
 use Rattle.world.specs.Chosen.{at}
@@ -29,11 +29,11 @@ use Rattle.world_safety.proofs.Blocks.Settled.{current, row_is}
 use Rattle.world_safety.proofs.Blocks.Values.{bytes_left}
 use Rattle.world_safety.proofs.Moves.Beating.{beat_within}
 use Rattle.world_safety.proofs.Moves.Calling.{tears}
-use Rattle.world_safety.proofs.Moves.Due.{Attempts, IsBeatCall, IsMarkCall, busy, Due, due_of}
+use Rattle.world_safety.proofs.Moves.Due.{IsBeatCall, IsMarkCall, IsLookCall, IsAtWork, busy, Due, due_of}
 use Rattle.world_safety.proofs.Moves.Marking.{promises, mark_inside}
 use Rattle.world_safety.proofs.Moves.Moving.{running_at}
 use Rattle.world_safety.proofs.Runs.Tracks.{moves_at, tied_at}
-use Rattle.world_served.specs.Alone.{LooksAtMost, IsAlone}
+use Rattle.world_served.specs.Alone.{IsAlone}
 use Rattle.world_served.proofs.Blocks.{shown, shown_is, shown_kept, shown_beside}
 use Rattle.world_served.proofs.Resting.{RestsOn, Rests, rests_on, rests_more}
 
@@ -48,18 +48,17 @@ IsQuiet c w (Torn g k call left) = IsQuietCall c g k call (w.host g) × Step (w.
 IsQuiet c w (Migrated disks log) = ⊥
 IsQuiet c w other = Unit {0}
 
--- an attempt that looks only reads
-looks_read : (c : Shape) (h k : ℕ) (call : Call) (host : Host) → next_of c h host ≡ Some (k, call) → (m : Memory) (t : Doing) → host ≡ Running m → m.doing ≡ Some t → LooksAtMost m.doing → OnlyReads call
-looks_read c h k call host next m t running does looks =
-    let looking : t.operation ≡ Looking = subst LooksAtMost does looks in
-    reads_only c h k m t call does looking (ap (next_of c h) (sym running) ∙ next)
+-- a look only reads
+looks_read : (c : Shape) (h k : ℕ) (call : Call) (host : Host) → next_of c h host ≡ Some (k, call) → IsLookCall c k call host → OnlyReads call
+looks_read c h k call host next who = reads_only c h k who.memory who.looking call who.looks (ap (next_of c h) (sym who.running) ∙ next)
 
--- who tries no slot but to look, and has a call to make, makes a quiet one
-quiet_only : (c : Shape) (h k : ℕ) (call : Call) (host : Host) → next_of c h host ≡ Some (k, call) → ((m : Memory) → host ≡ Running m → LooksAtMost m.doing) → Attempts host ⊎ (IsBeatCall c h k call host ⊎ IsMarkCall c h k call host) → IsQuietCall c h k call host
+-- who tries no slot, and has a call to make, makes a quiet one
+quiet_only : (c : Shape) (h k : ℕ) (call : Call) (host : Host) → next_of c h host ≡ Some (k, call) → ((m : Memory) → host ≡ Running m → m.doing ≡ None) → IsAtWork c h k call host → IsQuietCall c h k call host
 quiet_only c h k call host next rests who = elim who [
-  | inl tries ↦ inr (inr (looks_read c h k call host next tries.memory tries.doing tries.running tries.does (rests tries.memory tries.running)))
+  | inl tries ↦ absurd (let none = rests tries.memory tries.running in let both : None ≡ Some tries.doing = sym none ∙ tries.does in cc)
   | inr (inl beats) ↦ inl beats
-  | inr (inr marks) ↦ inr (inl marks)
+  | inr (inr (inl marks)) ↦ inr (inl marks)
+  | inr (inr (inr looks)) ↦ inr (inr (looks_read c h k call host next looks))
 ]
 
 module _ (c : Shape) (log : List Filled) (run : IsRun c log) (i j host : ℕ) (alone : IsAlone c log i j host) (k : ℕ) (behind : i < k) (before : k < j) where

@@ -20,11 +20,12 @@ use Rattle.lock_command.specs.declared.command.Command.{Command}
 use Rattle.lock_command.specs.Command.{spelling}
 use Rattle.lock_command.specs.Reading.{decoded}
 use Rattle.slot_log.specs.Shape.{Shape}
-use Rattle.host.specs.Host.{Operation, Submitting, Looking, spent_answer, Doing, Memory, Host, Running, setup_of, input_of, learned_of, does, learns, is_submitted, after_learning, takes, by_status, hears_from, Beats}
-use Rattle.host.proofs.Hosts.{beats_heard, marking_heard}
+use Rattle.host.specs.Host.{Operation, Submitting, Doing, Memory, Host, Running, setup_of, input_of, learned_of, does, learns, is_submitted, after_learning, takes, by_status, hears_from, Beats}
+use Rattle.host.proofs.Hosts.{beats_heard}
 use Rattle.world.specs.Entry.{Filled, Start, Stop, Submit, Recover, Look, Beat, Mark, Called, Torn, Crashed, Lost, Migrated, is_of, host_step}
 use Rattle.world.specs.World.{World, MayFollow, IsRun}
 use Rattle.world.specs.Chosen.{at, migrated, Hears}
+use Rattle.world.proofs.Beside.{looking_heard, marking_heard}
 use Rattle.world.proofs.Histories.{heard_then, committed}
 use Rattle.world.proofs.Runs.{each, submits_reads}
 use Rattle.world_safety.specs.Goes.{ProposesWith}
@@ -32,8 +33,7 @@ use Rattle.world_safety.specs.Next.{next_world}
 use Rattle.world_safety.proofs.Runs.Knowing.{later_chosen}
 use Rattle.world_safety.proofs.Runs.Tracks.{moves_at, tied_at, all_submitted_before, IsPutBefore, put_by_then, decided_at}
 use Rattle.world_safety.specs.Tracks.{IsChosenBefore}
-use Rattle.world_served.specs.Alone.{LooksAtMost, TriesNone}
-use Rattle.world_served.specs.Served.{IsServedBy}
+use Rattle.world_served.specs.Alone.{TriesNone}
 use Rattle.world_served.specs.Served.{IsLeftAlone}
 use Rattle.world_served.proofs.Answered.{served}
 use Rattle.world_served.proofs.Counting.{one_past}
@@ -66,7 +66,7 @@ module _ (c : Shape) (log : List Filled) (run : IsRun c log) (some : 1 ≤ c.dis
   IsOwn w = serving.IsOwn c log i host command marks w
 
   module _ (k : ℕ) (behind : i < k) (before : k < j) (d : ℕ) (call : Call) (answer : Answer) (left : List ℕ) (entry : slice_get log k ≡ Some (Called host d call answer left)) (calls : ℕ)
-      (earlier : (p : ℕ) → i < p → p ≤ k → IsOwn (at c log p)) (m : Memory) (running : (at c log k).host host ≡ Running m) (t : Doing) (doing : m.doing ≡ Some t) (no_beat : m.beats.heard ≡ None) (no_mark : m.marking ≡ None) (is : serving.IsServing c log i host command marks calls (at c log k) m t) where
+      (earlier : (p : ℕ) → i < p → p ≤ k → IsOwn (at c log p)) (m : Memory) (running : (at c log k).host host ≡ Running m) (t : Doing) (doing : m.doing ≡ Some t) (no_beat : m.beats.heard ≡ None) (no_mark : m.marking ≡ None) (no_look : m.looking ≡ None) (is : serving.IsServing c log i host command marks calls (at c log k) m t) where
     abbrev w : World
     w = at c log k
 
@@ -154,9 +154,8 @@ module _ (c : Shape) (log : List Filled) (run : IsRun c log) (some : 1 ≤ c.dis
             elim (alone.alone.calls by.place g n other_call other_answer bytes late (let b = by.before in omega arith) found) [
               | inl its ↦ put_own by.put.host (sym (eqb-true g by.put.host of) ∙ its) by.put.memory by.put.doing by.put.running by.put.does by.put.input late
               | inr rests ↦
-                  (let looks_at_most = subst (TriesNone c log by.place) (eqb-true g by.put.host of) rests by.put.memory by.put.running in
-                  let looks : by.put.doing.operation ≡ Looking = subst LooksAtMost by.put.does looks_at_most in
-                  let both : None ≡ Some value = sym (ap input_of looks) ∙ by.put.input in
+                  (let none = subst (TriesNone c log by.place) (eqb-true g by.put.host of) rests by.put.memory by.put.running in
+                  let both : None ≡ Some by.put.doing = sym none ∙ by.put.does in
                   absurd (cc))
             ]
         put_late (Torn g n other_call bytes) found of votes late = votes
@@ -266,8 +265,7 @@ module _ (c : Shape) (log : List Filled) (run : IsRun c log) (some : 1 ≤ c.dis
         absurd (has_value (best s (on heard)).inp (spelling command) (subst (λ (o : Operation). or_else (best s (on heard)).inp (input_of o) ≡ None) is.operation none.none))
     status_so b (Ended (attempt.Outrun mbal)) so serves = absurd serves
     status_so b (Ended attempt.NoMajority) so serves = absurd serves
-    status_so b (Ended attempt.BallotsSpent) so serves =
-        subst (λ (o : Operation). IsServedBy most (calls + 1) (Some (spent_answer o (length m.learned)))) (sym is.operation) bounded
+    status_so b (Ended attempt.BallotsSpent) so serves = bounded
 
     abbrev new : Memory
     new = by_status c m going (taken s (on heard)) (status s (on heard))
@@ -284,5 +282,6 @@ module _ (c : Shape) (log : List Filled) (run : IsRun c log) (some : 1 ≤ c.dis
           running = ap (λ (b : Bool). cond b (host_step c host (w.host host) e) (w.host host)) (eq-eqb host host refl) ∙ now;
           no_beat = ap (λ (b : Beats). b.heard) (beats_heard c host m (Some t) x) ∙ no_beat;
           no_mark = marking_heard c host m (Some t) x ∙ no_mark;
+          no_look = looking_heard c host m (Some t) x ∙ no_look;
           so_far = status_so (taken s (on heard)) (status s (on heard)) refl ends;
         }

@@ -50,6 +50,7 @@ module _ (c : Shape) (log : List Filled) (i host : ℕ) (command : Command) (mar
     pub running : w.host host ≡ Running memory
     pub no_beat : memory.beats.heard ≡ None
     pub no_mark : memory.marking ≡ None
+    pub no_look : memory.looking ≡ None
     pub so_far : SoFar calls w memory memory.doing
 
   -- whatever attempt is under way then is the submission's

@@ -1,5 +1,5 @@
 -- When a host is left alone by the others, and answered by most disks.
-use Rattle.std.specs.Prelude.{◌≡◌, ◌⊎◌, ◌&&◌, ◌<◌, ℕ, true, false, List, slice_get, Option, Some, None}
+use Rattle.std.specs.Prelude.{◌≡◌, ◌⊎◌, ◌&&◌, ◌<◌, ℕ, true, false, List, slice_get, Some, None}
 use Rattle.disk.specs.Disk.{Call, Answer}
 use Rattle.attempt.specs.Answers.{Answered, Answers, on, all_good}
 use Rattle.attempt.specs.Calls.{Phase}
@@ -8,20 +8,15 @@ use Rattle.attempt.specs.Setup.{Setup}
 use Rattle.attempt.specs.Standing.{IsIn}
 use Rattle.attempt.specs.Visits.{is_stuck, is_past, visited}
 use Rattle.slot_log.specs.Shape.{Shape}
-use Rattle.host.specs.Host.{Looking, Doing, Memory, Running}
+use Rattle.host.specs.Host.{Memory, Running}
 use Rattle.world.specs.Entry.{Filled, Called, Torn, is_of}
 use Rattle.world.specs.Chosen.{at, Hears, IsCallOf}
 
--- no attempt is under way, or one that looks
-abbrev pub LooksAtMost : Option Doing → Type 0
-LooksAtMost None = Unit {0}
-LooksAtMost (Some t) = t.operation ≡ Looking
-
--- before entry k the host tries no slot but to look, so that a call that it makes there is one of a beat or of a marking, or only reads
+-- before entry k the host tries no slot, so that a call that it makes there is one of a beat, of a marking or of a look
 abbrev pub TriesNone : Shape → List Filled → (k host : ℕ) → Type 0
-TriesNone c log k host = (m : Memory) → (at c log k).host host ≡ Running m → LooksAtMost m.doing
+TriesNone c log k host = (m : Memory) → (at c log k).host host ≡ Running m → m.doing ≡ None
 
--- Behind entry i and before entry j no other host makes a call of an attempt that may write, and none is stopped within a write of one; this host makes calls alone.
+-- Behind entry i and before entry j no other host makes a call of an attempt, and none is stopped within a write of one; this host makes calls alone.
 -- Others may start, stop, begin operations, look, mark and beat meanwhile, and disks may crash and be lost.
 pub record IsAlone (c : Shape) (log : List Filled) (i j host : ℕ) : Type 0 where
   pub calls : (k g d : ℕ) (call : Call) (answer : Answer) (left : List ℕ) → i < k → k < j → slice_get log k ≡ Some (Called g d call answer left) → (g ≡ host) ⊎ TriesNone c log k g

@@ -14,4 +14,4 @@ step 1 1
 tear 1 a5
 step 1 1
 tear 1 a5
-step 1 3
+step 1 1

@@ -10,4 +10,3 @@ look 1
 step 1 1
 crash 0 00
 step 1 7
-step 1 9

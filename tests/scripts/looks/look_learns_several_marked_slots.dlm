@@ -1,4 +1,4 @@
-# A look learns three marked slots of three disks, and stops at the fourth: nine calls for each.
+# A look learns three marked slots of three disks with two calls each, and stops at the fourth, after two calls on each of two disks.
 cluster 3 4
 start 0
 submit 0 1 enqueue 1 1 1 EX db
@@ -15,5 +15,5 @@ mark 0 2
 step 0 27
 start 1
 look 1
-step 1 36
+step 1 10
 show 1

@@ -4,7 +4,7 @@ start 0
 submit 0 1 enqueue 1 1 1 EX db
 step 0 17
 look 0
-step 0 3
+step 0 2
 show 0
 submit 0 1 enqueue 2 1 2 EX db
 step 0 17

@@ -13,10 +13,10 @@ mark 0 2
 step 0 9
 start 1
 look 1
-step 1 6
+step 1 4
 show 1
 mark 0 1
 step 0 9
 look 1
-step 1 9
+step 1 6
 show 1

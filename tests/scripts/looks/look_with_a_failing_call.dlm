@@ -1,4 +1,4 @@
-# A failing call drops its disk for that slot alone; the other two disks show the mark.
+# Where a call fails the next disk is asked, and shows the mark. For the next slot the disk is asked again.
 cluster 3 2
 start 0
 submit 0 1 enqueue 1 1 1 EX db
@@ -7,8 +7,7 @@ mark 0 0
 step 0 27
 start 1
 look 1
-step 1 2
+step 1 1
 fail 1 a5
 step 1 6
-step 1 9
 show 1

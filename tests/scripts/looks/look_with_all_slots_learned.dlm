@@ -1,4 +1,4 @@
-# With all slots learned a look has ended: with the third call, where the mark of the last slot was read, and before any call, where the host knew them.
+# With all slots learned a look has ended: with the second call, where the mark of the last slot was read, and before any call, where the host knew them.
 cluster 1 1
 start 0
 submit 0 1 enqueue 1 1 1 EX db
@@ -8,5 +8,5 @@ mark 0 0
 step 0 9
 start 1
 look 1
-step 1 3
+step 1 2
 look 1

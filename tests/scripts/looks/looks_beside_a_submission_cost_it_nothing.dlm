@@ -10,17 +10,16 @@ step 0 3
 step 6 2
 step 7 1
 step 0 8
-step 6 4
+step 6 2
 step 0 19
-step 7 8
-step 6 3
+step 7 3
 look 7
 step 0 6
-step 7 9
+step 7 4
 look 6
 look 7
 step 0 8
-step 7 4
-step 6 9
+step 7 2
+step 6 4
 step 0 7
-step 7 5
+step 7 2

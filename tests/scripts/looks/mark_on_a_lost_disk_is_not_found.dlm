@@ -8,8 +8,8 @@ step 0 9
 stop 0
 start 1
 look 1
-step 1 18
+step 1 6
 gone 0
 start 2
 look 2
-step 2 7
+step 2 5

@@ -9,6 +9,6 @@ crash 0 00
 step 0 1
 start 1
 look 1
-step 1 3
+step 1 2
 recover 1 1
 step 1 27

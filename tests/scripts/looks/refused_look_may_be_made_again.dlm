@@ -7,9 +7,9 @@ mark 0 0
 step 0 9
 start 1
 look 1
-step 1 2
+step 1 1
 fail 1 a5
 show 1
 look 1
-step 1 6
+step 1 4
 show 1

@@ -4,4 +4,4 @@ look 3
 start 3
 step 3 2
 look 3
-step 3 3
+step 3 2

@@ -7,7 +7,7 @@ mark 0 0
 step 0 27
 start 1
 look 1
-step 1 18
+step 1 6
 submit 1 1 enqueue 2 1 2 EX db
 step 1 51
 show 1

@@ -5,5 +5,5 @@ submit 0 1 enqueue 1 1 1 EX db
 step 0 17
 start 1
 look 1
-step 1 3
+step 1 2
 show 1

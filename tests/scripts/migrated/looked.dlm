@@ -4,5 +4,5 @@ log 0 enqueue 1 1 1 EX db
 log 5 enqueue 1 2 2 NL mail
 start 3
 look 3
-step 3 27
+step 3 8
 show 3

@@ -1,7 +1,6 @@
 -- A learner of the log: what follows from its operations and the answers that it has heard since its start, in each layout.
 use Rattle.std.specs.Prelude.{◌-◌, ℕ, Bool, true, false, List, [], ◌∷◌, ◌++◌, length, max, nat_lt, nat_le, Option, Some, None, if◌then◌else◌, bytes_eq}
 use Rattle.disk.specs.Disk as device
-use Rattle.paxos_block.specs.declared.ballot.TheConstants.{LAST_BALLOT}
 use Rattle.attempt.specs.Answers.{Answered, on}
 use Rattle.attempt.specs.Setup.{Setup}
 use Rattle.attempt.specs.Status.{Status, Due, Ended, End, status, taken}
@@ -10,9 +9,9 @@ use Rattle.attempt.specs.NextCall.{next_call}
 use Rattle.slot_log.specs.Shape.{Shape}
 use Rattle.torn_block.specs.Layout.{Version}
 use Rattle.slot_log.specs.declared.operation.Operation as code_operation
-use Rattle.slot_log.specs.declared.operation.Operation.TheVariants.{Placing, Recovering, Looking}
+use Rattle.slot_log.specs.declared.operation.Operation.TheVariants.{Placing, Recovering}
 use Rattle.slot_log.specs.declared.outcome.LogOutcome.{LogOutcome}
-use Rattle.slot_log.specs.declared.outcome.LogOutcome.TheVariants.{Placed, Recovered, Looked, Refused}
+use Rattle.slot_log.specs.declared.outcome.LogOutcome.TheVariants.{Placed, Recovered, Refused}
 use Rattle.slot_log.specs.declared.outcome.Refusal.TheVariants as refusal
 
 -- what a learner is asked to do, with the bytes of a value
@@ -23,7 +22,6 @@ Operation = code_operation.Operation (List ℕ)
 abbrev pub operation_as : {V : Type 0} → (V → List ℕ) → code_operation.Operation V → Operation
 operation_as spelled (Placing value) = Placing (spelled value)
 operation_as spelled Recovering = Recovering
-operation_as spelled Looking = Looking
 
 -- WHAT A LEARNER KNOWS
 
@@ -63,17 +61,10 @@ learns m value = record { learned = m.learned ++ value ∷ []; floor = 0; doing 
 abbrev pub input_of : Operation → Option (List ℕ)
 input_of (Placing value) = Some value
 input_of Recovering = None
-input_of Looking = None
-
--- above what they take their ballots; those of a look have none to take, and so end with their opening
-abbrev pub floor_for : Operation → ℕ → ℕ
-floor_for (Placing value) floor = floor
-floor_for Recovering floor = floor
-floor_for Looking floor = max floor LAST_BALLOT
 
 -- the attempt on the next slot
 abbrev pub setup_of : Version → Shape → ℕ → Memory → Operation → Setup
-setup_of v c h m operation = record { version = v; host = h; slot = length m.learned; disks = c.disks; floor = floor_for operation m.floor; input = input_of operation }
+setup_of v c h m operation = record { version = v; host = h; slot = length m.learned; disks = c.disks; floor = m.floor; input = input_of operation }
 
 -- an attempt on the next slot begins
 abbrev pub begins : Memory → Operation → ℕ → Memory
@@ -83,13 +74,6 @@ begins m operation tries = does m (record { operation = operation; tries = tries
 abbrev pub full_outcome : Operation → ℕ → LogOutcome
 full_outcome (Placing value) learned = Refused refusal.LogFull
 full_outcome Recovering learned = Recovered learned
-full_outcome Looking learned = Looked learned
-
--- and once an attempt has no ballot: a look has seen that no mark tells the next slot
-abbrev pub spent_outcome : Operation → ℕ → LogOutcome
-spent_outcome (Placing value) learned = Refused refusal.BallotsSpent
-spent_outcome Recovering learned = Refused refusal.BallotsSpent
-spent_outcome Looking learned = Looked learned
 
 -- the next slot is tried, where there is one
 abbrev pub goes_on : Shape → Memory → Operation → ℕ → Memory
@@ -107,7 +91,7 @@ ended m t ballot (attempt.Decided value) = does m t
 ended m t ballot attempt.Empty = says (with_floor m ballot) (Recovered (length m.learned))
 ended m t ballot (attempt.Outrun mbal) = tries_again (with_floor (with_floor m ballot) mbal) t.operation t.tries
 ended m t ballot attempt.NoMajority = says (with_floor m ballot) (Refused refusal.NoMajority)
-ended m t ballot attempt.BallotsSpent = says (with_floor m ballot) (spent_outcome t.operation (length m.learned))
+ended m t ballot attempt.BallotsSpent = says (with_floor m ballot) (Refused refusal.BallotsSpent)
 
 abbrev pub by_status : Memory → Doing → ℕ → Status → Memory
 by_status m t ballot (Due phase disk) = does m t
@@ -130,7 +114,6 @@ hears v c h m (Some t) x = goes_by m (with_heard t x) (setup_of v c h m t.operat
 abbrev pub is_placed : Operation → List ℕ → Bool
 is_placed (Placing wanted) value = bytes_eq wanted value
 is_placed Recovering value = false
-is_placed Looking value = false
 
 -- a value that was to be placed is, once it is learned; else the next slot is tried
 abbrev pub after_learning : Shape → Memory → Doing → List ℕ → Memory

@@ -10,14 +10,14 @@ use Rattle.lock_command.specs.Reading.{decoded}
 use Rattle.lock_command.specs.declared.reply.Reply.{Reply}
 use Rattle.slot_log.specs.Shape.{Shape}
 use Rattle.host.specs.declared.answer.HostAnswer.TheVariants.{Ack}
-use Rattle.host.specs.Host.{Operation, Submitting, Recovering, Looking, Doing, Memory, setup_of, with_heard, with_floor, learns, reply_after, is_submitted, after_learning, takes, by_status, spent_answer}
+use Rattle.host.specs.Host.{Operation, Submitting, Recovering, Doing, Memory, setup_of, with_heard, with_floor, learns, reply_after, is_submitted, after_learning, takes, by_status}
 use Rattle.host.proofs.Hosts.{decoded_spelled}
 use Rattle.world.specs.Entry.{Filled}
 use Rattle.world.specs.World.{IsRun}
 use Rattle.world.specs.Chosen.{SaysAt}
 use Rattle.world_safety.specs.Acks.{Acks, AcksAt}
 use Rattle.world_safety.proofs.Runs.Knowing.{reads_back}
-use Rattle.world_safety.proofs.Runs.Saying.{went_on, full_acks, spent_acks, again, memory_at, whence}
+use Rattle.world_safety.proofs.Runs.Saying.{went_on, full_acks, again, memory_at, whence}
 
 -- WHAT A HOST SAYS
 
@@ -26,7 +26,6 @@ module _ (c : Shape) (slot : ℕ) (reply : Reply) where
   pub submitted_is : (operation : Operation) (value : List ℕ) → is_submitted operation value ≡ true → (command : Command) × (operation ≡ Submitting command) × (spelling command ≡ value)
   submitted_is (Submitting command) value is = (command, refl, (bytes_eq-Decides (spelling command) value).0 is)
   submitted_is Recovering value is = absurd (cc)
-  submitted_is Looking value is = absurd (cc)
 
   module _ (m : Memory) (t : Doing) (b : ℕ) where
     learned_acks : (value : List ℕ) (command : Command) → decoded value ≡ Some command → (own : Bool) → is_submitted t.operation value ≡ own → (after_learning c m t command own).said ≡ Some (Ack slot reply)
@@ -57,7 +56,7 @@ module _ (c : Shape) (slot : ℕ) (reply : Reply) where
     status_acks (Ended attempt.Empty) is = absurd (cc)
     status_acks (Ended (attempt.Outrun mbal)) is = absurd (let no = again c m t b (with_floor (with_floor m b) mbal) (Ack slot reply) is in cc)
     status_acks (Ended attempt.NoMajority) is = absurd (cc)
-    status_acks (Ended attempt.BallotsSpent) is = absurd (let same : spent_answer t.operation (length m.learned) ≡ Ack slot reply = cc in spent_acks t.operation (length m.learned) slot reply same)
+    status_acks (Ended attempt.BallotsSpent) is = absurd (cc)
 
 -- an acknowledgement goes by what was under way, whatever it had heard
 acks_heard : (m : Memory) (t other : Doing) (new : Memory) (slot : ℕ) (reply : Reply) → other.operation ≡ t.operation → Acks m other new slot reply → Acks m t new slot reply

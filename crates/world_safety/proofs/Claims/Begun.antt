@@ -15,15 +15,13 @@ use Rattle.beats.specs.Answers as beat_answers
 use Rattle.slot_log.specs.Shape.{Shape}
 use Rattle.slot_log.specs.declared.outcome.Refusal.TheVariants as refusal
 use Rattle.host.specs.declared.answer.HostAnswer.TheVariants.{Recovered, Refused}
-use Rattle.host.specs.Host.{Operation, Submitting, Recovering, Looking, Doing, Memory, Host, Stopped, Running, setup_of, says, begins, full_answer, goes_on, with_floor, learns, is_submitted, after_learning, takes, tries_again, by_status, with_heard, hears_from, hears_beat, hears_beside, is_stopped, Marking, hears_marking, marking_with, marking_of}
-use Rattle.marks.specs.Status as mark
-use Rattle.world.specs.Entry.{Filled, Start, Stop, Submit, Recover, Look, Beat, Mark, Called, Torn, Crashed, Lost, Migrated, is_of, started, beats, marks, begins_on, host_step}
+use Rattle.host.specs.Host.{Operation, Submitting, Recovering, Doing, Memory, Host, Stopped, Running, setup_of, says, begins, full_answer, goes_on, with_floor, learns, is_submitted, after_learning, takes, tries_again, by_status, with_heard, hears_from, hears_beside, is_stopped}
+use Rattle.world.specs.Entry.{Filled, Start, Stop, Submit, Recover, Look, Beat, Mark, Called, Torn, Crashed, Lost, Migrated, is_of, started, beats, marks, looks, begins_on, host_step}
 use Rattle.world.specs.World.{MayBegin, IsRun}
 use Rattle.world.specs.Chosen.{at, SaysAt, IsCallOf, IsRecovery}
 use Rattle.world_safety.specs.Claims.{AllBegun}
-use Rattle.world_safety.proofs.Moves.Beating.{hears_none}
-use Rattle.attempt.proofs.Looking as looking
-use Rattle.world_safety.proofs.Moves.Marking.{marking_none, begun_doing}
+use Rattle.world_safety.proofs.Moves.Looking.{on_none}
+use Rattle.world_safety.proofs.Moves.Marking.{beside_none, begun_doing}
 use Rattle.world_safety.proofs.Runs.Places.{by_place}
 use Rattle.world_safety.proofs.Runs.Saying.{full_recovers, status_recovers, beginning_of, AtItsBeginning, AtACall, memory_at, heard_at, whence}
 
@@ -76,7 +74,6 @@ empty_recovers c h m (Submitting command) heard is =
     let none : HasNone s (on heard) = told_by s (on heard) (Ended attempt.Empty) is in
     absurd (some_proposed (best s (on heard)).inp (spelling command) none.none)
 empty_recovers c h m Recovering heard is = refl
-empty_recovers c h m Looking heard is = absurd (looking.ends (setup_of c h m Looking) (on heard) (omega arith) attempt.Empty is)
 
 -- A RECOVERY UNDER WAY
 
@@ -122,21 +119,9 @@ module _ (c : Shape) (log : List Filled) (h : ℕ) where
       let same : Called h k call answer left ≡ other = cc in
       record { disk = k; call = call; answer = answer; left = left; is = sym same }
 
-  -- a beat recovers nothing
-  beat_begun : (i : ℕ) (m : Memory) → m.doing ≡ None → (o : Option (List beat_answers.Answered)) (x : beat_answers.Answered) → HasBegun log (suc i) h (Running (hears_beat c h m o x))
-  beat_begun i m rests o x = λ t does recovers. absurd (let none = hears_none c h m o x rests in let both : None ≡ Some t = sym none ∙ does in cc)
-
-  -- nor does a marking
-  marking_begun : (i : ℕ) (m : Memory) → m.doing ≡ None → (o : Option Marking) (x : Answered) → HasBegun log (suc i) h (Running (hears_marking c h m o x))
-  marking_begun i m rests None x = λ t does recovers. absurd (let both : None ≡ Some t = sym rests ∙ does in cc)
-  marking_begun i m rests (Some q) x = λ t does recovers. absurd (
-      let none = marking_none m (marking_with q x) (mark.status (marking_of c h m q.slot) (on (marking_with q x).heard)) in
-      let both : None ≡ Some t = sym none ∙ does in
-      cc)
-
+  -- no beat, no marking and no look recovers anything
   beside_begun : (i : ℕ) (m : Memory) → m.doing ≡ None → (o : Option (List beat_answers.Answered)) (k : ℕ) (answer : Answer) → HasBegun log (suc i) h (Running (hears_beside c h m o k answer))
-  beside_begun i m rests None k answer = marking_begun i m rests m.marking (record { disk = k; heard = heard_as answer })
-  beside_begun i m rests (Some heard) k answer = beat_begun i m rests (Some heard) (record { disk = k; heard = beat_answers.heard_as answer })
+  beside_begun i m rests o k answer = λ t does recovers. absurd (let none = beside_none c h m o k answer rests in let both : None ≡ Some t = sym none ∙ does in cc)
 
   starts_marking_begun : (i slot : ℕ) (host : Host) → HasBegun log (suc i) h (marks host slot)
   starts_marking_begun i slot Stopped = tt
@@ -169,9 +154,9 @@ module _ (c : Shape) (log : List Filled) (h : ℕ) where
   recovered_begun i tries is (Running m) = λ t does recovers.
       record { place = i; tries = tries; before = omega arith; entry = is; calls = λ k e above below found of. absurd (omega arith) }
 
-  looked_begun : (i : ℕ) (host : Host) → HasBegun log (suc i) h (begins_on c host Looking 1)
+  looked_begun : (i : ℕ) (host : Host) → HasBegun log (suc i) h (looks c host)
   looked_begun i Stopped = tt
-  looked_begun i (Running m) = λ t does recovers. absurd (let same = goes_on_does c m Looking 1 t does in cc)
+  looked_begun i (Running m) = λ t does recovers. absurd (let none = on_none c m 0 in let both : None ≡ Some t = sym none ∙ does in cc)
 
   started_begun : (i : ℕ) (host : Host) → IsTrue (is_stopped host) → HasBegun log (suc i) h (started host)
   started_begun i Stopped stopped = λ t does recovers. absurd (cc)
@@ -212,7 +197,6 @@ module _ (c : Shape) (log : List Filled) (run : IsRun c log) (j h n : ℕ) (says
   recover_entry : (operation : Operation) (tries : ℕ) → operation ≡ Recovering → slice_get log j ≡ Some (beginning_of h operation tries) → slice_get log j ≡ Some (Recover h tries)
   recover_entry (Submitting command) tries is entry = absurd (cc)
   recover_entry Recovering tries is entry = entry
-  recover_entry Looking tries is entry = absurd (cc)
 
   -- it is answered where it begins
   at_once : AtItsBeginning c log j h (Recovered n) → (i : ℕ) × IsRecovery c log i j h n

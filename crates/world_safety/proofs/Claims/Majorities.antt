@@ -19,7 +19,7 @@ use Rattle.lock_command.specs.Command.{spelling}
 use Rattle.slot_log.specs.Shape.{Shape}
 use Rattle.host.specs.declared.answer.HostAnswer.{HostAnswer}
 use Rattle.host.specs.declared.answer.HostAnswer.TheVariants.{Ack, Recovered}
-use Rattle.host.specs.Host.{Operation, Submitting, Recovering, Looking, setup_of, with_heard}
+use Rattle.host.specs.Host.{Operation, Submitting, Recovering, setup_of, with_heard}
 use Rattle.world.specs.Entry.{Filled}
 use Rattle.world.specs.World.{IsRun}
 use Rattle.world.specs.Chosen.{SaysAt}
@@ -102,7 +102,6 @@ module _ (c : Shape) (log : List Filled) (run : IsRun c log) (i h : ℕ) where
   full_at : (operation : Operation) (tries learned n : ℕ) → operation ≡ Recovering → learned ≡ n → c.slots ≤ learned → slice_get log i ≡ Some (beginning_of h operation tries) → IsFullAt c log i h n
   full_at (Submitting command) tries learned n is same full entry = absurd (cc)
   full_at Recovering tries learned n is same full entry = record { tries = tries; begins = entry; full = omega arith }
-  full_at Looking tries learned n is same full entry = absurd (cc)
 
   -- one comes behind a call with which its slot is found empty, or the last slot is learned; or where it begins
   pub recovered : (n : ℕ) → SaysAt c log i h (Recovered n) → IsPreparedAt c log i h ⊎ (((slot : ℕ) × IsToldAt c log i h slot) ⊎ IsFullAt c log i h n)

@@ -61,7 +61,7 @@ module _ (c : Shape) (w : World) (ms : Moves) (tied : Tied c w ms) where
 
     late : Late c w2 (ms ++ hears_it.early) h (Some (length m.learned)) new
     late = answered_late c w2 (ms ++ hears_it.early) h m t heard hears_it.tied run.below trying.fits trying.input hears_it.learned hears_it.follows hears_it.knows hears_it.votes trying.alone
-        (λ v ended. chosen_later c.disks ms hears_it.early (length m.learned) v hears_it.tied.history (decides m t v running does ended))
+        (λ v ended. chosen_later c.disks ms hears_it.early (length m.learned) v hears_it.tied.history (decides.0 m t v running does ended))
 
     now : host_step c h (w.host h) (Called h k call answer left) ≡ Running new
     now = ap (λ (host : Host). host_step c h host (Called h k call answer left)) running ∙ ap (λ (o : Option Doing). Running (hears_from c h m o k answer)) does

@@ -24,9 +24,11 @@ use Rattle.attempt.proofs.Visitors.{IsWaiting, waiting_is}
 use Rattle.beats.specs.Answers as beat_answers
 use Rattle.beats.specs.Status as beat
 use Rattle.slot_log.specs.Shape.{Shape}
-use Rattle.host.specs.Host.{Doing, Memory, Host, Stopped, Running, setup_of, beat_of, Marking, marking_of, next_marking, next_beside, next_doing, next_of}
+use Rattle.host.specs.Host.{Doing, Memory, Host, Stopped, Running, setup_of, beat_of, Marking, Looking, marking_of, look_of, next_look, next_marking, next_beside, next_doing, next_of}
 use Rattle.marks.specs.Status as mark
+use Rattle.looks.specs.Status as look
 use Rattle.world.specs.Entry.{Called, disk_step}
+use Rattle.world.specs.Looks.{IsLooking}
 use Rattle.world.specs.World.{World}
 use Rattle.world.proofs.Histories.{step_fits}
 use Rattle.agreement.specs.State.{put}
@@ -66,19 +68,35 @@ pub record IsMarkCall (c : Shape) (h k : ℕ) (call : Call) (host : Host) : Type
   pub marks : memory.marking ≡ Some marking
   pub due : mark.next_call (marking_of c h memory marking.slot) (on marking.heard) ≡ Some (k, call)
 
-pub busy : (c : Shape) (h k : ℕ) (call : Call) (host : Host) → next_of c h host ≡ Some (k, call) → Attempts host ⊎ (IsBeatCall c h k call host ⊎ IsMarkCall c h k call host)
+-- or none of these, but looks, and this call is next of the look
+pub record IsLookCall (c : Shape) (k : ℕ) (call : Call) (host : Host) : Type 0 where
+  pub memory : Memory
+  pub running : host ≡ Running memory
+  pub looking : Looking
+  pub looks : IsLooking memory looking
+  pub due : look.next_call (look_of c memory looking.first) (on looking.heard) ≡ Some (k, call)
+
+-- one of the four
+abbrev pub IsAtWork : Shape → (h k : ℕ) → Call → Host → Type 0
+IsAtWork c h k call host = Attempts host ⊎ (IsBeatCall c h k call host ⊎ (IsMarkCall c h k call host ⊎ IsLookCall c k call host))
+
+pub busy : (c : Shape) (h k : ℕ) (call : Call) (host : Host) → next_of c h host ≡ Some (k, call) → IsAtWork c h k call host
 busy c h k call Stopped next = absurd (cc)
 busy c h k call (Running m) next = go m.doing refl next
   where
-    marks_by : (o : Option Marking) → m.doing ≡ None → m.beats.heard ≡ None → m.marking ≡ o → next_marking c h m o ≡ Some (k, call) → IsMarkCall c h k call (Running m)
-    marks_by None none calm marks due = absurd (cc)
-    marks_by (Some t) none calm marks due = record { memory = m; running = refl; rests = none; beats = calm; marking = t; marks = marks; due = due }
+    looks_by : (o : Option Looking) → m.doing ≡ None → m.beats.heard ≡ None → m.marking ≡ None → m.looking ≡ o → next_look c m o ≡ Some (k, call) → IsLookCall c k call (Running m)
+    looks_by None none calm unmarked looks due = absurd (cc)
+    looks_by (Some t) none calm unmarked looks due = record { memory = m; running = refl; looking = t; looks = record { tries = none; beats = calm; marks = unmarked; looks = looks }; due = due }
 
-    beside : (o : Option (List beat_answers.Answered)) → m.doing ≡ None → m.beats.heard ≡ o → next_beside c h m o ≡ Some (k, call) → IsBeatCall c h k call (Running m) ⊎ IsMarkCall c h k call (Running m)
+    marks_by : (o : Option Marking) → m.doing ≡ None → m.beats.heard ≡ None → m.marking ≡ o → next_marking c h m o ≡ Some (k, call) → IsMarkCall c h k call (Running m) ⊎ IsLookCall c k call (Running m)
+    marks_by None none calm marks due = inr (looks_by m.looking none calm marks refl due)
+    marks_by (Some t) none calm marks due = inl (record { memory = m; running = refl; rests = none; beats = calm; marking = t; marks = marks; due = due })
+
+    beside : (o : Option (List beat_answers.Answered)) → m.doing ≡ None → m.beats.heard ≡ o → next_beside c h m o ≡ Some (k, call) → IsBeatCall c h k call (Running m) ⊎ (IsMarkCall c h k call (Running m) ⊎ IsLookCall c k call (Running m))
     beside None none beats due = inr (marks_by m.marking none beats refl due)
     beside (Some heard) none beats due = inl (record { memory = m; running = refl; rests = none; heard = heard; beats = beats; due = due })
 
-    go : (o : Option Doing) → m.doing ≡ o → next_doing c h m o ≡ Some (k, call) → Attempts (Running m) ⊎ (IsBeatCall c h k call (Running m) ⊎ IsMarkCall c h k call (Running m))
+    go : (o : Option Doing) → m.doing ≡ o → next_doing c h m o ≡ Some (k, call) → IsAtWork c h k call (Running m)
     go None does due = inr (beside m.beats.heard does refl due)
     go (Some t) does due = inl (record { memory = m; doing = t; running = refl; does = does })
 

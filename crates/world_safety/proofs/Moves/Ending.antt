@@ -13,7 +13,7 @@ use Rattle.lock_command.specs.Reading.{decoded}
 use Rattle.slot_log.specs.Shape.{Shape}
 use Rattle.slot_log.specs.declared.outcome.Refusal.TheVariants as refusal
 use Rattle.host.specs.declared.answer.HostAnswer.TheVariants.{Ack, Recovered, Refused}
-use Rattle.host.specs.Host.{Doing, Memory, input_of, setup_of, says, does, begins, spent_answer, with_floor, learns, reply_after, is_submitted, after_learning, takes, tries_again, ended, by_status}
+use Rattle.host.specs.Host.{Doing, Memory, input_of, setup_of, says, does, begins, with_floor, learns, reply_after, is_submitted, after_learning, takes, tries_again, ended, by_status}
 use Rattle.host.proofs.Hosts.{decoded_spelled}
 use Rattle.world.specs.World.{World}
 use Rattle.agreement.specs.Chosen.{IsCommitted, IsChosenBy, IsChosen, IsEmpty}
@@ -25,7 +25,7 @@ use Rattle.world_safety.specs.Knows.{Knows}
 use Rattle.world_safety.specs.Tied.{Moves, machine, IsTrying, IsRunning, TiedBut}
 use Rattle.attempt.specs.Votes.{IsLong, TellsVotes}
 use Rattle.world_safety.proofs.Moves.Machines.{machine_runs}
-use Rattle.world_safety.proofs.Moves.Hosts.{spent_recovers, Late, says_late, begins_late, goes_on_late, taught, but_learns, learned_then, learns_late}
+use Rattle.world_safety.proofs.Moves.Hosts.{Late, says_late, begins_late, goes_on_late, taught, but_learns, learned_then, learns_late}
 
 module _ (c : Shape) (w : World) (ms : Moves) (h : ℕ) (m : Memory) (t : Doing) (heard : List Answered) (tied : TiedBut c w ms h) (below : h < HOSTS) (fits : length m.learned < c.slots) (input : IsLong (input_of t.operation))
     (learned : (slots_after ms).learned h ≡ map spelling m.learned) (follows : Follows (setup_of c h m t.operation) heard (machine ms (length m.learned)))
@@ -106,7 +106,7 @@ module _ (c : Shape) (w : World) (ms : Moves) (h : ℕ) (m : Memory) (t : Doing)
       says_late c w ms h m tied below learned alone trying (Recovered (length m.learned)) (max m.floor b) (λ n same. inr (record { empty = empty; tried = refl }))
   ended_late b (attempt.Outrun mbal) is = outrun_late b mbal
   ended_late b attempt.NoMajority is = says_late c w ms h m tied below learned alone trying (Refused refusal.NoMajority) (max m.floor b) (λ n same. absurd (cc))
-  ended_late b attempt.BallotsSpent is = says_late c w ms h m tied below learned alone trying (spent_answer t.operation (length m.learned)) (max m.floor b) (λ n same. absurd (spent_recovers t.operation (length m.learned) n same))
+  ended_late b attempt.BallotsSpent is = says_late c w ms h m tied below learned alone trying (Refused refusal.BallotsSpent) (max m.floor b) (λ n same. absurd (cc))
 
   status_late : (b : ℕ) (st : Status) → status s (on heard) ≡ st → Late c w ms h trying (by_status c m going b st)
   status_late b (Due p d) is = due_late

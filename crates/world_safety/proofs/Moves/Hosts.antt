@@ -15,7 +15,7 @@ use Rattle.slot_log.specs.Shape.{Shape}
 use Rattle.host.specs.declared.answer.HostAnswer.{HostAnswer}
 use Rattle.host.specs.declared.answer.HostAnswer.TheVariants.{Recovered}
 use Rattle.marks.specs.Status as mark
-use Rattle.host.specs.Host.{Marking, marking_of, Operation, Submitting, Recovering, Looking, Doing, Memory, Host, Stopped, Running, input_of, setup_of, says, begins, full_answer, spent_answer, goes_on}
+use Rattle.host.specs.Host.{Marking, marking_of, Operation, Doing, Memory, Host, Stopped, Running, input_of, setup_of, says, begins, full_answer, goes_on}
 use Rattle.world.specs.World.{World}
 use Rattle.agreement.specs.Event.{Event, after, state_after}
 use Rattle.agreement.specs.Event.Event.{Starts, Stops}
@@ -62,12 +62,6 @@ pub marking_kept : (c : Shape) (w w' : World) (g : ℕ) → KeepsMarking c w w' 
 marking_kept c w w' g keeps m below None is = tt
 marking_kept c w w' g keeps m below (Some t) is =
     record { learned = is.learned; fits = is.fits; knows = λ d. keeps (marking_of c g m t.slot) (on t.heard d) d refl is.fits below (is.knows d); votes = is.votes }
-
--- without a ballot no operation has recovered
-pub spent_recovers : (operation : Operation) (learned n : ℕ) → spent_answer operation learned ≡ Recovered n → ⊥
-spent_recovers (Submitting command) learned n is = absurd (cc)
-spent_recovers Recovering learned n is = absurd (cc)
-spent_recovers Looking learned n is = absurd (cc)
 
 module _ (c : Shape) (w w' : World) (ms ms' : Moves) (g : ℕ) (same : SameHosts ms ms' g) (learned : (slots_after ms').learned g ≡ (slots_after ms).learned g) (keeps : KeepsKnown c w w' ms ms' g) (marking : KeepsMarking c w w' g) where
   doing_kept : (m : Memory) → g < HOSTS → (o : Option Doing) → IsDoing c w ms g m o → IsDoing c w' ms' g m o
@@ -172,18 +166,18 @@ pub record Late (c : Shape) (w : World) (ms : Moves) (h : ℕ) (trying : Option 
 
 module _ (c : Shape) (w : World) (ms : Moves) (h : ℕ) (m : Memory) (tied : TiedBut c w ms h) (below : h < HOSTS) (learned : (slots_after ms).learned h ≡ map spelling m.learned) (alone : m.marking ≡ None) (trying : Option ℕ) where
   -- it marks nothing
-  rests_then : (said : HostAnswer) (floor : ℕ) → IsMarkingIf c w h (record { learned = m.learned; floor = floor; doing = None; said = Some said; beats = m.beats; marking = m.marking }) m.marking
-  rests_then said floor = subst (IsMarkingIf c w h (record { learned = m.learned; floor = floor; doing = None; said = Some said; beats = m.beats; marking = m.marking })) (sym alone) tt
+  rests_then : (said : HostAnswer) (floor : ℕ) → IsMarkingIf c w h (record { learned = m.learned; floor = floor; doing = None; said = Some said; beats = m.beats; marking = m.marking; looking = m.looking }) m.marking
+  rests_then said floor = subst (IsMarkingIf c w h (record { learned = m.learned; floor = floor; doing = None; said = Some said; beats = m.beats; marking = m.marking; looking = m.looking })) (sym alone) tt
 
   -- it says something, and is idle
   pub says_late : (said : HostAnswer) (floor : ℕ) → ((n : ℕ) → said ≡ Recovered n → (c.slots ≤ length m.learned) ⊎ FoundEmpty c ms h trying (length m.learned))
-      → Late c w ms h trying (record { learned = m.learned; floor = floor; doing = None; said = Some said; beats = m.beats; marking = m.marking })
+      → Late c w ms h trying (record { learned = m.learned; floor = floor; doing = None; said = Some said; beats = m.beats; marking = m.marking; looking = m.looking })
   says_late said floor empty =
       let none = sym (append-nil ms) in
       record {
         late = [];
         tied = subst (λ (l : Moves). TiedBut c w l h) none tied;
-        running = subst (λ (l : Moves). IsRunning c w l h (record { learned = m.learned; floor = floor; doing = None; said = Some said; beats = m.beats; marking = m.marking })) none (record { below = below; learned = learned; doing = rests_then said floor });
+        running = subst (λ (l : Moves). IsRunning c w l h (record { learned = m.learned; floor = floor; doing = None; said = Some said; beats = m.beats; marking = m.marking; looking = m.looking })) none (record { below = below; learned = learned; doing = rests_then said floor });
         quiet = λ k v input. input;
         begun = λ t is. absurd (cc);
         empty = λ n is. subst (λ (l : Moves). (c.slots ≤ length m.learned) ⊎ FoundEmpty c l h trying (length m.learned)) none (empty n (let same : said ≡ Recovered n = cc in same));

@@ -37,7 +37,7 @@ use Rattle.marks.specs.Status as mark
 use Rattle.slot_log.specs.Shape.{Shape}
 use Rattle.slot_log.specs.declared.outcome.Refusal.TheVariants as refusal
 use Rattle.host.specs.declared.answer.HostAnswer.TheVariants.{Recovered, Refused}
-use Rattle.host.specs.Host.{Doing, Marking, Memory, Host, Stopped, Running, idles, hears_from, hears_beside, hears_marking, marking_by, marking_with, marking_of, starts_marking, with_marking, spelled}
+use Rattle.host.specs.Host.{Doing, Marking, Memory, Host, Stopped, Running, idles, hears_from, hears_beside, hears_apart, hears_marking, marking_by, marking_with, marking_of, starts_marking, with_marking, spelled}
 use Rattle.world.specs.Entry.{Filled, Mark, Called, Torn, disk_step, host_step, marks}
 use Rattle.world.specs.World.{World}
 use Rattle.world.proofs.Histories.{step_fits}
@@ -53,6 +53,7 @@ use Rattle.world_safety.specs.Tied.{Moves, machine, IsDoing, IsRunning, HostAt, 
 use Rattle.world_safety.proofs.Blocks.Keeping.{Spares, spares_others, spares_same}
 use Rattle.world_safety.proofs.Blocks.Marked.{AfterMark, promised, mark_after}
 use Rattle.world_safety.proofs.Moves.Beating.{hears_none, quiet_goes}
+use Rattle.world_safety.proofs.Moves.Looking.{look_none}
 use Rattle.world_safety.proofs.Moves.Due.{IsMarkCall}
 use Rattle.world_safety.proofs.Moves.Hosts.{tied_but, tied_with, but_stops, stops_learned, same_host}
 use Rattle.world_safety.proofs.Moves.Moving.{idle_is, marks_stay, marks_by, for_host, stopped_goes, running_at}
@@ -200,9 +201,13 @@ hears_marking_none : (c : Shape) (h : ℕ) (m : Memory) (o : Option Marking) (x 
 hears_marking_none c h m None x rests = rests
 hears_marking_none c h m (Some t) x rests = marking_none m (marking_with t x) (mark.status (marking_of c h m t.slot) (on (marking_with t x).heard))
 
+apart_none : (c : Shape) (h : ℕ) (m : Memory) (o : Option Marking) (x : Answered) → m.doing ≡ None → (hears_apart c h m o x).doing ≡ None
+apart_none c h m None x rests = look_none c m m.looking x rests
+apart_none c h m (Some t) x rests = hears_marking_none c h m (Some t) x rests
+
 -- so it tries nothing where it tried nothing
 pub beside_none : (c : Shape) (h : ℕ) (m : Memory) (o : Option (List beat_answers.Answered)) (k : ℕ) (answer : Answer) → m.doing ≡ None → (hears_beside c h m o k answer).doing ≡ None
-beside_none c h m None k answer rests = hears_marking_none c h m m.marking (record { disk = k; heard = heard_as answer }) rests
+beside_none c h m None k answer rests = apart_none c h m m.marking (record { disk = k; heard = heard_as answer }) rests
 beside_none c h m (Some heard) k answer rests = hears_none c h m (Some heard) (record { disk = k; heard = beat_answers.heard_as answer }) rests
 
 not_recovered : (m : Memory) (t : Marking) (st : mark.Status) (n : ℕ) → (marking_by m t st).said ≡ Some (Recovered n) → ⊥
@@ -440,7 +445,7 @@ module _ (c : Shape) (w : World) (ms : Moves) (tied : Tied c w ms) where
       ap (λ (host : Host). host_step c h host (Called h k call answer left)) it.running
       ∙ ap (λ (o : Option Doing). Running (hears_from c h it.memory o k answer)) it.rests
       ∙ ap (λ (o : Option (List beat_answers.Answered)). Running (hears_beside c h it.memory o k answer)) it.beats
-      ∙ ap (λ (o : Option Marking). Running (hears_marking c h it.memory o x)) it.marks in
+      ∙ ap (λ (o : Option Marking). Running (hears_apart c h it.memory o x)) it.marks in
       let runs : IsRunning c w3 ms h new = runs_by h k call it (Called h k call answer left) answer step st in
       record {
         more = [];

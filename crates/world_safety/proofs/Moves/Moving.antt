@@ -1,6 +1,6 @@
 -- What the moves of an entry tell of its host, and that what is chosen stays so.
 use Rattle.std.proofs.Common.{ℕ, ◌≤◌, ◌≡◌, ◌==◌, ◌⊎◌, inl, inr, Bool, true, false, not, cond, is_some, Option, Some, None, List, ◌∷◌, ◌++◌, length, append_assoc, refl, sym, subst, ap, ◌∙◌}
-use Rattle.std.specs.Prelude.{IsTrue}
+use Rattle.std.specs.Prelude.{◌&&◌, IsTrue}
 use Rattle.std.proofs.lemmas.Bool.{eqb-true, and_parts}
 use Rattle.disk.specs.Disk.{DiskState}
 use Rattle.torn_block.specs.Layout.{cluster_version}
@@ -13,7 +13,7 @@ use Rattle.attempt.specs.Proposal.{ballot}
 use Rattle.attempt.specs.Setup.{Setup}
 use Rattle.slot_log.specs.Shape.{Shape}
 use Rattle.beats.specs.Answers as beat_answers
-use Rattle.host.specs.Host.{Doing, Marking, Memory, Host, Stopped, Running, rests, is_idle_in, is_idle}
+use Rattle.host.specs.Host.{Doing, Memory, Host, Stopped, Running, rests, is_idle_in, is_idle}
 use Rattle.world.specs.Entry.{Filled, is_on, disk_step, host_step}
 use Rattle.world.specs.World.{World}
 use Rattle.agreement.specs.Event.{Event, IsRun, state_after}
@@ -114,12 +114,13 @@ pub record IsIdle (m : Memory) : Type 0 where
   pub tries : m.doing ≡ None
   pub beats : m.beats.heard ≡ None
   pub marks : m.marking ≡ None
+  pub looks : m.looking ≡ None
 
 rests_none : (o : Option (List beat_answers.Answered)) → rests o ≡ true → o ≡ None
 rests_none None is = refl
 rests_none (Some heard) is = absurd (cc)
 
-none_some : (o : Option Marking) → not (is_some o) ≡ true → o ≡ None
+none_some : {A : Type 0} (o : Option A) → not (is_some o) ≡ true → o ≡ None
 none_some None is = refl
 none_some (Some t) is = absurd (cc)
 
@@ -128,8 +129,9 @@ idle_is m idle = go m.doing refl idle
   where
     go : (o : Option Doing) → m.doing ≡ o → IsTrue (is_idle_in m o) → IsIdle m
     go None does idle =
-        let parts = and_parts (rests m.beats.heard) (not (is_some m.marking)) idle in
-        record { tries = does; beats = rests_none m.beats.heard parts.0; marks = none_some m.marking parts.1 }
+        let two = and_parts (rests m.beats.heard && not (is_some m.marking)) (not (is_some m.looking)) idle in
+        let parts = and_parts (rests m.beats.heard) (not (is_some m.marking)) two.0 in
+        record { tries = does; beats = rests_none m.beats.heard parts.0; marks = none_some m.marking parts.1; looks = none_some m.looking two.1 }
     go (Some t) does idle = absurd (cc)
 
 -- MARKS

@@ -6,8 +6,8 @@ use Rattle.lock_command.specs.declared.command.Command.{Command}
 use Rattle.lock_command.specs.Command.{spelling}
 use Rattle.slot_log.specs.Shape.{Shape}
 use Rattle.host.specs.declared.answer.HostAnswer.TheVariants.{Recovered}
-use Rattle.host.specs.Host.{Operation, Submitting, Recovering, Looking, Memory, Host, Stopped, Running, fresh, input_of, goes_on, is_stopped, idles}
-use Rattle.world.specs.Entry.{Filled, Start, Stop, Submit, Recover, Look, started, host_step}
+use Rattle.host.specs.Host.{Operation, Submitting, Recovering, Memory, Host, Stopped, Running, fresh, input_of, goes_on, is_stopped, idles}
+use Rattle.world.specs.Entry.{Filled, Start, Stop, Submit, Recover, started, host_step}
 use Rattle.world.specs.World.{World, ReadsBack}
 use Rattle.agreement.specs.Chosen.{IsInput}
 use Rattle.agreement.specs.Log.{slots_after, events_of_slot}
@@ -97,17 +97,4 @@ module _ (c : Shape) (w : World) (ms : Moves) (tied : Tied c w ms) where
         host = λ g of. for_host (λ i. HostGoes c w (Recover h tries) ms by.0 i) h g of by.2;
         carries = tt;
         marks = marks_stay c w (Recover h tries) (λ d. refl);
-      }
-
-  pub looks_goes : (h : ℕ) → (host : Host) → w.host h ≡ host → IsTrue (idles host) → Goes c w (Look h) ms
-  looks_goes h Stopped is idle = absurd (cc)
-  looks_goes h (Running m) is idle =
-      let by = begins_goes h (Look h) Looking 1 tt m (idle_is m idle) is (ap (λ (host : Host). host_step c h host (Look h)) is) in
-      record {
-        more = by.0;
-        tied = by.1;
-        inputs = λ j v input. absurd (by.3 j v input);
-        host = λ g of. for_host (λ i. HostGoes c w (Look h) ms by.0 i) h g of by.2;
-        carries = tt;
-        marks = marks_stay c w (Look h) (λ d. refl);
       }

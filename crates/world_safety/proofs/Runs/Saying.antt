@@ -15,14 +15,16 @@ use Rattle.slot_log.specs.Shape.{Shape}
 use Rattle.slot_log.specs.declared.outcome.Refusal.TheVariants as refusal
 use Rattle.host.specs.declared.answer.HostAnswer.{HostAnswer}
 use Rattle.host.specs.declared.answer.HostAnswer.TheVariants.{Ack, Recovered, Looked, Beaten, Marked, Refused}
-use Rattle.host.specs.Host.{Operation, Submitting, Recovering, Looking, Doing, Memory, Host, Stopped, Running, setup_of, says, begins, full_answer, spent_answer, goes_on, with_floor, learns, is_submitted, after_learning, takes, tries_again, by_status, with_heard, goes_by, hears_from, hears_beside, beat_by, beat_of, is_stopped, next_of, said_of, Marking, hears_marking, marking_by, marking_with, marking_of, with_marking}
+use Rattle.host.specs.Host.{Operation, Submitting, Recovering, Doing, Looking, Memory, look_of, look_by, looking_with, looks_on, hears_apart, Host, Stopped, Running, setup_of, says, begins, full_answer, goes_on, with_floor, learns, is_submitted, after_learning, takes, tries_again, by_status, with_heard, goes_by, hears_from, hears_beside, beat_by, beat_of, is_stopped, next_of, said_of, Marking, marking_by, marking_with, marking_of, with_marking}
 use Rattle.marks.specs.Status as mark
-use Rattle.world.specs.Entry.{Filled, Start, Stop, Submit, Recover, Look, Beat, Mark, Called, Torn, Crashed, Lost, Migrated, is_of, started, beats, marks, begins_on, host_step}
+use Rattle.looks.specs.Status as look
+use Rattle.world.specs.Entry.{Filled, Start, Stop, Submit, Recover, Look, Beat, Mark, Called, Torn, Crashed, Lost, Migrated, is_of, started, beats, marks, looks, begins_on, host_step}
+use Rattle.world.specs.Looks.{SaysLooking}
 use Rattle.world.specs.World.{MayBegin, IsRun}
 use Rattle.world.specs.Chosen.{at, Hears, SaysAt}
+use Rattle.world.proofs.Looks.{by_so, hears_is, on_so}
 use Rattle.world.proofs.Runs.{each}
-use Rattle.world_safety.proofs.Moves.Hosts.{spent_recovers}
-use Rattle.world_safety.proofs.Moves.Due.{Attempts, IsBeatCall, IsMarkCall, busy}
+use Rattle.world_safety.proofs.Moves.Due.{Attempts, IsBeatCall, IsMarkCall, IsLookCall, busy}
 use Rattle.world_safety.proofs.Runs.Places.{host_next}
 
 -- WHAT A STATUS MAKES A HOST SAY
@@ -40,19 +42,11 @@ went_on c m operation tries said = go (nat_lt (length m.learned) c.slots) refl
 pub full_recovers : (operation : Operation) (learned n : ℕ) → full_answer operation learned ≡ Recovered n → (operation ≡ Recovering) × (learned ≡ n)
 full_recovers (Submitting command) learned n is = absurd (cc)
 full_recovers Recovering learned n is = (refl, cc)
-full_recovers Looking learned n is = absurd (cc)
 
 -- and it acknowledges nothing
 pub full_acks : (operation : Operation) (learned slot : ℕ) (reply : Reply) → full_answer operation learned ≡ Ack slot reply → ⊥
 full_acks (Submitting command) learned slot reply is = absurd (cc)
 full_acks Recovering learned slot reply is = absurd (cc)
-full_acks Looking learned slot reply is = absurd (cc)
-
--- nor does one without a ballot
-pub spent_acks : (operation : Operation) (learned slot : ℕ) (reply : Reply) → spent_answer operation learned ≡ Ack slot reply → ⊥
-spent_acks (Submitting command) learned slot reply is = absurd (cc)
-spent_acks Recovering learned slot reply is = absurd (cc)
-spent_acks Looking learned slot reply is = absurd (cc)
 
 module _ (c : Shape) (m : Memory) (t : Doing) (b : ℕ) where
   -- an outrun attempt brings neither
@@ -86,7 +80,7 @@ module _ (c : Shape) (m : Memory) (t : Doing) (b : ℕ) where
   status_recovers (Ended attempt.Empty) n is = record { ended = inl refl }
   status_recovers (Ended (attempt.Outrun mbal)) n is = absurd (let no = again (with_floor (with_floor m b) mbal) (Recovered n) is in cc)
   status_recovers (Ended attempt.NoMajority) n is = absurd (cc)
-  status_recovers (Ended attempt.BallotsSpent) n is = absurd (let same : spent_answer t.operation (length m.learned) ≡ Recovered n = cc in spent_recovers t.operation (length m.learned) n same)
+  status_recovers (Ended attempt.BallotsSpent) n is = absurd (cc)
 
   -- an acknowledgement comes with a committed or decided value, the command that was submitted, for the slot that was tried
   pub record IsPlaced (st : Status) (slot : ℕ) : Type 0 where
@@ -113,7 +107,7 @@ module _ (c : Shape) (m : Memory) (t : Doing) (b : ℕ) where
   status_gives (Ended attempt.Empty) slot reply is = absurd (cc)
   status_gives (Ended (attempt.Outrun mbal)) slot reply is = absurd (let no = again (with_floor (with_floor m b) mbal) (Ack slot reply) is in cc)
   status_gives (Ended attempt.NoMajority) slot reply is = absurd (cc)
-  status_gives (Ended attempt.BallotsSpent) slot reply is = absurd (let same : spent_answer t.operation (length m.learned) ≡ Ack slot reply = cc in spent_acks t.operation (length m.learned) slot reply same)
+  status_gives (Ended attempt.BallotsSpent) slot reply is = absurd (cc)
 
 -- WHAT A BEAT MAKES A HOST SAY
 
@@ -121,7 +115,7 @@ module _ (c : Shape) (m : Memory) (t : Doing) (b : ℕ) where
 abbrev pub IsOfLog : HostAnswer → Type 0
 IsOfLog (Ack slot reply) = Unit {0}
 IsOfLog (Recovered n) = Unit {0}
-IsOfLog (Looked n) = Unit {0}
+IsOfLog (Looked n) = ⊥
 IsOfLog (Beaten host) = ⊥
 IsOfLog (Marked count) = ⊥
 IsOfLog (Refused refusal) = ⊥
@@ -134,13 +128,13 @@ beat_says h m heard (beat.Ended (beat.Beaten readings)) (Marked count) of is = o
 beat_says h m heard (beat.Ended (beat.Beaten readings)) (Refused refusal) of is = of
 beat_says h m heard (beat.Ended (beat.Beaten readings)) (Ack slot reply) of is = absurd (cc)
 beat_says h m heard (beat.Ended (beat.Beaten readings)) (Recovered n) of is = absurd (cc)
-beat_says h m heard (beat.Ended (beat.Beaten readings)) (Looked n) of is = absurd (cc)
+beat_says h m heard (beat.Ended (beat.Beaten readings)) (Looked n) of is = of
 beat_says h m heard (beat.Ended beat.NoMajority) (Beaten host) of is = of
 beat_says h m heard (beat.Ended beat.NoMajority) (Marked count) of is = of
 beat_says h m heard (beat.Ended beat.NoMajority) (Refused refusal) of is = of
 beat_says h m heard (beat.Ended beat.NoMajority) (Ack slot reply) of is = absurd (cc)
 beat_says h m heard (beat.Ended beat.NoMajority) (Recovered n) of is = absurd (cc)
-beat_says h m heard (beat.Ended beat.NoMajority) (Looked n) of is = absurd (cc)
+beat_says h m heard (beat.Ended beat.NoMajority) (Looked n) of is = of
 
 -- nor does a host with which one begins
 begins_beat_says : (old : Host) (said : HostAnswer) → said_of (beats old) ≡ Some said → ⊥
@@ -155,19 +149,19 @@ marking_says m t (mark.Ended (mark.Marked count)) (Marked other) of is = of
 marking_says m t (mark.Ended (mark.Marked count)) (Refused refusal) of is = of
 marking_says m t (mark.Ended (mark.Marked count)) (Ack slot reply) of is = absurd (cc)
 marking_says m t (mark.Ended (mark.Marked count)) (Recovered n) of is = absurd (cc)
-marking_says m t (mark.Ended (mark.Marked count)) (Looked n) of is = absurd (cc)
+marking_says m t (mark.Ended (mark.Marked count)) (Looked n) of is = of
 marking_says m t (mark.Ended mark.NoMajority) (Beaten host) of is = of
 marking_says m t (mark.Ended mark.NoMajority) (Marked count) of is = of
 marking_says m t (mark.Ended mark.NoMajority) (Refused refusal) of is = of
 marking_says m t (mark.Ended mark.NoMajority) (Ack slot reply) of is = absurd (cc)
 marking_says m t (mark.Ended mark.NoMajority) (Recovered n) of is = absurd (cc)
-marking_says m t (mark.Ended mark.NoMajority) (Looked n) of is = absurd (cc)
+marking_says m t (mark.Ended mark.NoMajority) (Looked n) of is = of
 
 -- nor does a host that begins one, or is refused
 refused_says : (said : HostAnswer) → IsOfLog said → Refused refusal.NotLearned ≡ said → ⊥
 refused_says (Ack slot reply) of is = absurd (cc)
 refused_says (Recovered n) of is = absurd (cc)
-refused_says (Looked n) of is = absurd (cc)
+refused_says (Looked n) of is = of
 refused_says (Beaten host) of is = of
 refused_says (Marked count) of is = of
 refused_says (Refused refusal) of is = of
@@ -180,13 +174,28 @@ begins_marking_says slot (Running m) said of is = by (nat_lt slot (length m.lear
     by true is = absurd (cc)
     by false is = refused_says said of (let same : Refused refusal.NotLearned ≡ said = cc in same)
 
+-- nor does a look
+looking_says : (learned : ℕ) (said : HostAnswer) → IsOfLog said → SaysLooking learned (Some said) → ⊥
+looking_says learned (Ack slot reply) of is = is
+looking_says learned (Recovered n) of is = is
+looking_says learned (Looked n) of is = of
+looking_says learned (Beaten host) of is = of
+looking_says learned (Marked count) of is = of
+looking_says learned (Refused refusal) of is = of
+
+look_says : (c : Shape) (m : Memory) (t : Looking) (st : look.Status) (said : HostAnswer) → IsOfLog said → (look_by c m t st).said ≡ Some said → ⊥
+look_says c m t st said of is = looking_says _ said of (subst (SaysLooking (length (look_by c m t st).learned)) is (by_so c m t st))
+
+begins_look_says : (c : Shape) (old : Host) (said : HostAnswer) → IsOfLog said → said_of (looks c old) ≡ Some said → ⊥
+begins_look_says c Stopped said of is = absurd (cc)
+begins_look_says c (Running m) said of is = looking_says _ said of (subst (SaysLooking (length (looks_on c m 0).learned)) is (on_so c m 0))
+
 -- AT AN ENTRY
 
 -- the entry with which an operation begins
 abbrev pub beginning_of : ℕ → Operation → ℕ → Filled
 beginning_of h (Submitting command) tries = Submit h command tries
 beginning_of h Recovering tries = Recover h tries
-beginning_of h Looking tries = Look h
 
 -- an operation begins, and says this at once, as all slots were learned
 pub record AtItsBeginning (c : Shape) (log : List Filled) (i h : ℕ) (said : HostAnswer) : Type 0 where
@@ -297,8 +306,18 @@ module _ (c : Shape) (log : List Filled) (i h : ℕ) (said : HostAnswer) where
       let goes : host_step c h ((at c log i).host h) (CalledBy k call answer left) ≡ Running (marking_by m (marking_with t x) st) =
       ap (λ (host : Host). host_step c h host (CalledBy k call answer left)) who.running ∙ ap (λ (o : Option Doing). Running (hears_from c h m o k answer)) who.rests
       ∙ ap (λ (o : Option (List beat_answers.Answered)). Running (hears_beside c h m o k answer)) who.beats
-      ∙ ap (λ (o : Option Marking). Running (hears_marking c h m o x)) who.marks in
+      ∙ ap (λ (o : Option Marking). Running (hears_apart c h m o x)) who.marks in
       marking_says m (marking_with t x) st said of (ap said_of (sym goes) ∙ is)
+
+  -- or a look
+  looked : (k : ℕ) (call : Call) (answer : Answer) (left : List ℕ) → IsLookCall c k call ((at c log i).host h) → IsOfLog said → said_of (host_step c h ((at c log i).host h) (CalledBy k call answer left)) ≡ Some said → ⊥
+  looked k call answer left who of is =
+      let m = who.memory in
+      let t : Looking = looking_with who.looking (record { disk = k; heard = heard_as answer }) in
+      let st = look.status (look_of c m t.first) (on t.heard) in
+      let goes : host_step c h ((at c log i).host h) (CalledBy k call answer left) ≡ Running (look_by c m t st) =
+      ap (λ (host : Host). host_step c h host (CalledBy k call answer left)) who.running ∙ ap Running (hears_is c h k m who.looking answer who.looks) in
+      look_says c m t st said of (ap said_of (sym goes) ∙ is)
 
   whence_by : IsOfLog said → (e : Filled) → slice_get log i ≡ Some e → MayBegin c (at c log i) e → is_of h e ≡ true → (at c log (i + 1)).host h ≡ host_step c h ((at c log i).host h) e → said_of (host_step c h ((at c log i).host h) e) ≡ Some said → Whence
   whence_by log_says (Start g) entry may of now is = begun ((at c log i).host h) (subst (λ (j : ℕ). IsTrue (is_stopped ((at c log i).host j))) (eqb-true g h of) may.1) is
@@ -307,8 +326,7 @@ module _ (c : Shape) (log : List Filled) (i h : ℕ) (said : HostAnswer) where
       operated ((at c log i).host h) (Submitting command) tries (by_host (Submit g command tries) (Submit h command tries) entry (ap (λ (j : ℕ). Submit j command tries) (eqb-true g h of))) is
   whence_by log_says (Recover g tries) entry may of now is =
       operated ((at c log i).host h) Recovering tries (by_host (Recover g tries) (Recover h tries) entry (ap (λ (j : ℕ). Recover j tries) (eqb-true g h of))) is
-  whence_by log_says (Look g) entry may of now is =
-      operated ((at c log i).host h) Looking 1 (by_host (Look g) (Look h) entry (ap (λ (j : ℕ). Look j) (eqb-true g h of))) is
+  whence_by log_says (Look g) entry may of now is = absurd (begins_look_says c ((at c log i).host h) said log_says is)
   whence_by log_says (Beat g) entry may of now is = absurd (begins_beat_says ((at c log i).host h) said is)
   whence_by log_says (Mark g slot) entry may of now is = absurd (begins_marking_says slot ((at c log i).host h) said log_says is)
   whence_by log_says (Called g k call answer left) entry may of now is =
@@ -316,7 +334,8 @@ module _ (c : Shape) (log : List Filled) (i h : ℕ) (said : HostAnswer) where
       elim (busy c h k call ((at c log i).host h) (subst (λ (j : ℕ). next_of c j ((at c log i).host j) ≡ Some (k, call)) (eqb-true g h of) may.0)) [
         | inl who ↦ attempted k call answer left own who now is
         | inr (inl who) ↦ absurd (beaten k call answer left who log_says is)
-        | inr (inr who) ↦ absurd (marked k call answer left who log_says is)
+        | inr (inr (inl who)) ↦ absurd (marked k call answer left who log_says is)
+        | inr (inr (inr who)) ↦ absurd (looked k call answer left who log_says is)
       ]
   whence_by log_says (Torn g k call left) entry may of now is = absurd (cc)
   whence_by log_says (Crashed k left) entry may of now is = absurd (cc)

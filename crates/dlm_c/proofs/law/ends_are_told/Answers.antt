@@ -1,4 +1,4 @@
-use Rattle.dlm_c.proofs.Ended.{markings, opened, operations}
+use Rattle.dlm_c.proofs.Ended.{looks, markings, opened, operations}
 use Rattle.dlm_c.proofs.law.ends_are_told.Goals as goal
 
 pub returns-clause-opened : goal.returns-clause-opened
@@ -9,3 +9,6 @@ returns-clause-operations g c = operations g.D.Disk.gives
 
 pub returns-clause-markings : goal.returns-clause-markings
 returns-clause-markings g c = markings g.D.Disk.gives
+
+pub returns-clause-looks : goal.returns-clause-looks
+returns-clause-looks g c = looks g.D.Disk.gives

@@ -12,7 +12,7 @@ use Rattle.host.proofs.Hosts.{heard_same}
 use Rattle.dlm_images.specs.Operations.{Made, Standing}
 use Rattle.phases.specs.Calls.{IsWithin, call_of_need, heard_of}
 use Rattle.host.specs.Kept.{LeadsTo, due_call}
-use Rattle.dlm_images.proofs.Driving.{attempt_hears, driven_at_first, driven_more, within_more, set_keeps}
+use Rattle.dlm_images.proofs.Driving.{attempt_hears, driven_at_first, driven_more, driven_out, within_more, set_keeps}
 use Rattle.dlm_images.proofs.operation.drive.Goals as goal
 
 pub loop-made-init : goal.loop-made-init
@@ -64,6 +64,7 @@ loop-made-preserved g c = record {
             c.hear.ensures.leads;
         alone = λ s h m leads. c.hear.ensures.alone s h m leads;
         nine = λ s h m leads. c.hear.ensures.marked_nine s h m leads;
+        two = λ s h m leads. c.hear.ensures.looked_two s h m leads;
       })
       c.loop-made.invariant.driven;
   as_many = length-set c.loop-made.disks c.from.result _ ∙ c.loop-made.invariant.as_many;
@@ -77,3 +78,10 @@ loop-made-preserved g c = record {
       (subst (λ (e : device.Device). image_length shape.slots ≤ e.size) (sym c.answer_of-heard.ensures.device) large)
       c.loop-made.invariant.large;
 }
+
+pub returns-clause-ended : goal.returns-clause-ended
+returns-clause-ended g c =
+    let shape = c.args.host.now.learner.shape in
+    let old : Standing g.row.D.Denot = record { core = c.args.host.now; disks = c.args.disks.now } in
+    let now : Standing g.row.D.Denot = record { core = c.loop-made.host; disks = c.loop-made.disks } in
+    driven_out g.D.Disk.gives shape old now _ (omega (arith, c.loop-made-test.false)) c.loop-made.invariant.driven

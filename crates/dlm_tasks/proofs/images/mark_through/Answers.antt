@@ -11,10 +11,13 @@ returns-in-Ok g c =
     let after = g.O.Write.contents c.print_marked.new.out in
     let marked = c.in-Ok.log.marked in
     on_ok_weaker c.print_marked.result
-    (λ written. record {
-      old = c.look.new.self;
+    (λ written number started. record {
+      old = c.args.host.now;
+      looked = c.look.new.self;
       new = c.recover_and_mark.new.self;
       marked = marked;
+      started = started;
+      looks = c.look.ensures.looked;
       marks = c.in-Ok.ensures.marked.0;
       written = subst (λ (count : ℕ). Appends before after (marked_text count marked)) c.in-Ok.ensures.learned written;
     })

@@ -13,9 +13,11 @@ returns-in-Ok g c =
     on_ok_weaker c.print_table.result
     (λ written number started. record {
       old = c.args.host.now;
+      looked = c.look.new.self;
       new = c.recover.new.self;
       shown = shown;
       started = started;
+      looks = c.look.ensures.looked;
       recovers = c.recover.ensures.operated;
       picture = c.table.ensures;
       written = subst (λ (count : ℕ). Appends before after (table_text count shown)) c.in-Ok.ensures.learned written;

@@ -28,6 +28,6 @@ invariant_of-seat-2 g c =
     let sub = c.seat.inside.submitting in
     let idle = ap (λ (o : Own). idles (host_in shape o)) c.seat.view_is ∙ c.requires in
     let b = begun shape own core c.beat.new.self sub sub (length c.args.self.now.log) (Beat own.number) starts_beat (λ m. refl) (λ xs. refl)
-    (λ m. refl) (λ m rest. (refl, rest.1)) s.running idle (c.beat.ensures shape own.number) in
+    (λ m. refl) (λ m rest. (refl, rest.1, rest.2)) s.running idle (c.beat.ensures shape own.number) in
     let k = subst (λ (o : Own). Begins shape own o core c.beat.new.self sub) (sym c.in_ok-begin.ensures.host) b in
     record { running = k.running; acks = s.acks ∙ k.acks; few = k.few (length c.seat.inside.acks.items) s.few; room = s.room }

@@ -31,7 +31,7 @@ drive-requires-clause-large g c =
 
 pub marked-requires : goal.marked-requires
 marked-requires g c =
-    marked_ends g.D.Disk.gives c.args.slot (record { core = c.self.inside.core; disks = c.deref_mut.result.now }) (record { core = c.drive.new.host; disks = c.drive.new.disks }) c.self.invariant.known
+    marked_ends g.D.Disk.gives c.args.slot (record { core = c.self.inside.core; disks = c.deref_mut.result.now }) (record { core = c.drive.new.host; disks = c.drive.new.disks }) c.self.invariant.known c.self.invariant.idle
     (marked g.D.Disk.gives c.args.slot (record { core = c.self.inside.core; disks = c.deref_mut.result.now }) c.mark.new.self c.self.invariant.known c.mark.ensures (record { core = c.drive.new.host; disks = c.drive.new.disks }) c.drive.ensures.heard c.drive.ensures.ended)
 
 pub invariant_of-self : goal.invariant_of-self
@@ -42,13 +42,14 @@ invariant_of-self g c =
     let same : c.drive.new.host.learner.shape ≡ c.self.inside.core.learner.shape = c.drive.ensures.shape ∙ begun in
     let kept : take c.self.inside.disks.len (c.drive.new.disks ++ drop (length c.drive.new.disks) c.self.inside.disks.items) ≡ c.drive.new.disks =
     written_back c.drive.new.disks c.self.inside.disks.items c.self.inside.disks.len (c.drive.auto.disks ∙ c.deref_mut.ensures.len) in record {
-      known = known_marked g.D.Disk.gives c.args.slot (record { core = c.self.inside.core; disks = c.deref_mut.result.now }) (record { core = c.drive.new.host; disks = c.drive.new.disks }) c.self.invariant.known done;
+      known = known_marked g.D.Disk.gives c.args.slot (record { core = c.self.inside.core; disks = c.deref_mut.result.now }) (record { core = c.drive.new.host; disks = c.drive.new.disks }) c.self.invariant.known c.self.invariant.idle done;
       idle = c.drive.ensures.ended;
       small = subst IsSmall (sym same) c.self.invariant.small;
+      some = subst (λ (s : Shape). 1 ≤ s.disks) (sym same) c.self.invariant.some;
       as_many =
           ap length kept ∙ c.drive.auto.disks ∙ ap length c.deref_mut.ensures.value ∙ c.self.invariant.as_many ∙ ap (λ (s : Shape). s.disks) (sym same);
       room =
-          let learned : length c.drive.new.host.prefix ≡ length c.self.inside.core.prefix = ap length (marked_prefix g.D.Disk.gives c.args.slot (record { core = c.self.inside.core; disks = c.deref_mut.result.now }) (record { core = c.drive.new.host; disks = c.drive.new.disks }) c.self.invariant.known done) in
+          let learned : length c.drive.new.host.prefix ≡ length c.self.inside.core.prefix = ap length (marked_prefix g.D.Disk.gives c.args.slot (record { core = c.self.inside.core; disks = c.deref_mut.result.now }) (record { core = c.drive.new.host; disks = c.drive.new.disks }) c.self.invariant.known c.self.invariant.idle done) in
           subst (λ (s : Shape). length c.drive.new.host.prefix ≤ s.slots) (sym same) (omega (arith, learned, c.self.invariant.room));
       large =
           subst (λ (ds : List g.row.D.Denot). (k : ℕ) (d : g.row.D.Denot) → slice_get ds k ≡ Some d → image_length c.drive.new.host.learner.shape.slots ≤ (g.D.Disk.device d).size) (sym kept)
@@ -68,7 +69,7 @@ returns-clause-marked g c =
 
 pub returns-clause-kept : goal.returns-clause-kept
 returns-clause-kept g c =
-    marked_prefix g.D.Disk.gives c.args.slot (record { core = c.self.inside.core; disks = c.deref_mut.result.now }) (record { core = c.drive.new.host; disks = c.drive.new.disks }) c.self.invariant.known
+    marked_prefix g.D.Disk.gives c.args.slot (record { core = c.self.inside.core; disks = c.deref_mut.result.now }) (record { core = c.drive.new.host; disks = c.drive.new.disks }) c.self.invariant.known c.self.invariant.idle
     (marked g.D.Disk.gives c.args.slot (record { core = c.self.inside.core; disks = c.deref_mut.result.now }) c.mark.new.self c.self.invariant.known c.mark.ensures (record { core = c.drive.new.host; disks = c.drive.new.disks }) c.drive.ensures.heard c.drive.ensures.ended)
     ∙ ap (λ (s : Standing g.row.D.Denot). s.core.prefix) c.self.view_is
 

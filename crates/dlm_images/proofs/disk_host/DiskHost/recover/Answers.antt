@@ -46,6 +46,7 @@ invariant_of-self g c =
       known = known_operated g.D.Disk.gives Recovering c.args.tries (record { core = c.self.inside.core; disks = c.deref_mut.result.now }) (record { core = c.drive.new.host; disks = c.drive.new.disks }) c.self.invariant.known done;
       idle = c.drive.ensures.ended;
       small = subst IsSmall (sym same) c.self.invariant.small;
+      some = subst (λ (s : Shape). 1 ≤ s.disks) (sym same) c.self.invariant.some;
       as_many =
           ap length kept ∙ c.drive.auto.disks ∙ ap length c.deref_mut.ensures.value ∙ c.self.invariant.as_many ∙ ap (λ (s : Shape). s.disks) (sym same);
       room =

@@ -1,4 +1,4 @@
-use Rattle.std.proofs.Common.{◌≡◌, not, ap, ◌∙◌}
+use Rattle.std.proofs.Common.{not, ap, ◌∙◌}
 use Rattle.std.specs.Option.{option_map}
 use Rattle.phases.specs.layouts.Calls.{end_as}
 use Rattle.slot_log.specs.layouts.Kept.{kept_of, task_as, Kept}

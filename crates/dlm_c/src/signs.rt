@@ -1,0 +1,65 @@
+//! The names of signs of life, which C makes and locks.
+ghost use Rattle.std.specs.Prelude.{◌≡◌, ◌⊎◌, ◌<◌, ◌++◌, None, IfOk, IfErr, drop, length};
+ghost use Rattle.session.specs.Signs.{sign_name};
+ghost use Rattle.dlm_c.specs.Signs.{HasNoName, IsText, NamesSign};
+ghost use Rattle.dlm_c.specs.Steps.{InHandle};
+
+use crate::claims::lock_of;
+use crate::fault::{CLOSED, Fault};
+use crate::handle::Handle;
+use crate::number_of;
+use crate::open_host::{OpenHost, host_of};
+use session::sign_name;
+use std::alloc::Global;
+use std::io::Write;
+
+/// Puts the name of a lock's sign of life into a buffer, and a zero behind it. It is that of the lock of this number which was enqueued through
+/// the host of this number, in the table of the images that are open.
+#[unsafe(no_mangle)]
+pub extern "C" fn dlm_c_sign_name(
+    alloc: Global,
+    handle: &mut Handle,
+    number: u32,
+    lock: u32,
+    into: &mut [u8],
+) -> i32
+    ensures names { InHandle (λ old new. (new ≡ old) × NamesSign old.cluster number lock into.old into.new result)
+        handle.old.held.value handle.new.held.value result }
+    ensures none { handle.old.held.value ≡ None → into.new ≡ into.old }
+{
+    let Some(host) = handle.take(alloc) else {
+        return CLOSED;
+    };
+    let outcome = host.name_sign(alloc, number, lock, into);
+    handle.keep(host);
+    number_of(outcome)
+}
+
+impl OpenHost {
+    fn name_sign(&self, alloc: Global, number: u32, lock: u32, into: &mut [u8]) -> Result<(), Fault>
+        ensures named { IfOk result (λ _. IsText (sign_name self.now.cluster number lock) into.old into.new) }
+        ensures unnamed { IfErr result (λ fault. into.new ≡ into.old × (((fault ≡ Fault.BadArgument) × HasNoName self.now.cluster number lock (length into.old)) ⊎ (fault ≡ Fault.NoMemory))) }
+    {
+        let (Some(host), Some(lock)) = (host_of(number), lock_of(lock)) else {
+            return Err(Fault::BadArgument);
+        };
+        let mut name = Vec::new(alloc);
+        if sign_name(self.cluster, host, lock, &mut name).is_err()
+            || name.write_all(b"\0").is_err()
+        {
+            return Err(Fault::NoMemory);
+        }
+        put(&name, into)
+    }
+}
+
+fn put(name: &[u8], into: &mut [u8]) -> Result<(), Fault>
+    ensures put { IfOk result (λ _. into.new ≡ name.now ++ drop (length name.now) into.old) }
+    ensures room { IfErr result (λ fault. (fault ≡ Fault.BadArgument) × (length into.old < length name.now) × (into.new ≡ into.old)) }
+{
+    if into.len() < name.len() {
+        return Err(Fault::BadArgument);
+    }
+    into[..name.len()].copy_from_slice(name);
+    Ok(())
+}

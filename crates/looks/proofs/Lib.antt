@@ -1,0 +1,5 @@
+pub mod Asking
+pub mod Counting
+pub mod Ends
+pub mod Histories
+pub mod Turns
