@@ -558,7 +558,7 @@ def at_each_call(library, text, folders, **more):
         with subprocess.Popen([PROGRAM, *text.split(" ")], env=env, stdin=subprocess.DEVNULL, stdout=subprocess.PIPE, stderr=subprocess.PIPE, text=True) as process:
             os.waitid(os.P_PID, process.pid, os.WEXITED | os.WSTOPPED | os.WNOWAIT)
             if not os.path.exists("told"):
-                wants(f"calls of `{text}`", number > 30, True)
+                wants(f"calls of `{text}`", number > 20, True)
                 return
             call = bytes_of("told").decode().strip()
             os.remove("told")

@@ -82,7 +82,7 @@ int32_t dlm_c_hear_alone(struct claim *claim, uint32_t event, int32_t status);
 int32_t dlm_c_show(struct claim *claim, struct claim_view *into);
 void dlm_c_forget(struct claim *claim);
 void dlm_c_pass_left(struct cleanup *cleanup, uint32_t lock);
-int32_t dlm_c_settle_left(struct claim *claim, struct cleanup *cleanup, uint32_t lock);
+int32_t dlm_c_settle_left(struct claim *claim, struct cleanup *cleanup);
 
 /* By a host: of midgegalena.c. Commands of others are marked until it is time, in milliseconds of CLOCK_MONOTONIC. A lock 0 is none: all are passed, or
  * the purge is to be submitted. `ours` has MG_LOCKS numbers. */

@@ -609,7 +609,7 @@ static void release_one(struct mg_session *session, const struct mg_lock_view *v
     int status = enter_left(session, &entry, view, sign);
     if (status == MG_OK)
         status = give_up(session, &entry, &work, until, true);
-    if (status != MG_OK || dlm_c_settle_left(&entry.claim, locks, view->lock) != MG_OK) {
+    if (status != MG_OK || dlm_c_settle_left(&entry.claim, locks) != MG_OK) {
         dlm_c_pass_left(locks, view->lock);
         locks->stay++;
         locks->status = status > MG_OK ? status : MG_BROKEN;

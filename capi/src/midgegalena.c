@@ -760,9 +760,7 @@ int next_left(struct mg_host *host, const struct cleanup *cleanup, const uint32_
 }
 
 int next_purge(struct mg_host *host, const struct cleanup *cleanup, uint32_t *lock, bool *is_purged) {
-    int32_t told;
-    *lock = 0;
-    told = dlm_c_next_purge(&host->handle, cleanup, lock);
+    int32_t told = dlm_c_next_purge(&host->handle, cleanup, lock);
     *is_purged = told == NOTHING_DUE;
     return *is_purged ? MG_OK : status_of(told);
 }

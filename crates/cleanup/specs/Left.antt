@@ -59,7 +59,6 @@ AllPassed table host kind ours from = (r : LockRecord) → IsAmong table host ki
 -- It is the first of them from this number on.
 pub record IsFirstFrom (table : Shown) (host : ℕ) (kind : Kind) (ours : List ℕ) (from : ℕ) (r : LockRecord) : Type 0 where
   pub among : IsAmong table host kind ours r
-  pub other : is_in ours r.lock ≡ false
   pub not_below : from ≤ r.lock
   pub first : (other : LockRecord) → IsAmong table host kind ours other → from ≤ other.lock → r.lock ≤ other.lock
 

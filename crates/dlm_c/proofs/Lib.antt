@@ -1,6 +1,7 @@
 mod ClaimValues
-mod Counted
 mod Ended
+mod Heard
+mod Nothing
 mod Shown
 mod Steps
 mod Values

@@ -18,8 +18,8 @@ use Rattle.session.specs.declared.outcome.Outcome.TheVariants as outcome
 use Rattle.session.specs.declared.outcome.Why.{Why}
 use Rattle.session.specs.declared.outcome.Why.TheVariants as why
 use Rattle.session.specs.Bounds.{ComesNearer, IsOpening}
-use Rattle.session.specs.Keeping.{Keeps, KeepsRelease}
-use Rattle.session.specs.Outcomes.{IsBorneOut, IsUnheard, TellsWhy}
+use Rattle.session.specs.Keeping.{IsOnSame, IsStillKnown, Keeps, KeepsRelease}
+use Rattle.session.specs.Outcomes.{IsBorneOut, IsOut, IsUnheard, TellsWhy}
 use Rattle.lock_command.specs.declared.reply.Refusal.TheVariants.{NoSuchLock, StillWaiting, TableFull}
 use Rattle.dlm_c.specs.declared.claims.ClaimView.{ClaimView}
 use Rattle.dlm_c.specs.declared.due_order.DueOrder.{DueOrder}
@@ -105,14 +105,16 @@ pub record ShowsClaim (view : ClaimView) (c : Claim) : Type 0 where
 
 -- WHAT IS HEARD
 
+-- The host has learned this, from its images.
+pub record IsLearnedBy (host : OpenHost) (l : Learned) : Type 0 where
+  pub set : l.set ≡ host.cluster
+  pub slots : l.slots ≡ host.config.slots
+  pub log : l.log.now ≡ host.core.prefix
+  pub table : IsPictureOf l.table.now (table_after host.core.prefix)
+
 -- What the host has learned bears out whatever the claim's step leads to.
-pub record IsBorneOutBy (host : OpenHost) (c : Claim) : Type 0 where
-  pub learned : Learned
-  pub set : learned.set ≡ host.cluster
-  pub slots : learned.slots ≡ host.config.slots
-  pub log : learned.log.now ≡ host.core.prefix
-  pub table : IsPictureOf learned.table.now (table_after host.core.prefix)
-  pub borne_out : IsBorneOut learned c
+abbrev pub IsBorneOutBy : OpenHost → Claim → Type 0
+IsBorneOutBy host c = (l : Learned) × IsLearnedBy host l × IsBorneOut l c
 
 -- Whatever the step leads to needs nothing heard, or is borne out by what the host has learned. That a sign of life is somebody else's, and that one was
 -- given up, the host does not know.
@@ -126,6 +128,28 @@ pub record HearsOfSigns (event : ℕ) (old new : Claim) : Type 0 where
   pub dropped : event ≡ 7 → ((sign : Sign) (ended : Outcome) → old.step ≡ Dropping sign (End ended) → ⊥) → IsUnheard new
   pub held : event ≡ 6 → (IsOpening old.step → ⊥) → IsUnheard new
   pub gone : event ≡ 6 → IsOpening old.step → IsUnheard new ⊎ (new ≡ record old { step = Ended (outcome.NotHeld why.Gone) })
+
+-- C says of a sign of life what became of it
+abbrev pub IsOfSign : ℕ → Type 0
+IsOfSign event = (event ≡ 5) ⊎ (event ≡ 6) ⊎ (event ≡ 7)
+
+-- It is the same lock, asked for by the same command. What was asked for stays asked for.
+pub record StaysAsked (old new : Claim) : Type 0 where
+  pub lock : new.lock ≡ old.lock
+  pub asked : new.asked ≡ old.asked
+  pub unasked : new.standing ≡ standing.Unasked → old.standing ≡ standing.Unasked
+
+-- by what the host has learned, the release of this number has no further effect
+abbrev pub IsOutBy : OpenHost → Claim → ℕ → Type 0
+IsOutBy host c request = (l : Learned) × IsLearnedBy host l × IsOut l c (Some request)
+
+-- The claim goes on to the same lock's end: no nearer to it only where it has no end yet. Unless C speaks of a sign of life, what may be in the log stays known: the
+-- command that asked for the lock, and the release, until that has no further effect.
+pub record HearsOn (event : ℕ) (host : OpenHost) (old new : Claim) : Type 0 where
+  pub same : IsOnSame old new
+  pub nearer : ComesNearer old new
+  pub asked : (IsOfSign event → ⊥) → StaysAsked old new
+  pub release : (IsOfSign event → ⊥) → (request : ℕ) → old.release ≡ Some request → IsStillKnown request old new ⊎ IsOutBy host old request
 
 -- Where no host is open, whatever the step leads to needs nothing heard, and what may be in the log stays known. If the operation then ends since the folder
 -- could not be opened, it tells that failure, unless it was to end soon.

@@ -1,5 +1,5 @@
 -- What C is told of locks that processes which are gone have left, and of the purge of a host.
-use Rattle.std.specs.Prelude.{◌≡◌, ◌⊎◌, ◌<◌, ◌+◌, ◌-◌, ◌^◌, ℕ, ℤ, List, Option, Some, None, false, min}
+use Rattle.std.specs.Prelude.{◌≡◌, ◌≢◌, ◌⊎◌, ◌<◌, ◌+◌, ◌-◌, ◌^◌, ℕ, ℤ, List, Option, Some, None, false, min}
 use Rattle.lock_command.specs.declared.command.Command.{Command}
 use Rattle.lock_command.specs.declared.number.TheConstants.{HOSTS}
 use Rattle.lock_table.specs.declared.record.LockRecord.{LockRecord}
@@ -16,7 +16,7 @@ use Rattle.cleanup.specs.declared.left.Cleanup.{Cleanup}
 use Rattle.cleanup.specs.declared.purging.Purging.{Purging}
 use Rattle.cleanup.specs.declared.whose.Kind.{Kind}
 use Rattle.cleanup.specs.declared.whose.Kind.TheVariants.{All, Shared, Alone}
-use Rattle.cleanup.specs.Left.{AllPassed, IsFirstFrom, counted, left_by}
+use Rattle.cleanup.specs.Left.{AllPassed, IsFirstFrom, left_by, one_more}
 use Rattle.cleanup.specs.Purges.{HasNoLocks, HasNoRequest, IsTried, PurgesHost}
 use Rattle.dlm_c.specs.declared.cleanups.CleanupNumbers.{CleanupNumbers}
 use Rattle.dlm_c.specs.declared.open_host.OpenHost.{OpenHost}
@@ -86,23 +86,25 @@ TellsNextLeft n ours learned view status =
     ((status ≡ done) × ShowsNext n ours learned view) ⊎ ((status ≡ nothing_due) × HasPassedAll n ours learned) ⊎ (status ≡ no_memory)
     ⊎ ((status ≡ bad_argument) × IsNoCleanup n)
 
--- why one of the locks stays, as C is told it
-abbrev pub status_after : ℤ → Option Why → ℤ
-status_after status None = status
-status_after status (Some why) = why_number why
+-- the lock counts as released, or as one that stays for this reason
+abbrev pub settled : CleanupNumbers → ℕ → Option Why → CleanupNumbers
+settled n lock None = record n { from = lock + 1; released = one_more n.released }
+settled n lock (Some why) = record n { from = lock + 1; stay = one_more n.stay; status = why_number why }
 
--- The lock counts as released, or as one that stays, by how the claim's operation ended.
-pub record Settles (c : Claim) (lock : ℕ) (old new : CleanupNumbers) : Type 0 where
+-- The claim's lock counts, by how the claim's operation ended.
+pub record Settles (c : Claim) (old new : CleanupNumbers) : Type 0 where
   pub outcome : Outcome
   pub ended : c.step ≡ Ended outcome
   pub cleanup : Cleanup
   pub is : IsCleanupOf old cleanup
-  pub counts : IsCleanupOf new (counted cleanup lock (left_by outcome))
-  pub status : new.status ≡ status_after old.status (left_by outcome)
+  pub counts : new ≡ settled old c.lock (left_by outcome)
 
-abbrev pub SettlesOrNot : ℕ → CleanupNumbers → CleanupNumbers → ℤ → Claim → Claim → Type 0
-SettlesOrNot lock old new status before after =
-    (after ≡ before) × (((status ≡ done) × Settles before lock old new) ⊎ ((status ≡ bad_argument) × (new ≡ old)))
+-- there is no such cleanup, or the claim's operation goes on
+abbrev pub MayNotSettle : Claim → CleanupNumbers → Type 0
+MayNotSettle c n = IsNoCleanup n ⊎ ((outcome : Outcome) → c.step ≡ Ended outcome → ⊥)
+
+abbrev pub SettlesOrNot : Claim → CleanupNumbers → CleanupNumbers → ℤ → Type 0
+SettlesOrNot c old new status = ((status ≡ done) × Settles c old new) ⊎ ((status ≡ bad_argument) × (new ≡ old) × MayNotSettle c old)
 
 -- THE PURGE OF A HOST
 
@@ -136,12 +138,15 @@ pub record LacksRequest (n : CleanupNumbers) (learned : List Command) : Type 0 w
   pub of_table : IsPictureOf picture (table_after learned)
   pub none : HasNoRequest purging picture
 
--- where a purge is to be submitted, C is told lock 0
+-- no sign of life is to be looked at, and why
+abbrev pub TellsNoSign : CleanupNumbers → List Command → ℤ → Type 0
+TellsNoSign n learned status =
+    ((status ≡ done) × ((command : Command) × PurgesNext n learned command)) ⊎ ((status ≡ nothing_due) × IsPurged n learned)
+    ⊎ ((status ≡ why_number NoNumber) × LacksRequest n learned) ⊎ (status ≡ no_memory) ⊎ ((status ≡ bad_argument) × IsNoPurging n)
+
+-- lock 0 is none
 abbrev pub TellsNextPurge : CleanupNumbers → List Command → ℕ → ℤ → Type 0
-TellsNextPurge n learned lock status =
-    ((status ≡ done) × TellsSign n learned lock) ⊎ ((status ≡ done) × (lock ≡ 0) × ((command : Command) × PurgesNext n learned command))
-    ⊎ ((status ≡ nothing_due) × IsPurged n learned) ⊎ ((status ≡ why_number NoNumber) × LacksRequest n learned) ⊎ (status ≡ no_memory)
-    ⊎ ((status ≡ bad_argument) × IsNoPurging n)
+TellsNextPurge n learned lock status = ((status ≡ done) × TellsSign n learned lock) ⊎ ((lock ≡ 0) × TellsNoSign n learned status)
 
 -- The purge is submitted, once.
 pub record SubmitsPurge (n : CleanupNumbers) (learned : List Command) (old new : Kept) : Type 0 where
@@ -149,7 +154,16 @@ pub record SubmitsPurge (n : CleanupNumbers) (learned : List Command) (old new :
   pub purges : PurgesNext n learned command
   pub begins : Begins (Submitting command) 1 old new
 
+-- no purge is due: it is not this host's, or a sign of life is to be looked at first, or the host to be purged has no locks any more, or no request is left
+abbrev pub PurgesNothing : CleanupNumbers → OpenHost → Type 0
+PurgesNothing n host =
+    (n.host ≢ host.core.learner.host) ⊎ ((lock : ℕ) × TellsSign n host.core.prefix lock) ⊎ IsPurged n host.core.prefix ⊎ LacksRequest n host.core.prefix
+
+-- Nothing was begun, and why. The host is as it was.
+pub record SubmitsNoPurge (n : CleanupNumbers) (old new : OpenHost) (status : ℤ) : Type 0 where
+  pub same : new ≡ old
+  pub told : ((status ≡ busy) × (is_idle old.core ≡ false)) ⊎ ((status ≡ nothing_due) × PurgesNothing n old) ⊎ (status ≡ no_memory)
+      ⊎ ((status ≡ bad_argument) × IsNoPurging n)
+
 abbrev pub SubmitsPurgeOrNot : CleanupNumbers → OpenHost → OpenHost → ℤ → Type 0
-SubmitsPurgeOrNot n old new status =
-    HasBegun (SubmitsPurge n old.core.prefix) old new status
-    ⊎ ((new ≡ old) × (((status ≡ busy) × (is_idle old.core ≡ false)) ⊎ (status ≡ nothing_due) ⊎ (status ≡ no_memory) ⊎ (status ≡ bad_argument)))
+SubmitsPurgeOrNot n old new status = HasBegun (SubmitsPurge n old.core.prefix) old new status ⊎ SubmitsNoPurge n old new status

@@ -6,7 +6,7 @@ ghost use Rattle.lock_table.specs.Apply.{table_after};
 ghost use Rattle.lock_table.specs.Picture.{IsPictureOf};
 ghost use Rattle.session.specs.Orders.{order_of};
 ghost use Rattle.dlm_c.specs.Asking.{BeginsGoalOr, KeepsLeft, KeepsNew, Stops, SubmitsOrder};
-ghost use Rattle.dlm_c.specs.Claims.{HearsAlone, HearsOfSigns, HearsRight, InClaim, InKept, ShowsClaim, told_order};
+ghost use Rattle.dlm_c.specs.Claims.{HearsAlone, HearsOfSigns, HearsOn, HearsRight, InClaim, InKept, ShowsClaim, told_order};
 ghost use Rattle.dlm_c.specs.Numbers.{done, no_memory};
 ghost use Rattle.dlm_c.specs.Steps.{InHandle};
 ghost use Rattle.dlm_c.specs.declared.open_host.OpenHost.{OpenHost};
@@ -248,7 +248,7 @@ pub extern "C" fn dlm_c_hear(
     left_over: bool,
 ) -> i32
     ensures heard { (opened : OpenHost) → host.old.held.value ≡ Some opened →
-        InClaim (λ old new. (result ≡ done) × HearsRight event opened new × HearsOfSigns event old new)
+        InClaim (λ old new. (result ≡ done) × HearsRight event opened new × HearsOfSigns event old new × HearsOn event opened old new)
         handle.old.held.value handle.new.held.value result }
     ensures same { host.new.held.value ≡ host.old.held.value }
 {
@@ -269,7 +269,7 @@ fn hear_in(
     left_over: bool,
 ) -> i32
     ensures heard { (opened : OpenHost) → host.old.held.value ≡ Some opened →
-        (result ≡ done) × HearsRight event opened claim.new × HearsOfSigns event claim.old claim.new }
+        (result ≡ done) × HearsRight event opened claim.new × HearsOfSigns event claim.old claim.new × HearsOn event opened claim.old claim.new }
     ensures same { host.new.held.value ≡ host.old.held.value }
 {
     let Some(opened) = host.take(alloc) else {
@@ -292,6 +292,7 @@ fn hear_by(
 )
     ensures heard { HearsRight event host.now claim.new }
     ensures signs { HearsOfSigns event claim.old claim.new }
+    ensures on { HearsOn event host.now claim.old claim.new }
 {
     match host.core.table().picture(alloc) {
         Ok(table) => hear(claim, host, &table, event, status, left_over),
@@ -311,6 +312,7 @@ fn hear(
     requires table { IsPictureOf table.now (table_after host.now.core.prefix) }
     ensures heard { HearsRight event host.now claim.new }
     ensures signs { HearsOfSigns event claim.old claim.new }
+    ensures on { HearsOn event host.now claim.old claim.new }
 {
     let learned = Learned {
         set: host.cluster,

@@ -3,11 +3,10 @@ ghost use Rattle.std.specs.Prelude.{◌≡◌, ◌⊎◌, ◌+◌, ◌-◌, ◌^
 ghost use Rattle.lock_command.specs.declared.command.Command.{Command};
 ghost use Rattle.cleanup.specs.declared.whose.Kind.{Kind};
 ghost use Rattle.dlm_c.specs.Claims.{InClaim};
-ghost use Rattle.dlm_c.specs.Cleanups.{HasPassedAll, IsCleanupOf, IsNoCleanup, IsNoPurging, IsPurged, IsPurgingOf, LacksRequest, PurgesNext, SettlesOrNot, ShowsNext, SubmitsPurgeOrNot, TellsNextLeft, TellsNextPurge, TellsSign, kind_number, passed, status_after};
+ghost use Rattle.dlm_c.specs.Cleanups.{HasPassedAll, IsCleanupOf, IsNoCleanup, IsNoPurging, IsPurged, IsPurgingOf, LacksRequest, PurgesNext, SettlesOrNot, ShowsNext, SubmitsPurgeOrNot, TellsNextLeft, TellsNextPurge, TellsSign, kind_number, passed};
 ghost use Rattle.dlm_c.specs.Steps.{InHandle};
 
 use crate::claim_handle::ClaimHandle;
-use crate::claims::lock_of;
 use crate::due_order::status_of;
 use crate::fault::{BAD_ARGUMENT, BUSY, CLOSED, Fault, NOTHING_DUE};
 use crate::handle::Handle;
@@ -52,16 +51,13 @@ impl CleanupNumbers {
         })
     }
 
-    /// The same numbers of a cleanup that went on, after which a lock stays for this reason, or none does.
-    fn keep(&mut self, cleanup: &Cleanup, why: Option<Why>)
-        ensures kept { self.new ≡ record self.old { from = cleanup.now.from; released = cleanup.now.released; stay = cleanup.now.stay; status = status_after self.old.status why } }
+    /// The same numbers of a cleanup that went on.
+    fn keep(&mut self, cleanup: &Cleanup)
+        ensures kept { self.new ≡ record self.old { from = cleanup.now.from; released = cleanup.now.released; stay = cleanup.now.stay } }
     {
         self.from = cleanup.from;
         self.released = cleanup.released;
         self.stay = cleanup.stay;
-        if let Some(why) = why {
-            self.status = status_of(why);
-        }
     }
 
     fn purging(&self) -> Option<Purging>
@@ -141,41 +137,40 @@ pub extern "C" fn dlm_c_pass_left(numbers: &mut CleanupNumbers, lock: u32)
     numbers.from = lock.saturating_add(1);
 }
 
-/// Counts the lock, which the claim's operation was to release.
+/// Counts the claim's lock, which its operation was to release.
 #[unsafe(no_mangle)]
 pub extern "C" fn dlm_c_settle_left(
     alloc: Global,
     handle: &mut ClaimHandle,
     numbers: &mut CleanupNumbers,
-    lock: u32,
 ) -> i32
-    ensures { InClaim (λ old new. SettlesOrNot lock numbers.old numbers.new result old new) handle.old.held.value handle.new.held.value result }
+    ensures settles { InClaim (λ old new. (new ≡ old) × SettlesOrNot old numbers.old numbers.new result) handle.old.held.value handle.new.held.value result }
+    ensures none { handle.old.held.value ≡ None → numbers.new ≡ numbers.old }
 {
     let Some(claim) = handle.take(alloc) else {
         return CLOSED;
     };
-    let status = settle(&claim, numbers, lock);
+    let status = settle(&claim, numbers);
     handle.keep(claim);
     status
 }
 
-fn settle(claim: &Claim, numbers: &mut CleanupNumbers, lock: u32) -> i32
-    ensures { SettlesOrNot lock numbers.old numbers.new result claim.now claim.now }
+fn settle(claim: &Claim, numbers: &mut CleanupNumbers) -> i32
+    ensures { SettlesOrNot claim.now numbers.old numbers.new result }
 {
-    let (Some(mut cleanup), Some(lock), Order::Done(outcome)) = (
-        numbers.cleanup(),
-        lock_of(lock),
-        claim.next(),
-    ) else {
+    let (Some(mut cleanup), Order::Done(outcome)) = (numbers.cleanup(), claim.next()) else {
         return BAD_ARGUMENT;
     };
-    let why = cleanup.settle(lock, outcome);
-    numbers.keep(&cleanup, why);
+    let why = cleanup.settle(claim.lock, outcome);
+    numbers.keep(&cleanup);
+    if let Some(why) = why {
+        numbers.status = status_of(why);
+    }
     0
 }
 
-/// Tells what is to be done for a purge: this lock's sign of life is to be looked at; or, with lock 0, the purge is to be submitted; or nothing is due, since
-/// the host has no locks any more.
+/// Tells what is to be done for a purge: this lock's sign of life is to be looked at; or the purge is to be submitted; or nothing is due, since the host has no
+/// locks any more. Where no sign is to be looked at, the lock is 0.
 #[unsafe(no_mangle)]
 pub extern "C" fn dlm_c_next_purge(
     alloc: Global,
@@ -183,9 +178,11 @@ pub extern "C" fn dlm_c_next_purge(
     numbers: &CleanupNumbers,
     lock: &mut u32,
 ) -> i32
-    ensures { InHandle (λ old new. (new ≡ old) × TellsNextPurge numbers.now old.core.prefix lock.new result)
+    ensures tells { InHandle (λ old new. (new ≡ old) × TellsNextPurge numbers.now old.core.prefix lock.new result)
         handle.old.held.value handle.new.held.value result }
+    ensures none { handle.old.held.value ≡ None → lock.new ≡ 0 }
 {
+    *lock = 0;
     let Some(host) = handle.take(alloc) else {
         return CLOSED;
     };
@@ -197,6 +194,7 @@ pub extern "C" fn dlm_c_next_purge(
 fn next_purge(alloc: Global, host: &OpenHost, numbers: &CleanupNumbers, lock: &mut u32) -> i32
     ensures { TellsNextPurge numbers.now host.now.core.prefix lock.new result }
 {
+    *lock = 0;
     let Some(purging) = numbers.purging() else {
         return BAD_ARGUMENT;
     };
@@ -208,10 +206,7 @@ fn next_purge(alloc: Global, host: &OpenHost, numbers: &CleanupNumbers, lock: &m
             *lock = u32::from(tried.get());
             0
         }
-        PurgeOrder::Submit(_) => {
-            *lock = 0;
-            0
-        }
+        PurgeOrder::Submit(_) => 0,
         PurgeOrder::Done => NOTHING_DUE,
         PurgeOrder::NoNumber => status_of(Why::NoNumber),
     }
@@ -243,14 +238,17 @@ fn submit_purge(alloc: Global, host: &mut OpenHost, numbers: &CleanupNumbers) ->
     let Some(purging) = numbers.purging() else {
         return BAD_ARGUMENT;
     };
+    if purging.host != host.core.host() {
+        return NOTHING_DUE;
+    }
     let Ok(picture) = host.core.table().picture(alloc) else {
         return Fault::NoMemory.number();
     };
     match purging.next(&picture) {
-        PurgeOrder::Submit(command) if command.host == host.core.host() => {
+        PurgeOrder::Submit(command) => {
             host.core.submit(command, 1);
             0
         }
-        _ => NOTHING_DUE,
+        PurgeOrder::TrySign(_) | PurgeOrder::Done | PurgeOrder::NoNumber => NOTHING_DUE,
     }
 }

@@ -1,5 +1,6 @@
 -- What is printed of events, tables, folders and sweeps.
-use Rattle.std.specs.Prelude.{◌≡◌, ◌≤◌, ◌+◌, ◌-◌, ℕ, List, [], ◌∷◌, ◌++◌, codes, decimal, flat_map, length, take, drop, slice_get, slice_index_or, sum_by, Option, Some, None, IfSome}
+use Rattle.std.specs.Prelude.{◌≡◌, ◌≤◌, ◌⊎◌, ◌+◌, ◌-◌, ℕ, Bool, true, false, List, [], ◌∷◌, ◌++◌, bytes_eq, codes, decimal, flat_map, length, take, drop, slice_get, slice_index_or, sum_by, Option, Some, None, IfSome}
+use Rattle.std.specs.List.{list_any}
 use Rattle.std.specs.Io.KnownBytes.{Appends}
 use Rattle.disk.specs.FileStates.{FileState, FileGives}
 use Rattle.world.specs.Entry.{Filled}
@@ -7,6 +8,7 @@ use Rattle.world.specs.World.{world}
 use Rattle.world.specs.Opening.{begun}
 use Rattle.world.specs.Happens as happens
 use Rattle.world.specs.Happens.{Line, entry_of, happens, lines_at}
+use Rattle.lock_command.specs.Command.{spelling}
 use Rattle.lock_command.specs.declared.command.Command.{Command}
 use Rattle.lock_table.specs.Apply.{table_after}
 use Rattle.lock_table.specs.Picture.{Shown, IsPictureOf}
@@ -149,17 +151,31 @@ table_text recovered shown = answer_line (Recovered recovered) ++ queues_text sh
 abbrev pub IsFresh : ℕ → Standing FileState → Type 0
 IsFresh number host = (shape : Shape) × hosts.LeadsTo shape number fresh host.core
 
--- The command was submitted through a host over some disks, which looked first. It is the last that the host then knows, and its slot and the lock table's
--- reply were written.
-pub record WritesAcknowledgement (tries : ℕ) (command : Command) (before after : Option (List ℕ)) : Type 0 where
+-- the command is one of these: its bytes are those of one of them
+abbrev pub is_among : Command → List Command → Bool
+is_among command learned = list_any (λ one. bytes_eq (spelling one) (spelling command)) learned
+
+-- A host over some disks that had learned nothing has looked, and has found this command in what it learned, or has not.
+pub record HasSearched (command : Command) (found : Bool) (looked : Standing FileState) : Type 0 where
   pub old : Standing FileState
-  pub looked : Standing FileState
+  pub started : IsFresh command.host old
+  pub looks : HasLooked FileGives old looked
+  pub among : is_among command looked.core.prefix ≡ found
+
+-- It is the host that submits the command: one that has searched for it in vain, or, where one has found it, one that has learned nothing. So what is asked again
+-- is found where it stands.
+abbrev pub Begins : Command → Standing FileState → Type 0
+Begins command begun = HasSearched command false begun ⊎ (IsFresh command.host begun × ((looked : Standing FileState) × HasSearched command true looked))
+
+-- The command was submitted through a host over some disks, after a look. It is the last that the host then knows, and its slot and the lock table's reply were
+-- written.
+pub record WritesAcknowledgement (tries : ℕ) (command : Command) (before after : Option (List ℕ)) : Type 0 where
+  pub begun : Standing FileState
   pub new : Standing FileState
   pub slot : ℕ
   pub reply : Reply
-  pub started : IsFresh command.host old
-  pub looks : HasLooked FileGives old looked
-  pub tried : HasTried FileGives command tries looked new
+  pub begins : Begins command begun
+  pub tried : HasTried FileGives command tries begun new
   pub acknowledged : IsAcknowledged command slot reply new.core.prefix
   pub written : Appends before after (answer_line (Ack slot reply))
 

@@ -5,7 +5,8 @@ ghost use Rattle.host.specs.Host.{fresh};
 ghost use Rattle.host.specs.Kept.{LeadsTo};
 ghost use Rattle.host.specs.declared.answer.HostAnswer.TheVariants.{Ack};
 ghost use Rattle.folder_migration.specs.Filling.{IsOver};
-ghost use Rattle.dlm_tasks.specs.Printed.{IsFresh, WritesAcknowledgement, WritesFilling, WritesMarks, WritesMove, WritesRenewal, WritesTable, answer_line, filled_text, formatted_text, marked_text, moved_text, renewed_text, table_text};
+ghost use Rattle.dlm_tasks.specs.Printed as printed;
+ghost use Rattle.dlm_tasks.specs.Printed.{Begins, HasSearched, IsFresh, WritesAcknowledgement, WritesFilling, WritesMarks, WritesMove, WritesRenewal, WritesTable, answer_line, filled_text, formatted_text, marked_text, moved_text, renewed_text, table_text};
 
 use crate::command_failure::CommandFailure;
 use crate::fault::Fault;
@@ -54,7 +55,8 @@ where
     Ok(())
 }
 
-/// Submits a command that a client may ask for over the images of a folder, and prints its slot and what the lock table replied.
+/// Submits a command that a client may ask for over the images of a folder, and prints its slot and what the lock table replied. One that is in
+/// the log already keeps its slot and its reply.
 pub fn submit<R: Files + Clock + RandomSource + AllocGlobal, O: Write>(
     rt: &R,
     folder: &str,
@@ -66,8 +68,9 @@ where
     requires { is_submittable command ≡ true }
     ensures { OnOk result (WritesAcknowledgement TRIES command (O.contents out.old) (O.contents out.new)) }
 {
-    let (mut host, _lock) = host_over(rt, folder, command.host)?;
-    submit_through(rt, &mut host, command, out)
+    let folder = find_folder(rt, folder).map_err(Fault::from)?;
+    let (_, mut host, _lock) = locked_host_in(rt, folder.as_str(), command.host)?;
+    submit_in(rt, folder.as_str(), &mut host, command, out)
 }
 
 /// Learns the log from the images of a folder, and prints how much that is and the lock table after it.
@@ -205,15 +208,87 @@ where
     ensures locked { IfOk result (λ over. R.File.locked over.2) }
 {
     let folder = find_folder(rt, folder)?;
-    let images = open_folder(rt, folder.as_str())?;
+    locked_host_in(rt, folder.as_str(), host)
+}
+
+/// The same, in a folder that was found.
+fn locked_host_in<R: Files + AllocGlobal>(
+    rt: &R,
+    folder: &str,
+    host: HostNumber,
+) -> Result<(Config, DiskHost<FileDisk<R::File>>, R::File), Fault>
+where
+    R::File: FileExt + OpenFile + TryLock + Drop,
+    ensures fresh { IfOk result (λ over. LeadsTo over.0 host fresh over.1.core) }
+    ensures locked { IfOk result (λ over. R.File.locked over.2) }
+{
+    let images = open_folder(rt, folder)?;
     let config = images.config;
-    let lock = lock_host(rt, folder.as_str(), host)?;
+    let lock = lock_host(rt, folder, host)?;
     let over = images.host(rt.alloc(), host)?;
     Ok((config, over, lock))
 }
 
+/// A host over the disks of a folder that was found. Its number is locked by whoever calls this.
+fn host_in<R: Files + AllocGlobal>(
+    rt: &R,
+    folder: &str,
+    host: HostNumber,
+) -> Result<DiskHost<FileDisk<R::File>>, Fault>
+where
+    R::File: FileExt + OpenFile + Drop,
+    ensures fresh { IfOk result (λ over. IsFresh host over) }
+{
+    let images = open_folder(rt, folder)?;
+    let over = images.host(rt.alloc(), host)?;
+    Ok(over)
+}
+
 // What is done through a host is a function of its own, to which the host is lent: who owns one drops it on each way out. A host that begins looks
 // first: what marks tell it then costs one read a slot. If the look is refused, the operation behind it says why.
+
+// A command that the look finds in the log is asked again. Who submits one places it behind all that it knows, so a host that knows nothing submits that one, and
+// comes upon it where it stands.
+
+fn submit_in<R: Files + Clock + RandomSource + AllocGlobal, O: Write>(
+    rt: &R,
+    folder: &str,
+    host: &mut DiskHost<FileDisk<R::File>>,
+    command: Command,
+    out: &mut O,
+) -> Result<(), CommandFailure>
+where
+    R::File: FileExt + OpenFile + Drop,
+    requires asked { is_submittable command ≡ true }
+    requires fresh { IsFresh command.host host.old }
+    ensures { OnOk result (WritesAcknowledgement TRIES command (O.contents out.old) (O.contents out.new)) }
+{
+    if has_found(host, &command) {
+        let mut other = host_in(rt, folder, command.host)?;
+        submit_through(rt, &mut other, command, out)
+    } else {
+        submit_through(rt, host, command, out)
+    }
+}
+
+/// Whether a look finds this command in the log.
+fn has_found<F: FileExt + OpenFile + Drop>(
+    host: &mut DiskHost<FileDisk<F>>,
+    command: &Command,
+) -> bool
+    ensures searched { IsFresh command.now.host host.old → HasSearched command.now result host.new }
+    ensures same { host.new.core.learner.host ≡ host.old.core.learner.host }
+{
+    let _ = host.look();
+    is_among(command, host.prefix())
+}
+
+fn is_among(command: &Command, learned: &[Command]) -> bool
+    ensures { result ≡ printed.is_among command.now learned.now }
+{
+    let bytes = command.encode();
+    learned.iter().any(|one| one.encode() == bytes)
+}
 
 fn submit_through<R: Clock + RandomSource, F: FileExt + OpenFile + Drop, O: Write>(
     rt: &R,
@@ -223,9 +298,8 @@ fn submit_through<R: Clock + RandomSource, F: FileExt + OpenFile + Drop, O: Writ
 ) -> Result<(), CommandFailure>
     requires asked { is_submittable command ≡ true }
     requires host { command.host ≡ host.old.core.learner.host }
-    ensures { OnOk result (IsFresh command.host host.old → WritesAcknowledgement TRIES command (O.contents out.old) (O.contents out.new)) }
+    ensures { OnOk result (Begins command host.old → WritesAcknowledgement TRIES command (O.contents out.old) (O.contents out.new)) }
 {
-    let _ = host.look();
     match submit_patiently(rt, host, command, TRIES) {
         Ok(done) => {
             print_ack(done, out)?;
