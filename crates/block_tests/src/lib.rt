@@ -6,6 +6,8 @@ mod beats;
 #[cfg(test)]
 mod changing;
 #[cfg(test)]
+mod devices;
+#[cfg(test)]
 mod files;
 #[cfg(test)]
 mod pages;

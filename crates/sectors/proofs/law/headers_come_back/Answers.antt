@@ -1,0 +1,11 @@
+use Rattle.sectors.proofs.HeaderLaws.{encoded, one_header, no_image}
+use Rattle.sectors.proofs.law.headers_come_back.Goals as goal
+
+pub returns-clause-back : goal.returns-clause-back
+returns-clause-back c = encoded
+
+pub returns-clause-one : goal.returns-clause-one
+returns-clause-one c = one_header
+
+pub returns-clause-images : goal.returns-clause-images
+returns-clause-images c = no_image

@@ -1,0 +1,6 @@
+use Rattle.paxos_block.specs.layouts.Saying.{number_at}
+use Rattle.sectors.proofs.number.number_in.Goals as goal
+
+pub returns : goal.returns
+unfolding number_at
+returns c = c.read_u64.ensures

@@ -1,0 +1,6 @@
+use Rattle.paxos_block.specs.layouts.Saying.{zeros}
+use Rattle.sectors.proofs.number.put_zeros.Goals as goal
+
+pub returns : goal.returns
+unfolding zeros
+returns c = c.fill.ensures.after (λ y e. e)
