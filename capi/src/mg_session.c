@@ -245,12 +245,16 @@ static uint64_t set_of(const struct mg_session *session) {
     return facts.cluster;
 }
 
-/* The path of a lock's sign in the folder that is open. Where it has none, for lack of memory, it is empty: nothing is found or made there. */
-static void path_of_sign(const struct mg_session *session, unsigned number, uint32_t lock, char *into, size_t size) {
+/* The path of a lock's sign in the folder that is open. Where there is none, for lack of room or memory, it is empty: nothing is found or made there. */
+static bool path_of_sign(const struct mg_session *session, unsigned number, uint32_t lock, char *into, size_t size) {
     struct mg_host *open = session->host ? session->host : session->eye;
     size_t length = (size_t)snprintf(into, size, "%s/", session->at);
-    if (!open || length >= size || sign_name(open, number, lock, into + length, size - length) != MG_OK)
-        into[0] = '\0';
+    int status = open && length < size ? sign_name(open, number, lock, into + length, size - length) : MG_BAD_ARGUMENT;
+    if (status == MG_OK)
+        return true;
+    into[0] = '\0';
+    errno = status == MG_NO_MEMORY ? ENOMEM : ENAMETOOLONG;
+    return false;
 }
 
 /* Locks a file, which is made where `makes`. NO_SIGN with EWOULDBLOCK: somebody has it. */
@@ -278,11 +282,10 @@ static int take_file(const char *path, bool makes) {
     return file;
 }
 
-/* The same of a lock's sign. */
+/* The same of a lock's sign. ENOMEM: there is no memory for its path. */
 static int take_sign(const struct mg_session *session, unsigned number, uint32_t lock, bool makes) {
     char path[4200];
-    path_of_sign(session, number, lock, path, sizeof path);
-    return take_file(path, makes);
+    return path_of_sign(session, number, lock, path, sizeof path) ? take_file(path, makes) : NO_SIGN;
 }
 
 /* Whether the entry's sign is ours in the folder that is open. In a renewed folder it is linked, or is made anew, in a talk: so nobody finds it before it
@@ -421,7 +424,7 @@ static void take_sign_for(struct mg_session *session, struct entry *entry, struc
     } else if (entry_of(session, lock) || errno == EWOULDBLOCK)
         claim_hears(&entry->claim, host, SIGN_IS_HELD, 0, false);
     else
-        (void)dlm_c_hear_alone(&entry->claim, SIGN_FAILED, 0);
+        (void)dlm_c_hear_alone(&entry->claim, errno == ENOMEM ? IS_CLOSED : SIGN_FAILED, MG_NO_MEMORY);
 }
 
 static void drop_sign(struct mg_session *session, struct entry *entry, struct mg_host *host, const struct due_order *order) {
@@ -805,7 +808,7 @@ static int purge(struct mg_session *session, unsigned victim, unsigned *purged) 
         if (lock != 0) {
             int sign = take_sign(session, victim, lock, false);
             if (sign == NO_SIGN)
-                return MG_HOST_IN_USE;
+                return errno == ENOMEM ? MG_NO_MEMORY : MG_HOST_IN_USE;
             close(sign);
             dlm_c_pass_left(&locks, lock);
             continue;
