@@ -683,5 +683,4 @@ def main():
     return 1 if walk.wrong else 0
 
 
-if __name__ == "__main__":
-    sys.exit(main())
+sys.exit(main())

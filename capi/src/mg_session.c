@@ -177,11 +177,11 @@ static int mark_all(struct mg_host *host, int64_t until) {
     return status;
 }
 
-/* The same, and with MG_SHARE it waits for its turn, unless the number is another machine's. */
+/* The same, and with MG_SHARE it waits for its turn. */
 static int begin_talk(struct mg_session *session, int64_t until, int *disk) {
     for (;;) {
         int status = open_once(session, disk);
-        bool may_pass = status == MG_OUTRUN || (status == MG_HOST_IN_USE && is_shared(session) && errno != EREMOTE);
+        bool may_pass = status == MG_OUTRUN || (status == MG_HOST_IN_USE && is_shared(session));
         if (!may_pass || pause_for(session, 1 + any_below(16), until, false) != MG_OK)
             return status;
     }
