@@ -394,8 +394,8 @@ struct work {
     struct mg_value value;
 };
 
-static void release_unwanted(struct mg_session *session, int64_t until, bool is_part);
-static struct cleanup release_left(struct mg_session *session, bool all, int64_t until);
+static void release_unwanted(struct mg_session *session, int64_t until, bool is_part, bool stops);
+static struct cleanup release_left(struct mg_session *session, bool all, int64_t until, bool stops);
 
 static struct asker asker_of(const struct mg_session *session) {
     struct asker asker = {0, 0, 0, 0, 0};
@@ -497,9 +497,9 @@ static struct mg_host *tell_learned(struct mg_session *session, struct entry *en
 
 /* The folder may have been opened anew meanwhile, or be closed. */
 static struct mg_host *tidy(struct mg_session *session, struct entry *entry, struct work *work) {
-    release_unwanted(session, work->until, true);
+    release_unwanted(session, work->until, true, work->stops);
     if (session->host)
-        work->released += release_left(session, false, work->until).released;
+        work->released += release_left(session, false, work->until, work->stops).released;
     if (session->host)
         claim_hears(&entry->claim, session->host, HAS_LEARNED, 0, false);
     else
@@ -558,25 +558,26 @@ static void operate(struct mg_session *session, struct entry *entry, struct work
 }
 
 /* Has a claim released by an operation that is part of another one: MG_OK, or no claim could be begun. */
-static int give_up(struct mg_session *session, struct entry *entry, struct work *work, int64_t until, bool is_part) {
+static int give_up(struct mg_session *session, struct entry *entry, struct work *work, int64_t until, bool is_part, bool stops) {
     struct asker asker = asker_of(session);
     int status = dlm_c_begin(&entry->claim, &asker, GIVE_UP, &NO_VALUE);
     memset(work, 0, sizeof *work);
     work->until = until;
     work->is_part = is_part;
+    work->stops = stops;
     if (status == MG_OK)
         operate(session, entry, work);
     return status;
 }
 
 /* Releases what this session gave up, and could not release then. */
-static void release_unwanted(struct mg_session *session, int64_t until, bool is_part) {
+static void release_unwanted(struct mg_session *session, int64_t until, bool is_part, bool stops) {
     bool stays = false;
     for (size_t i = 0; i < MG_LOCKS && session->has_unwanted; i++) {
         struct entry *entry = &session->entries[i];
         struct work work;
         stays |= entry->state == UNWANTED;
-        if (entry->state == UNWANTED && give_up(session, entry, &work, until, is_part) == MG_OK && work.end.outcome == IS_NOT_HELD)
+        if (entry->state == UNWANTED && give_up(session, entry, &work, until, is_part, stops) == MG_OK && work.end.outcome == IS_NOT_HELD)
             free_entry(entry);
     }
     session->has_unwanted = stays;
@@ -606,12 +607,12 @@ static int enter_left(struct mg_session *session, struct entry *entry, const str
 }
 
 /* Releases it by a claim, in a talk. */
-static void release_one(struct mg_session *session, const struct mg_lock_view *view, int sign, int64_t until, struct cleanup *locks) {
+static void release_one(struct mg_session *session, const struct mg_lock_view *view, int sign, int64_t until, bool stops, struct cleanup *locks) {
     struct entry entry;
     struct work work;
     int status = enter_left(session, &entry, view, sign);
     if (status == MG_OK)
-        status = give_up(session, &entry, &work, until, true);
+        status = give_up(session, &entry, &work, until, true, stops);
     if (status != MG_OK || dlm_c_settle_left(&entry.claim, locks) != MG_OK) {
         dlm_c_pass_left(locks, view->lock);
         locks->stay++;
@@ -621,7 +622,7 @@ static void release_one(struct mg_session *session, const struct mg_lock_view *v
 }
 
 /* Releases in a talk what processes that are gone have left, and tells how many were released, how many stay, and why. */
-static struct cleanup release_left(struct mg_session *session, bool all, int64_t until) {
+static struct cleanup release_left(struct mg_session *session, bool all, int64_t until, bool stops) {
     struct cleanup locks = locks_of(session, session->number, !all && is_shared(session) ? SHARED_LOCKS : ALL_LOCKS);
     uint32_t ours[MG_LOCKS];
     for (size_t i = 0; i < MG_LOCKS; i++)
@@ -640,7 +641,7 @@ static struct cleanup release_left(struct mg_session *session, bool all, int64_t
         if (sign == NO_SIGN)
             dlm_c_pass_left(&locks, view.lock);
         else
-            release_one(session, &view, sign, until, &locks);
+            release_one(session, &view, sign, until, stops, &locks);
     }
 }
 
@@ -688,7 +689,7 @@ int mg_give(struct mg_session *session, unsigned lock, const void *value) {
         operate(session, entry, &work);
         status = settle(entry, &work);
         if (status != MG_LOG_FULL || !is_link(session->folder) || pause_for(session, LONGEST_PAUSE, until, false) != MG_OK) {
-            release_unwanted(session, milliseconds() + LITTLE_PATIENCE, false);
+            release_unwanted(session, milliseconds() + LITTLE_PATIENCE, false, false);
             return status;
         }
     }
@@ -780,7 +781,7 @@ int mg_check(struct mg_session *session, unsigned lock) {
     int status;
     if (!session)
         return MG_BAD_ARGUMENT;
-    release_unwanted(session, milliseconds() + LITTLE_PATIENCE, false);
+    release_unwanted(session, milliseconds() + LITTLE_PATIENCE, false, false);
     if (!entry || entry->state != OURS)
         return MG_NO_SUCH_LOCK;
     asker = asker_of(session);
@@ -852,8 +853,8 @@ static int recover(struct mg_session *session, int64_t until, bool all, unsigned
     status = mark_all(session->host, until);
     if (status == MG_OK) {
         struct cleanup left;
-        release_unwanted(session, until, true);
-        left = release_left(session, all, until);
+        release_unwanted(session, until, true, false);
+        left = release_left(session, all, until, false);
         if (all && session->host)
             remove_old_signs(session);
         *released = left.released;
@@ -917,7 +918,7 @@ static int begin(struct mg_session *session, int *disk) {
         return mg_open_to_look(session->at, &session->eye, disk);
     if (session->flags & MG_KEEP)
         status = keep_left(session);
-    return status == MG_OK ? release_left(session, false, milliseconds() + PATIENCE).status : status;
+    return status == MG_OK ? release_left(session, false, milliseconds() + PATIENCE, false).status : status;
 }
 
 int mg_begin(const char *folder, unsigned host, unsigned flags, struct mg_session **out, int *disk) {
