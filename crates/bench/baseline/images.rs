@@ -74,13 +74,20 @@ fn attempt(disks: &[File], slot: u64, phases: u8, command: &[u8; VALUE], row: &m
     }
 }
 
+/// A look at a slot without a mark: more than half of the disks show that.
+fn look(disks: &[File], slot: u64, row: &mut [u8; ROW]) {
+    for disk in &disks[..disks.len() / 2 + 1] {
+        read_twice(disk, row, row_of(slot));
+    }
+}
+
 /// The marking of a slot whose block was written twice: its first copy is written again, from a gate that is open.
 fn mark(disks: &[File], slot: u64, command: &[u8; VALUE], row: &mut [u8; ROW]) {
     let copy = marked(command);
     let place = row_of(slot);
     for disk in disks {
         disk.sync_data().unwrap();
-        disk.read_exact_at(row, place).unwrap();
+        read_twice(disk, row, place);
         disk.write_all_at(&[0], place).unwrap();
         disk.sync_data().unwrap();
         disk.write_all_at(&copy[1..], place + 1).unwrap();
@@ -145,18 +152,21 @@ fn main() {
         }
         "submit" => {
             let disks = open_all(dir);
+            look(&disks, 0, &mut row);
             attempt(&disks, 0, 2, &command(0), &mut row);
             println!("ack 0 12 NoSuchLock");
             mark(&disks, 0, &command(0), &mut row);
         }
         _ => {
             let disks = open_all(dir);
-            for slot in 0..slots {
-                if with_marks {
-                    open_row(&disks, slot, &mut row);
-                } else {
-                    attempt(&disks, slot, 2, &command(slot), &mut row);
-                }
+            // One disk tells each marked slot.
+            let marked = if with_marks { slots } else { 0 };
+            for slot in 0..marked {
+                read_twice(&disks[0], &mut row, row_of(slot));
+            }
+            look(&disks, marked, &mut row);
+            for slot in marked..slots {
+                attempt(&disks, slot, 2, &command(slot), &mut row);
             }
             attempt(&disks, slots, 1, &[0; VALUE], &mut row);
             println!("recovered {slots}");

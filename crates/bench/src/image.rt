@@ -4,8 +4,9 @@ ghost use Rattle.paxos_block.specs.Places;
 ghost use Rattle.attempt.specs.History.{Fits};
 ghost use Rattle.phases.specs.Calls.{IsWithin, device_call_of, heard_of};
 
-use disk::{NoMemory, SimDisk};
-use paxos_block::image_length;
+use crate::bench_failure::BenchFailure;
+use disk::{Disk, DiskFault, SimDisk};
+use paxos_block::{image_length, row_place};
 use phases::{DeviceCall, Heard, answer_of};
 use std::alloc::Global;
 use torn_block::{ClusterLayout, ROW_LENGTH, SLOTS};
@@ -18,11 +19,11 @@ pub struct Image {
 }
 
 impl Image {
-    /// All rows are blank.
-    pub fn new(alloc: Global) -> Result<Image, NoMemory> {
-        Ok(Image {
-            disk: SimDisk::new(alloc, image_length::<ClusterLayout>(SLOTS))?,
-        })
+    /// All rows are blank, and each has its room: a simulated disk gives it that at the first write, which plain code does beforehand.
+    pub fn new(alloc: Global) -> Result<Image, BenchFailure> {
+        let mut disk = SimDisk::new(alloc, image_length::<ClusterLayout>(SLOTS))?;
+        give_rooms(&mut disk)?;
+        Ok(Image { disk })
     }
 
     /// Makes the call. A read goes to `row`.
@@ -32,4 +33,15 @@ impl Image {
     {
         answer_of(&mut self.disk, call, row)
     }
+}
+
+fn give_rooms(disk: &mut SimDisk) -> Result<(), DiskFault>
+    requires { length disk.old.disk.bytes ≡ Places.image_length SLOTS }
+    ensures { length disk.new.disk.bytes ≡ Places.image_length SLOTS }
+{
+    let boot = disk.attach()?;
+    for slot in 0..SLOTS {
+        disk.write(boot, row_place::<ClusterLayout>(slot), &[0])?;
+    }
+    disk.sync(boot)
 }

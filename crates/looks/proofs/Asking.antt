@@ -1,5 +1,5 @@
 -- How a look goes on with an answer: what is kept follows from the answers with one more.
-use Rattle.std.specs.Prelude.{◌&&◌, ◌-◌, nat_lt, nat_le, is_some, if◌then◌else◌, option_and_then}
+use Rattle.std.specs.Prelude.{◌&&◌, ◌-◌, nat_lt, is_some, if◌then◌else◌, option_and_then}
 use Rattle.std.specs.Option.{option_map}
 use Rattle.std.proofs.Common.{ℕ, zero, suc, ◌+◌, ◌*◌, ◌<◌, ◌≤◌, ◌≡◌, ◌≢◌, Bool, true, false, cond, not, Option, Some, None, List, [], ◌∷◌, ◌++◌, length, refl, sym, subst, ap, ◌∙◌, arith, inl, inr}
 use Rattle.std.proofs.lemmas.Bool.{cases_eq, cases_lt, lt-ltb, le-ltb, le-leb, lt-leb}
@@ -19,7 +19,7 @@ use Rattle.looks.specs.declared.notes.Notes.{Notes}
 use Rattle.looks.specs.declared.notes.Stage.{Stage}
 use Rattle.looks.specs.declared.notes.Stage.TheVariants as stage
 use Rattle.looks.proofs.Counting.{count_one_more}
-use Rattle.looks.proofs.Turns.{turn_at, turn_first, disk_of_turn, at_inside, turn_inside, lower_before}
+use Rattle.looks.proofs.Turns.{turn_at, turn_first, disk_of_turn, at_inside, lower_before}
 
 -- WHERE IT STANDS
 

@@ -1,18 +1,17 @@
 // What a look keeps of what it has heard, and how each answer changes it.
 ghost use Rattle.std.specs.Prelude.{◌≡◌, ◌<◌, ◌≤◌, ◌+◌, ℕ, List, true, [], Some, None};
 ghost use Rattle.torn_block.specs.declared.layout.TheConstants.{DISKS, ROW_LENGTH};
-ghost use Rattle.torn_block.specs.Layout.{cluster_version};
 ghost use Rattle.paxos_block.specs.Places.{row_place};
-ghost use Rattle.paxos_block.specs.Row.{decoded_row};
+ghost use Rattle.paxos_block.specs.Row.{DecodedBlock, decoded_row};
+ghost use Rattle.paxos_block.specs.Votes.{marked_in};
 ghost use Rattle.phases.specs.Calls.{IsWithin, device_call_of, heard_of};
-ghost use Rattle.phases.specs.Moves.{ReadsAs};
 ghost use Rattle.attempt.specs.Answers as answers;
 ghost use Rattle.attempt.specs.Answers.{Answers, more};
 ghost use Rattle.looks.specs.Kept.{IsSound, IsSameLook, AreAsked, IsPast, Follows, FitsStage, disk_at, disk_of, turn_of, setup_of, call_at};
 
 use crate::end::End;
 use disk::Boot;
-use paxos_block::{Row, Value, read_row, row_place};
+use paxos_block::{PBlock, Value, read_gist, row_place};
 use phases::{DeviceCall, Heard};
 use torn_block::{ClusterLayout, ROW_LENGTH};
 
@@ -106,8 +105,8 @@ impl Notes {
         }
     }
 
-    // The bytes of the row were read. The row is a local variable here, and not in the caller: a function sets up its locals at
-    // each call.
+    // The bytes of the row were read. What is made of them is a local variable here, and not in the caller: a function sets up its
+    // locals at each call.
     #[inline(never)]
     fn hear_row(&mut self, bytes: &[u8; ROW_LENGTH])
         requires sound { IsSound self.old }
@@ -118,24 +117,24 @@ impl Notes {
         ensures follows { (f : Answers) → Follows f self.old →
             Follows (more f (disk_of self.old) (answers.Told (decoded_row bytes.now))) self.new }
     {
-        let mut row = Row::blank();
-        match read_row::<ClusterLayout>(&mut row, bytes) {
-            Ok(()) => self.take_row(&row),
+        // Of the gist the mark alone is looked at, which is the same for every host and whatever vote was found before.
+        match read_gist::<ClusterLayout>(bytes, 0, &PBlock::blank()) {
+            Ok(gist) => self.take_row(gist.marked),
             Err(_) => self.pass_over(),
         }
     }
 
-    // A sound row was read. A mark there tells the slot's value.
-    fn take_row(&mut self, row: &Row<Value>)
+    // A sound row was read, and its first marked block has this input. That tells the slot's value.
+    fn take_row(&mut self, mark: Option<Value>)
         requires sound { IsSound self.old }
         requires going { self.old.end ≡ None }
         requires stage { (boot : _) × (self.old.stage ≡ Stage.Reading boot) }
         ensures sound { IsSound self.new }
         ensures same { IsSameLook self.old self.new }
-        ensures follows { (f : Answers) (bytes : List ℕ) → ReadsAs cluster_version (λ value. value) bytes row.now → Follows f self.old →
-            Follows (more f (disk_of self.old) (answers.Told (decoded_row bytes))) self.new }
+        ensures follows { (f : Answers) (row : List DecodedBlock) → marked_in row ≡ mark → Follows f self.old →
+            Follows (more f (disk_of self.old) (answers.Told (Some row))) self.new }
     {
-        match row.marked() {
+        match mark {
             Some(value) => {
                 let disk = self.disk();
                 self.end = Some(End::Decided { disk, value });
