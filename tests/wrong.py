@@ -145,12 +145,27 @@ def back():
             os.rmdir(folder)
 
 
+def with_those_below(names):
+    """The lines of crates.txt for these crates and all that they stand on."""
+    lines = {line.split(":")[0].split()[0]: line for line in text_of(f"{TOP}/crates.txt").split("\n") if ":" in line and not line.startswith("#")}
+    found, left = {}, list(names)
+    while left:
+        crate = left.pop()
+        if crate in lines and crate not in found:
+            found[crate] = lines[crate]
+            left += lines[crate].split(":")[1].split()
+    return found
+
+
 def copy_with(names, to):
-    """Makes a repository in which these crates have their wrong bodies in must-fail/, and the others have none."""
+    """Makes a repository of these crates, with their wrong bodies in must-fail/, and of those that they stand on, which have none."""
+    needed = with_those_below(names)
     os.makedirs(f"{to}/.git")
-    for name in ("HANDLES", "crates.txt"):
-        shutil.copy(f"{TOP}/{name}", to)
-    shutil.copytree(f"{TOP}/crates", f"{to}/crates", ignore=lambda _, found: {"out", "must-fail", "wrong"} & set(found))
+    shutil.copy(f"{TOP}/HANDLES", to)
+    with open(f"{to}/crates.txt", "w", encoding="utf-8") as it:
+        it.writelines(f"{line}\n" for line in needed.values())
+    for crate in needed:
+        shutil.copytree(f"{TOP}/crates/{crate}", f"{to}/crates/{crate}", ignore=shutil.ignore_patterns("out", "must-fail", "wrong"))
     for crate in names:
         os.mkdir(f"{to}/crates/{crate}/must-fail")
         for edit in edits_of(crate):
@@ -163,7 +178,7 @@ def attempt(names):
     refused = set()
     with tempfile.TemporaryDirectory() as room:
         copy_with(names, room)
-        with subprocess.Popen(["rt", "ci", *names], cwd=room, stdin=subprocess.DEVNULL, stdout=subprocess.PIPE, text=True, errors="replace") as ran:
+        with subprocess.Popen(["rt", "ci"], cwd=room, stdin=subprocess.DEVNULL, stdout=subprocess.PIPE, text=True, errors="replace") as ran:
             for line in ran.stdout:
                 at = re.match(r"rt: must-fail (\w+/\S+\.edit): refused, as it must be", line)
                 if at:

@@ -8,6 +8,9 @@ mkdir -p -- "$work/bin" "$work/tests"
 cp -- "$tests/wrong.py" "$work/tests"
 echo 'Handles allowed: none.' > "$work/HANDLES"
 echo 'a: b' > "$work/crates.txt"
+for crate in b c d e f g h i; do
+    echo "$crate:" >> "$work/crates.txt"
+done
 for crate in a b c d e f g h i; do
     mkdir -p -- "$work/crates/$crate/"{src,specs,proofs,wrong,must-fail}
     echo 'one two' | tee -- "$work/crates/$crate/"{src/lib.rt,specs/Lib.antt,proofs/Lib.antt} > /dev/null
@@ -16,9 +19,10 @@ done
 cat > "$work/bin/rt" << 'END'
 #!/usr/bin/env bash
 [[ $1 != version ]] || { echo a kit; exit; }
-shift
-for crate in "$@"; do
+[[ $# -eq 1 && $1 == ci ]] || exit 2
+while IFS=: read -r crate _; do
     for edit in "crates/$crate/must-fail/"*.edit; do
+        [[ -e $edit ]] || continue
         name=$crate/${edit##*/}
         if grep -qx -- "$name" "$LET_THROUGH"; then
             echo "rt: must-fail $name: NOT REFUSED: the crate is still proved with this edit"
@@ -26,7 +30,7 @@ for crate in "$@"; do
             echo "rt: must-fail $name: refused, as it must be"
         fi
     done
-done
+done < crates.txt
 echo "3 passed, 0 failed"
 END
 chmod +x -- "$work/bin/rt"
