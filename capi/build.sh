@@ -1,5 +1,5 @@
 #!/usr/bin/env bash
-# Makes libmidgegalena.a, libmidgegalena.so.VERSION, mg-lock and midgegalena.pc in capi/out, where they are not newer than all that they are made of.
+# Makes libmidgegalena.a, libmidgegalena.so.VERSION, mg-lock, dlm-shared and midgegalena.pc in capi/out, where they are not newer than all that they are made of.
 # Proves crates/dlm_c, and what stands below it, first.
 #   capi/build.sh [PREFIX]     where they will be installed, /usr/local if it is left out
 set -euo pipefail
@@ -19,7 +19,7 @@ write_pc() {
 # What stands in proofs/ changes nothing that runs.
 is_made() {
     local sources newer
-    [[ -f $out/libmidgegalena.a && -f $out/libmidgegalena.so.$version && -f $out/mg-lock ]] || return 1
+    [[ -f $out/libmidgegalena.a && -f $out/libmidgegalena.so.$version && -f $out/mg-lock && -f $out/dlm-shared ]] || return 1
     find_sources dlm_c
     newer=$(find "${sources[@]}" "$here"/{include,src} "$here/build.sh" -newer "$out/libmidgegalena.a" -print -quit) && [[ -z $newer ]]
 }
@@ -40,16 +40,17 @@ if ! (cd -- "$top/crates/dlm_c" && rt lib < /dev/null) > "$out/build.log" 2>&1; 
     echo "capi/build.sh: not built: $out/build.log says why" >&2
     exit 125
 fi
-for part in midgegalena mg_session; do
+for part in midgegalena mg_session device sectors; do
     "$cc" -std=c99 -O2 -fPIC -Wall -Wextra -pedantic ${CFLAGS:-} -I "$here/include" -c "$here/src/$part.c" -o "$out/$part.o"
 done
 # One object, of which nothing but mg_* is seen, so that another library of the kit's in the same program does no harm.
-ld -r -o "$out/whole.o" "$out/midgegalena.o" "$out/mg_session.o" "$top/crates/dlm_c/out/libdlm_c.a" "$kit/libos_c.a" "$kit/liblibc_c.a"
+ld -r -o "$out/whole.o" "$out/"{midgegalena,mg_session,device,sectors}.o "$top/crates/dlm_c/out/libdlm_c.a" "$kit/libos_c.a" "$kit/liblibc_c.a"
 objcopy --wildcard --keep-global-symbol='mg_*' "$out/whole.o"
 rm -f -- "$out"/libmidgegalena.*
 ar rcs "$out/libmidgegalena.a" "$out/whole.o"
 "$cc" -shared -Wl,-soname,"libmidgegalena.so.$major" -Wl,-z,defs,-z,relro,-z,now ${CFLAGS:-} -o "$out/libmidgegalena.so.$version" "$out/whole.o"
 "$cc" -std=c99 -O2 -Wall -Wextra -pedantic ${CFLAGS:-} -I "$here/include" "$here/src/mg-lock.c" "$out/libmidgegalena.a" -o "$out/mg-lock"
+"$cc" -std=c99 -O2 -Wall -Wextra -pedantic ${CFLAGS:-} -I "$here/include" "$here/src/"{dlm-shared,device,sectors}.c "$out/libmidgegalena.a" -o "$out/dlm-shared"
 ln -sf "libmidgegalena.so.$version" "$out/libmidgegalena.so.$major"
 ln -sf "libmidgegalena.so.$major" "$out/libmidgegalena.so"
 write_pc

@@ -61,7 +61,7 @@ else
 fi
 
 # Each allocation is refused in turn.
-tried "refused memory, built" cc -std=c99 $common -Wl,--wrap=malloc,--wrap=calloc,--wrap=realloc "$here/tests/refused_memory.c" "$PREFIX/lib/libmidgegalena.a" -o "$work/refused_memory"
+tried "refused memory, built" cc -std=c99 $common -Wl,--wrap=malloc,--wrap=calloc,--wrap=realloc,--wrap=posix_memalign "$here/tests/refused_memory.c" "$PREFIX/lib/libmidgegalena.a" -o "$work/refused_memory"
 folder
 tried "refused memory" "$work/refused_memory" "$work/images"
 
@@ -101,10 +101,114 @@ for set in 1 2 3 4 5 6 7; do
     tried "headers after closed $set" test "$(headers)" = "$wanted"
 done
 
+# Devices that several machines use: bytes, calls that fail, host numbers; and the same tests over such images, in files. tests/machines.sh has devices.
+tried "sectors, built" cc -std=c99 $common "$here/tests/sectors.c" "$here/src/sectors.c" -o "$work/sectors"
+tried "sectors" "$work/sectors"
+device_calls=(-std=c99 $common -Wl,--wrap=pread,--wrap=pwrite,--wrap=fdatasync "$here/tests/devices.c" "$here/src/device.c" "$here/src/sectors.c")
+tried "devices, built" cc "${device_calls[@]}" -o "$work/devices"
+tried "shared, built" cc -std=c99 $common "$here/tests/shared.c" $flags -o "$work/shared"
+for program in calls values sessions full_log contend failover; do
+    source=$here/tests/$program.c
+    [[ $program != failover ]] || source=$here/examples/c/failover.c
+    tried "$program over shared devices, built" cc -std=c99 $common -include "$here/tests/over_shared.h" "$source" $flags -o "$work/shared_$program"
+done
+folder
+"$work/shared" "$work/images" > "$work/said.txt" 2>&1 && is_direct=0 || is_direct=$?
+if [[ $is_direct -eq 3 ]]; then
+    left_out "shared devices in files: the file system of $work takes no O_DIRECT"
+else
+    tried "shared" bash -c 'cat -- "$1"; exit "$2"' _ "$work/said.txt" "$is_direct"
+    folder
+    for k in 0 1 2; do truncate -s 128K -- "$work/images/$k"; done
+    truncate -s 40K -- "$work/images/3"
+    tried "devices" "$work/devices" "$work/images/"{0,1,2,3}
+    for program in calls values sessions full_log contend failover; do
+        folder
+        given=("$work/images")
+        [[ $program != contend ]] || given+=(4 20)
+        tried "$program over shared devices" "$work/shared_$program" "${given[@]}"
+    done
+fi
+if [[ $is_direct -ne 3 ]]; then
+    # Each line of words, and what dlm-shared prints for it.
+    shared_words() (
+        cd -- "$work"
+        while IFS= read -r words; do
+            echo "\$ $words"
+            # shellcheck disable=SC2086
+            "$PREFIX/bin/dlm-shared" $words 2>&1 || echo "status $?"
+        done
+    )
+    folder
+    mkdir -- "$work/images/copy"
+    cat > "$work/wanted.txt" << 'END'
+$ format images 3 12 7 4 512
+formatted 3 disks, 12 slots
+$ format images 3 12 7 4 512
+dlm: 29 AlreadyThere
+status 1
+$ submit images 0 enqueue 1 1 1 EX db
+ack 0 Granted
+$ submit images 1 enqueue 2 1 2 NL db
+ack 1 Granted
+$ submit images 2 enqueue 3 1 3 PR db
+ack 2 Queued
+$ submit images 3 enqueue 3 2 4 PR db noqueue
+ack 3 16 NotQueued
+$ submit images 0 convert 1 2 1 PW value 000102030405060708090a0b0c0d0e0f
+ack 4 Granted
+$ submit images 1 status 2 2 3
+ack 5 State(held=-, wanted=PR)
+$ submit images 2 cancel 3 3 3
+ack 6 Cancelled
+$ submit images 1 purge 2 3 3
+ack 7 Purged(0)
+$ table images 3
+recovered 8
+db 000102030405060708090a0b0c0d0e0f
+  granted 1 1 0 PW
+  granted 2 2 1 NL
+$ submit images 0 release 1 3 1
+ack 8 Released
+$ mark images 1
+recovered 9
+marked 0 slots
+$ submit images 0 convert 1 4 1 EX noqueue value
+dlm: bad command
+status 2
+$ submit images 0 release 1 4 1 noqueue
+dlm: bad command
+status 2
+$ submit images 4 release 1 4 1
+dlm-shared: 4: the devices have no such host number
+status 2
+$ submit images 16 release 1 4 1
+dlm: usage
+status 2
+$ table images 00
+dlm: usage
+status 2
+$ export images images/copy
+exported 3 images
+$ renew images 0 images/copy 3 12 8
+dlm-shared: renew: a log on shared devices is not renewed: dlm makes images of layout 2, and nothing puts a table onto such devices
+status 2
+END
+    sed -n 's/^\$ //p' "$work/wanted.txt" > "$work/words.txt"
+    shared_words < "$work/words.txt" > "$work/said.txt"
+    tried "what dlm-shared says" diff "$work/wanted.txt" "$work/said.txt"
+    if [[ -x $dlm ]]; then
+        tried "dlm check of what dlm-shared copied" bash -c '"$1" check "$2" | cmp - <(echo sound)' _ "$dlm" "$work/images/copy"
+        tried "dlm-shared check" bash -c 'PATH=$(dirname -- "$1"):$PATH "$2" check "$3" | cmp - <(echo sound)' _ "$dlm" "$PREFIX/bin/dlm-shared" "$work/images"
+    fi
+fi
+source=$here/examples/dlm-mount
+tried "dlm-mount, built" cc -std=gnu11 -O2 -Wall -Wextra -Werror -I "$here/src" "$source/dlm-mount.c" "$here/src/device.c" "$here/src/sectors.c" -o "$work/dlm-mount"
+
 # A host dies before it has marked its release: a wait ends all the same.
 if command -v rt > /dev/null; then
     kit=$(dirname -- "$(dirname -- "$(readlink -f -- "$(command -v rt)")")")/c
-    tried "unmarked, built" cc -std=c99 $common "$here/tests/unmarked.c" "$here/src/mg_session.c" "$top/crates/dlm_c/out/libdlm_c.a" "$kit/libos_c.a" "$kit/liblibc_c.a" -o "$work/unmarked"
+    tried "unmarked, built" cc -std=c99 $common "$here/tests/unmarked.c" "$here/src/"{mg_session,device,sectors}.c "$top/crates/dlm_c/out/libdlm_c.a" "$kit/libos_c.a" "$kit/liblibc_c.a" -o "$work/unmarked"
     folder
     tried "unmarked" "$work/unmarked" "$work/images"
 fi
@@ -329,21 +433,23 @@ tried "manual page" bash -c 'for call in $(nm -D --defined-only "$1" | sed -n "s
 
 # No formatter has anything to say about the manual pages.
 if command -v groff > /dev/null; then
-    for page in midgegalena.3 mg_session.3 mg-lock.1; do tried "man/$page" bash -c '! groff -ww -mdoc -Tutf8 -z "$1" 2>&1 | grep .' _ "$top/man/$page"; done
+    for page in midgegalena.3 mg_session.3 mg-lock.1 dlm-shared.1; do tried "man/$page" bash -c '! groff -ww -mdoc -Tutf8 -z "$1" 2>&1 | grep .' _ "$top/man/$page"; done
 else
     left_out "manual pages: there is no groff"
 fi
 
 # How much C no proof covers: the lines that are neither blank nor comment.
-lines=$(($(awk -f "$here/tests/lines.awk" "$here/src/midgegalena.c") + $(awk -f "$here/tests/lines.awk" "$here/src/mg_session.c")))
+lines=0
+for part in midgegalena mg_session device sectors; do lines=$((lines + $(awk -f "$here/tests/lines.awk" "$here/src/$part.c"))); done
 for page in README.md docs/LIBRARY.md; do tried "lines of C in $page" grep -q "\b$lines lines of C" "$top/$page"; done
 
 # Memory.
 if command -v valgrind > /dev/null; then
-    for program in calls values full_log refused_memory images_test failover contend; do
+    for program in calls values full_log refused_memory images_test failover contend shared_calls shared_contend; do
+        [[ $program != shared_* || $is_direct -ne 3 ]] || continue
         folder
         given=("$work/images")
-        [[ $program != contend ]] || given+=(3 5)
+        [[ $program != *contend ]] || given+=(3 5)
         tried "valgrind $program" valgrind -q --leak-check=full --errors-for-leak-kinds=all --error-exitcode=9 "$work/$program" "${given[@]}"
     done
     if [[ -x $dlm ]] && command -v python3 > /dev/null; then
@@ -358,7 +464,7 @@ if echo 'int main(void) { return 0; }' | cc -x c -fsanitize=address,undefined - 
     kit=$(dirname -- "$(dirname -- "$(readlink -f -- "$(command -v rt)")")")/c
     for program in calls values full_log images contend; do
         tried "sanitized $program, built" cc -std=c99 $common -fsanitize=address,undefined -fno-sanitize-recover=all "$here/tests/$program.c" \
-            "$here/src/midgegalena.c" "$top/crates/dlm_c/out/libdlm_c.a" "$kit/libos_c.a" "$kit/liblibc_c.a" -o "$work/sanitized_$program"
+            "$here/src/"{midgegalena,device,sectors}.c "$top/crates/dlm_c/out/libdlm_c.a" "$kit/libos_c.a" "$kit/liblibc_c.a" -o "$work/sanitized_$program"
         folder
         given=("$work/images")
         [[ $program != contend ]] || given+=(3 5)
@@ -366,6 +472,14 @@ if echo 'int main(void) { return 0; }' | cc -x c -fsanitize=address,undefined - 
     done
 else
     left_out "gcc's sanitizers: they are not there"
+fi
+
+# The same of the calls on shared devices.
+if [[ -f $work/sanitizer && $is_direct -ne 3 ]]; then
+    tried "sanitized devices, built" cc -fsanitize=address,undefined -fno-sanitize-recover=all "${device_calls[@]}" -o "$work/sanitized_devices"
+    folder
+    for k in 0 1 2; do truncate -s 128K -- "$work/images/$k"; done
+    tried "sanitized devices" "$work/sanitized_devices" "$work/images/"{0,1,2}
 fi
 
 # The same of sessions, and of mg-lock.
@@ -383,7 +497,7 @@ if command -v valgrind > /dev/null; then
     done
 fi
 if [[ -f $work/sanitizer ]] && command -v rt > /dev/null; then
-    sanitized=(-std=c99 $common -fsanitize=address,undefined -fno-sanitize-recover=all "$here/src/"{midgegalena,mg_session}.c)
+    sanitized=(-std=c99 $common -fsanitize=address,undefined -fno-sanitize-recover=all "$here/src/"{midgegalena,mg_session,device,sectors}.c)
     proved=("$top/crates/dlm_c/out/libdlm_c.a" "$kit/libos_c.a" "$kit/liblibc_c.a")
     tried "sanitized sessions, built" cc "${sanitized[@]}" "$here/tests/sessions.c" "${proved[@]}" -o "$work/sanitized_sessions"
     folder

@@ -1,5 +1,5 @@
 #!/usr/bin/env bash
-# Puts headers, libraries, midgegalena.pc, mg-lock, its completions and the manual pages in place, below PREFIX (none given: /usr/local), with
+# Puts headers, libraries, midgegalena.pc, mg-lock, dlm-shared, their completions and the manual pages in place, below PREFIX (none given: /usr/local), with
 # DESTDIR in front of it where one is given. `capi/install.sh uninstall` takes them out. Both print the files. What is missing is built first.
 set -euo pipefail
 here=$(cd -- "$(dirname -- "$(readlink -f -- "${BASH_SOURCE[0]}")")" && pwd)
@@ -18,12 +18,17 @@ each() {
     "$1" out/libmidgegalena.so lib/libmidgegalena.so
     "$1" out/midgegalena.pc lib/pkgconfig/midgegalena.pc
     "$1" out/mg-lock bin/mg-lock
+    "$1" out/dlm-shared bin/dlm-shared
     "$1" ../man/midgegalena.3 share/man/man3/midgegalena.3
     "$1" ../man/mg_session.3 share/man/man3/mg_session.3
     "$1" ../man/mg-lock.1 share/man/man1/mg-lock.1
+    "$1" ../man/dlm-shared.1 share/man/man1/dlm-shared.1
     "$1" ../completions/mg-lock.bash share/bash-completion/completions/mg-lock
     "$1" ../completions/_mg-lock share/zsh/site-functions/_mg-lock
     "$1" ../completions/mg-lock.fish share/fish/vendor_completions.d/mg-lock.fish
+    "$1" ../completions/dlm-shared.bash share/bash-completion/completions/dlm-shared
+    "$1" ../completions/_dlm-shared share/zsh/site-functions/_dlm-shared
+    "$1" ../completions/dlm-shared.fish share/fish/vendor_completions.d/dlm-shared.fish
 }
 
 put() {

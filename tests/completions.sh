@@ -1,5 +1,5 @@
 #!/usr/bin/env bash
-# The completions: lines are typed into an interactive bash, which has read completions/dlm.bash and mg-lock.bash, and then the key that puts in all
+# The completions: lines are typed into an interactive bash, which has read dlm.bash, mg-lock.bash and dlm-shared.bash of completions/, and then the key that puts in all
 # that could stand here (M-*); what the line has come to is compared. Of zsh and fish the files are read, and fish is asked too,
 # where they are installed.
 set -uo pipefail
@@ -11,13 +11,14 @@ mkdir -- "$work/images" "$work/more images"
 printf '#!/usr/bin/env bash\nprintf "line:"; printf " <%%s>" "$@"; echo\n' >"$work/dlm"
 chmod +x "$work/dlm"
 cp -- "$work/dlm" "$work/mg-lock"
+cp -- "$work/dlm" "$work/dlm-shared"
 cd -- "$work" || exit 1
 tried=0
 
 # The words of the line that bash makes of what is typed.
 completed() {
     {
-        printf 'source "%s"\n' "$top/completions/"{dlm,mg-lock}.bash
+        printf 'source "%s"\n' "$top/completions/"{dlm,mg-lock,dlm-shared}.bash
         printf '%s\e*\n' "$1"
     } | PATH=$work:$PATH INPUTRC=/dev/null PS1='' bash --norc --noprofile -i 2>/dev/null | grep '^line:' | cut -c 7-
 }
@@ -36,6 +37,13 @@ expect() {
 expect 'dlm ' '<check> <fill> <format> <mark> <migrate> <race> <renew> <run> <submit> <sweep> <table>'
 expect 'dlm f' '<fill> <format>'
 expect 'dlm race ' '<race> <1> <2> <3> <4> <5> <6> <7> <8> <9> <10> <11> <12> <13> <14> <15> <16>'
+expect 'dlm-shared ' '<check> <export> <format> <mark> <submit> <table> <take>'
+expect 'dlm-shared take im' '<take> <images>'
+expect 'dlm-shared take images ' '<take> <images> <0> <1> <2> <3> <4> <5> <6> <7> <8> <9> <10> <11> <12> <13> <14> <15>'
+expect 'dlm-shared export images ' '<export> <images> <images> <more images>'
+expect 'dlm-shared format images 3 64 7 4 ' '<format> <images> <3> <64> <7> <4> <512> <1024> <2048> <4096> <nodsync>'
+expect 'dlm-shared format images 3 64 7 4 512 ' '<format> <images> <3> <64> <7> <4> <512> <nodsync>'
+expect 'dlm-shared submit images 0 convert 1 2 1 P' '<submit> <images> <0> <convert> <1> <2> <1> <PR> <PW>'
 expect 'dlm run o' '<run> <one.dlm>'
 expect 'dlm sweep o' '<sweep> <one.dlm>'
 expect 'dlm table ' '<table> <images> <more images>'
@@ -69,7 +77,7 @@ expect 'mg-lock images 0 db -- one' '<images> <0> <db> <--> <one.dlm>'
 # asked TYPED WORDS: fish offers these words.
 asked() {
     local words
-    words=$(fish --no-config -c "source '$top/completions/dlm.fish'; source '$top/completions/mg-lock.fish'; complete -C '$1'" 2>&1 | cut -f 1 | LC_ALL=C sort | tr '\n' ' ')
+    words=$(fish --no-config -c "source '$top/completions/dlm.fish'; source '$top/completions/mg-lock.fish'; source '$top/completions/dlm-shared.fish'; complete -C '$1'" 2>&1 | cut -f 1 | LC_ALL=C sort | tr '\n' ' ')
     tried=$((tried + 1))
     if [[ $words != "$2 " ]]; then
         echo "fish: '$1' offers $words, not $2"
@@ -83,12 +91,13 @@ if command -v fish >/dev/null; then
     asked 'dlm submit images 0 ' 'cancel convert enqueue purge release status'
     asked 'dlm submit images 0 enqueue 1 1 1 ' 'CR CW EX NL PR PW'
     asked 'dlm submit images 0 convert 1 2 1 PW ' 'noqueue value'
+    asked 'dlm-shared take images ' '0 1 10 11 12 13 14 15 2 3 4 5 6 7 8 9'
     asked 'mg-lock -s ' 'images/ more images/'
     asked 'mg-lock -s images ' '0 1 10 11 12 13 14 15 2 3 4 5 6 7 8 9'
     asked 'dlm submit images 0 purge 1 2 ' '0 1 10 11 12 13 14 15 2 3 4 5 6 7 8 9'
 fi
 if command -v zsh >/dev/null; then
-    for file in _dlm _mg-lock; do
+    for file in _dlm _mg-lock _dlm-shared; do
         tried=$((tried + 1))
         zsh -n "$top/completions/$file" || failed=$((failed + 1))
     done

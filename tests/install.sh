@@ -3,9 +3,9 @@
 set -uo pipefail
 
 source "$(dirname -- "$(readlink -f -- "${BASH_SOURCE[0]}")")/lib.sh"
-# With the library for C there are fourteen more, two of them links.
+# With the library for C there are nineteen more, two of them links.
 files=5
-[[ ! -f $top/capi/out/libmidgegalena.a ]] || files=19
+[[ ! -f $top/capi/out/libmidgegalena.a ]] || files=24
 
 for prefix in /usr/local '/opt/lock manager'; do
     DESTDIR=$work/root PREFIX=$prefix "$top/install.sh" >"$work/told" 2>"$work/said" || fail "ends with $?"

@@ -1,6 +1,6 @@
 """What stands in a folder of images, read without the program: the log slot by slot, and what a plain lock table makes of it.
 
-For at_once.py and power_loss.py. docs/FORMAT.md has the bytes, crates/lock_table/specs/Apply.antt the table."""
+For at_once.py, power_loss.py, machines.py and sector_loss.py. docs/FORMAT.md has the bytes, crates/lock_table/specs/Apply.antt the table."""
 
 import os
 import shutil
@@ -56,6 +56,22 @@ def header(data):
     if len(data) < 1024 or data[0] != 0xA5 or data[1] != 2:
         return None
     return data[2], data[3], int.from_bytes(data[4:8], "big"), int.from_bytes(data[8:16], "big")
+
+
+def as_layout_2(data):
+    """An image of layout 2 out of the bytes of a device whose blocks have sectors of their own (version 3 of docs/FORMAT.md). Other bytes stay."""
+    if len(data) < 4096 or data[0] != 0xA5 or data[1] != 3:
+        return bytes(data)
+    slots, sector, hosts = int.from_bytes(data[4:8], "big"), int.from_bytes(data[16:20], "big"), data[21]
+    image = bytearray(length(slots))
+    image[:16] = data[:16]
+    image[1] = 2
+    for row in range(1 + slots):
+        for host in range(hosts):
+            at = ROW * (1 + row) + BLOCK * host
+            begin = 4096 + (row * hosts + host) * sector
+            image[at:at + BLOCK] = data[begin:begin + BLOCK]
+    return bytes(image)
 
 
 def open_copies(block):

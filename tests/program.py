@@ -209,6 +209,25 @@ def images_of_the_layout_before():
 
 
 @test
+def devices_of_several_machines():
+    """Their bytes, in files: each task refuses them, and writes nothing there."""
+    bytes_of_disks = {}
+    for disk in range(3):
+        header = bytes.fromhex(f"a503{disk:02x}03" "00000010" "0000000000000007" "00001000" "01100100")
+        bytes_of_disks[f"disk{disk}.img"] = header.ljust(4096, b"\0") + bytes(17 * 16 * 4096)
+        with open(f"disk{disk}.img", "wb") as file:
+            file.write(bytes_of_disks[f"disk{disk}.img"])
+    os.mkdir("new")
+    for text in ("table . 0", "mark . 0", "check .", "submit . 0 enqueue 1 1 1 EX db", "fill . 0", "renew . 0 new 3 16 8", "migrate . new 16"):
+        refused(text, "dlm: 25 WrongHeader disk0\n")
+    refused("format . 3 16 7", "dlm: 29 AlreadyThere\n")
+    for name, data in bytes_of_disks.items():
+        with open(name, "rb") as file:
+            wants(name, file.read() == data, True)
+    wants("new images", [name for name in os.listdir("new") if name.endswith(".img")], [])
+
+
+@test
 def headers_that_disagree():
     images(3, 4)
     os.mkdir("other")

@@ -38,7 +38,8 @@ struct mg_session;
 #define MG_SHARE 2u
 
 /* Opens the folder for a host number, learns all, and releases what former runs of this host number left. Without MG_SHARE the
- * number is the session's own until mg_end, and MG_HOST_IN_USE says that another process has it. At MG_OK `*out` is a session,
+ * number is the session's own until mg_end, and MG_HOST_IN_USE says that another process has it, or on devices that several machines
+ * use another machine: then errno is EREMOTE, and no call waits for it. At MG_OK `*out` is a session,
  * which is to be ended; else it is NULL. Where such locks could not be released it says why, as MG_LOG_FULL. `disk` as in mg_open.
  *
  * Each lock of a session has a sign of life, the file mg-lock.SET.HOST.LOCK in the folder, where SET is its cluster number. The session

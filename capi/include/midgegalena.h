@@ -26,9 +26,9 @@ extern "C" {
 
 /* The library's numbers: an increase of the first breaks programs, an increase of the second adds to what there is. */
 #define MG_VERSION_MAJOR 0
-#define MG_VERSION_MINOR 4
+#define MG_VERSION_MINOR 5
 
-/* "0.4", of the library that is linked. */
+/* "0.5", of the library that is linked. */
 const char *mg_version(void);
 
 /* ---- limits ---- */
@@ -118,14 +118,35 @@ struct mg_host;
  * becomes the image that is at fault, -1 where none is. */
 int mg_format(const char *folder, unsigned disks, unsigned slots, uint64_t cluster, int *disk);
 
+/* The same of devices that several machines use at once (docs/OPERATIONS.md). `diskK.img` in the folder is a link to a block device;
+ * where it is not there it becomes a file. Each block has a sector of its own, and each call on it passes by the machine's cache. All
+ * other calls see by the header what an image is, and work on such devices as on any.
+ *
+ * `hosts` are the numbers that there are from 0 on, 1 to 16; others are MG_BAD_ARGUMENT from then on. `sector` is 512, 1024, 2048 or
+ * 4096 bytes, 0 for 4096. A device whose physical sectors are longer is MG_BAD_ARGUMENT, and `*disk` names it. Each write is made
+ * to last by itself (O_DSYNC), but with the flag MG_NO_DSYNC by the next sync alone. */
+#define MG_NO_DSYNC 1u
+int mg_format_shared(const char *folder, unsigned disks, unsigned slots, uint64_t cluster, unsigned hosts, unsigned sector, unsigned flags, int *disk);
+
 /* Opens a folder's images for the host of this number, 0 to 15, and locks the number. At MG_OK `*out` is a host that has
- * learned nothing, and is to be closed; else it is NULL. */
+ * learned nothing, and is to be closed; else it is NULL.
+ *
+ * On devices that several machines use a number belongs to the machine that opened it first. The devices keep its name: 32 digits, those
+ * of the file machine-id in the folder, or where there is none of /etc/machine-id. Another machine gets MG_HOST_IN_USE with errno EREMOTE,
+ * one without a name MG_NO_LOCK, and one that reaches half of the devices or fewer MG_NO_MAJORITY. */
 int mg_open(const char *folder, unsigned host, struct mg_host **out, int *disk);
 
 /* Opens a folder's images to read alone: for mg_look, mg_wait, and what shows the table. It takes no host number, locks nothing
  * and writes nothing, so any number of processes may do so at once, beside those that work under the numbers. mg_refresh, mg_mark
  * and all commands are refused, MG_ONLY_LOOKS, and mg_wait does not recover. mg_host_facts tells host 0, which says nothing here. */
 int mg_open_to_look(const char *folder, struct mg_host **out, int *disk);
+
+/* Makes a host number of such devices this machine's. It is the caller's word that the machine that had it is off, or cut off from the
+ * devices: nobody here sees to that. MG_BAD_ARGUMENT where the folder has none such. */
+int mg_take_number(const char *folder, unsigned host, int *disk);
+
+/* The name of the machine that has a host number, of 32 digits and a zero; "" where none has it, or there are no such devices. */
+int mg_machine_of(const char *folder, unsigned host, char *into, size_t size);
 
 /* Lets a host and its number go. NULL is nothing. The host's locks stay: they are in the log. */
 void mg_close(struct mg_host *host);

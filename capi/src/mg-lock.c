@@ -55,7 +55,10 @@ __attribute__((format(printf, 1, 2))) static void say(const char *format, ...) {
 /* "36 HostInUse (somebody else works under this host number)" */
 static const char *told(int status) {
     static char text[256];
-    if (status > 0)
+    char machine[33];
+    if (status == MG_HOST_IN_USE && mg_machine_of(asked.folder, asked.host, machine, sizeof machine) == MG_OK && machine[0])
+        snprintf(text, sizeof text, "%d %s (the host number is of machine %s, and in use)", status, mg_name(status), machine);
+    else if (status > 0)
         snprintf(text, sizeof text, "%d %s (%s)", status, mg_name(status), mg_strerror(status));
     else
         snprintf(text, sizeof text, "%s", mg_strerror(status));

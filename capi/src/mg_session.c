@@ -177,11 +177,11 @@ static int mark_all(struct mg_host *host, int64_t until) {
     return status;
 }
 
-/* The same, and with MG_SHARE it waits for its turn. */
+/* The same, and with MG_SHARE it waits for its turn, unless the number is another machine's. */
 static int begin_talk(struct mg_session *session, int64_t until, int *disk) {
     for (;;) {
         int status = open_once(session, disk);
-        bool may_pass = status == MG_OUTRUN || (status == MG_HOST_IN_USE && is_shared(session));
+        bool may_pass = status == MG_OUTRUN || (status == MG_HOST_IN_USE && is_shared(session) && errno != EREMOTE);
         if (!may_pass || pause_for(session, 1 + any_below(16), until, false) != MG_OK)
             return status;
     }

@@ -3,14 +3,12 @@
  * opens the images, makes the device calls that the library names, and hands it what they were answered; it locks the host's
  * number, and it waits. No proof covers this file. It judges no header, no block, no command and no lock.
  */
-#ifndef _DEFAULT_SOURCE
-#define _DEFAULT_SOURCE
-#endif
-#ifndef _POSIX_C_SOURCE
-#define _POSIX_C_SOURCE 200809L
+#ifndef _GNU_SOURCE
+#define _GNU_SOURCE
 #endif
 
 #include "claim.h"
+#include "device.h"
 #include "midgegalena.h"
 
 #include <errno.h>
@@ -276,20 +274,14 @@ static bool write_whole(int file, const uint8_t *from, size_t length, uint64_t a
     return true;
 }
 
-static bool sync_data(int file) {
-    int done;
-    do
-        done = fdatasync(file);
-    while (done != 0 && errno == EINTR);
-    return done == 0;
-}
-
-/* "FOLDER/NAMEnumberEND", to be freed, or NULL. */
-static char *path_of(const char *folder, const char *name, unsigned number, const char *end) {
+/* "FOLDER/NAMEnumberEND", or "FOLDER/NAME" where the number is below 0, to be freed, or NULL. */
+static char *path_of(const char *folder, const char *name, int number, const char *end) {
     size_t size = strlen(folder) + strlen(name) + strlen(end) + 5;
     char *path = malloc(size);
-    if (path)
-        (void)snprintf(path, size, "%s/%s%u%s", folder, name, number % 100, end);
+    if (path && number < 0)
+        (void)snprintf(path, size, "%s/%s", folder, name);
+    else if (path)
+        (void)snprintf(path, size, "%s/%s%d%s", folder, name, number % 100, end);
     return path;
 }
 
@@ -297,17 +289,24 @@ static char *path_of(const char *folder, const char *name, unsigned number, cons
 
 enum { FIRST_TRIES = 8 };
 
+/* LOOKS: without a number, so no call of it writes. TAKES: only to make the number this machine's. */
+enum way { WORKS, LOOKS, TAKES };
+
 struct mg_host {
     struct handle handle;
-    unsigned tries;
-    bool only_looks; /* it has no number, so no call of it writes */
+    unsigned tries, disks;
+    bool only_looks;
     int lock;
-    int files[MG_DISKS]; /* NO_FILE: every call fails */
+    int files[MG_DISKS];          /* NO_FILE: every call fails */
+    struct sectors how[MG_DISKS]; /* of a device that several machines use; of other images the sector is 0 */
+    uint8_t *room;                /* for a row of such a device, NULL where there is none */
     /* The device call that is due, what it writes, and what was read last. */
     struct due_call call;
     struct written written;
     struct row row;
 };
+
+static bool is_shared(const struct mg_host *host, unsigned disk) { return host->how[disk].sector != 0; }
 
 /* Makes the device call that is due, and says what it was answered. It is never an attach: of these the library has the answer,
  * since every file tells boot number 1. */
@@ -319,10 +318,16 @@ static uint32_t make_call(struct mg_host *host) {
         return RESET;
     if (!file || *file == NO_FILE)
         return FAILED;
-    if (call->kind == READ)
+    if (call->kind == READ && is_shared(host, call->disk))
+        done = call->length == ROW_LENGTH && device_read(*file, &host->how[call->disk], host->room, call->at, host->row.bytes);
+    else if (call->kind == READ)
         done = read_settled(*file, host->row.bytes, (size_t)call->length, call->at);
+    else if (call->kind == WRITE && call->length > COPY_LENGTH)
+        done = false;
+    else if (call->kind == WRITE && is_shared(host, call->disk))
+        done = device_write(*file, &host->how[call->disk], host->room, call->at, host->written.bytes, (size_t)call->length);
     else if (call->kind == WRITE)
-        done = call->length <= COPY_LENGTH && write_whole(*file, host->written.bytes, (size_t)call->length, call->at);
+        done = write_whole(*file, host->written.bytes, (size_t)call->length, call->at);
     else if (call->kind == SYNC) {
         done = sync_data(*file);
         if (!done) {
@@ -360,39 +365,64 @@ static void let_go(struct mg_host *host) {
     if (host->lock != NO_FILE)
         close(host->lock);
     dlm_c_close(&host->handle);
+    free(host->room);
     free(host);
 }
 
+/* Opens an image anew, past the machine's cache, if it is a device that several machines use. Tells of it as of an image of layout 2. */
+static bool find_shared(struct mg_host *host, unsigned disk, const char *path, int flags, struct image *image) {
+    struct sectors how = {0, 0, 0, false};
+    int file = open_file(path, flags | O_DIRECT | O_DSYNC);
+    bool is_found = file != NO_FILE && device_find(file, host->room, &how);
+    if (file != NO_FILE && !(is_found && how.dsync)) {
+        close(file);
+        file = is_found ? open_file(path, flags | O_DIRECT) : NO_FILE;
+    }
+    if (file == NO_FILE)
+        return false;
+    close(host->files[disk]);
+    host->files[disk] = file;
+    host->how[disk] = how;
+    image->is_device = 0;
+    image->size = ROW_LENGTH * (2 + (uint64_t)how.slots);
+    memcpy(image->bytes, host->room, HEADER_LENGTH);
+    return true;
+}
+
 /* Opens an image where that can be done in this way, and reads its first bytes. False where memory was refused. */
-static bool find_image(const char *folder, unsigned disk, int flags, struct image *image, int *file) {
+static bool find_image(struct mg_host *host, const char *folder, unsigned disk, int flags, struct image *image) {
     struct stat facts;
-    char *path = path_of(folder, "disk", disk, ".img");
+    int *file = &host->files[disk];
+    char *path = path_of(folder, "disk", (int)disk, ".img");
     if (!path)
         return false;
     *file = open_file(path, flags);
-    free(path);
-    if (*file == NO_FILE)
-        return true;
-    if (fstat(*file, &facts) == 0) {
+    if (*file != NO_FILE && fstat(*file, &facts) == 0) {
         off_t size = S_ISBLK(facts.st_mode) ? lseek(*file, 0, SEEK_END) : facts.st_size;
         if (size >= 0) {
             image->is_device = S_ISBLK(facts.st_mode) ? 1 : 0;
             image->size = (uint64_t)size;
-            if (read_settled(*file, image->bytes, size < HEADER_LENGTH ? (size_t)size : HEADER_LENGTH, 0)) {
+            /* What the machine has in its cache of a device may be old. */
+            image->is_read = image->is_device && find_shared(host, disk, path, flags, image);
+            if (!image->is_read && read_settled(*file, image->bytes, size < HEADER_LENGTH ? (size_t)size : HEADER_LENGTH, 0)) {
                 image->is_read = 1;
-                return true;
+                if (!image->is_device && image->bytes[1] == SECTORS_VERSION)
+                    (void)find_shared(host, disk, path, flags, image);
             }
         }
     }
-    close(*file);
-    *file = NO_FILE;
+    free(path);
+    if (*file != NO_FILE && !image->is_read) {
+        close(*file);
+        *file = NO_FILE;
+    }
     return true;
 }
 
 /* Locks the host's number, as lock_host of crates/dlm_images does: by the same file, and the same kind of lock. */
 static int lock_number(const char *folder, unsigned number, int *lock) {
     int done;
-    char *path = path_of(folder, "host", number, ".lock");
+    char *path = path_of(folder, "host", (int)number, ".lock");
     if (!path)
         return MG_NO_MEMORY;
     *lock = open_file(path, O_RDWR | O_CREAT);
@@ -409,25 +439,71 @@ static int lock_number(const char *folder, unsigned number, int *lock) {
     return errno == EWOULDBLOCK ? MG_HOST_IN_USE : MG_NO_LOCK;
 }
 
-static int open_host(struct mg_host *host, struct images *images, const char *folder, unsigned number, int32_t *disk) {
+/* The name of this machine, for devices that keep one: 32 digits of the file machine-id in the folder, or else of /etc/machine-id. */
+static bool read_machine(const char *folder, uint8_t name[SECTORS_NAME]) {
+    static const char digits[] = "0123456789abcdef";
+    char text[2 * SECTORS_NAME + 1] = "";
+    char *path = path_of(folder, "machine-id", -1, "");
+    int file = path ? open_file(path, O_RDONLY) : NO_FILE;
+    bool done;
+    if (path && file == NO_FILE && errno == ENOENT)
+        file = open_file("/etc/machine-id", O_RDONLY);
+    free(path);
+    if (file == NO_FILE)
+        return false;
+    done = read_whole(file, (uint8_t *)text, sizeof text - 1, 0) && strspn(text, digits) == sizeof text - 1 && strspn(text, "0") < sizeof text - 1;
+    close(file);
+    errno = EINVAL;
+    for (size_t i = 0; i < sizeof text - 1 && done; i++)
+        name[i / 2] = (uint8_t)(name[i / 2] << 4 | (strchr(digits, text[i]) - digits));
+    return done;
+}
+
+/* Where devices keep the names of machines the number has to be this one's. */
+static int own_number(struct mg_host *host, const char *folder, unsigned number, bool takes) {
+    uint8_t machine[SECTORS_NAME], owner[SECTORS_NAME];
+    enum claimed claimed;
+    bool any = false;
+    for (unsigned k = 0; k < host->disks; k++)
+        any |= is_shared(host, k) && host->files[k] != NO_FILE;
+    if (!any)
+        return takes ? MG_BAD_ARGUMENT : MG_OK;
+    if (!read_machine(folder, machine))
+        return MG_NO_LOCK;
+    claimed = device_claim(host->files, host->how, host->disks, number, takes ? TAKE : CLAIM, machine, owner, host->room);
+    errno = EREMOTE;
+    return claimed == IS_OURS ? MG_OK : claimed == IS_OTHERS ? MG_HOST_IN_USE : MG_NO_MAJORITY;
+}
+
+static int open_host(struct mg_host *host, struct images *images, const char *folder, unsigned number, enum way way, int32_t *disk) {
     struct opened told;
     int32_t status;
     memset(&told, 0, sizeof told);
+    host->room = device_room();
+    if (!host->room)
+        return MG_NO_MEMORY;
     for (unsigned k = 0; k < MG_DISKS; k++)
-        if (!find_image(folder, k, host->only_looks ? O_RDONLY : O_RDWR, &images->all[k], &host->files[k]))
+        if (!find_image(host, folder, k, way == LOOKS ? O_RDONLY : O_RDWR, &images->all[k]))
             return MG_NO_MEMORY;
     status = dlm_c_open(images, number, &host->handle, &told, disk);
     if (status != 0)
         return status_of(status);
-    for (unsigned k = 0; k < MG_DISKS; k++)
+    host->disks = told.disks;
+    for (unsigned k = 0; k < MG_DISKS; k++) {
         if (host->files[k] != NO_FILE && (k >= told.disks || told.used[k] != 1)) {
             close(host->files[k]);
             host->files[k] = NO_FILE;
         }
-    return host->only_looks ? MG_OK : lock_number(folder, number, &host->lock);
+        if (host->files[k] != NO_FILE && is_shared(host, k) && number >= host->how[k].hosts)
+            return MG_BAD_ARGUMENT;
+    }
+    if (way == LOOKS)
+        return MG_OK;
+    status = lock_number(folder, number, &host->lock);
+    return status == MG_OK ? own_number(host, folder, number, way == TAKES) : status;
 }
 
-static int open_folder(const char *folder, unsigned number, bool only_looks, struct mg_host **out, int *disk) {
+static int open_folder(const char *folder, unsigned number, enum way way, struct mg_host **out, int *disk) {
     int32_t at_fault = -1;
     int status;
     struct mg_host *host;
@@ -443,14 +519,14 @@ static int open_folder(const char *folder, unsigned number, bool only_looks, str
     if (!host)
         return MG_NO_MEMORY;
     host->tries = FIRST_TRIES;
-    host->only_looks = only_looks;
+    host->only_looks = way == LOOKS;
     host->lock = NO_FILE;
     for (unsigned k = 0; k < MG_DISKS; k++)
         host->files[k] = NO_FILE;
     images = calloc(1, sizeof *images);
     /* A link is followed once: one that is moved meanwhile would give images of one folder, and the lock of another. */
     followed = realpath(folder, NULL);
-    status = images ? open_host(host, images, followed ? followed : folder, number, &at_fault) : MG_NO_MEMORY;
+    status = images ? open_host(host, images, followed ? followed : folder, number, way, &at_fault) : MG_NO_MEMORY;
     free(followed);
     free(images);
     if (disk)
@@ -466,15 +542,42 @@ static int open_folder(const char *folder, unsigned number, bool only_looks, str
 }
 
 int mg_open(const char *folder, unsigned number, struct mg_host **out, int *disk) {
-    return open_folder(folder, number, false, out, disk);
+    return open_folder(folder, number, WORKS, out, disk);
 }
 
 /* A look learns what marks say, whoever set them, so it does not matter under which number. */
-int mg_open_to_look(const char *folder, struct mg_host **out, int *disk) { return open_folder(folder, 0, true, out, disk); }
+int mg_open_to_look(const char *folder, struct mg_host **out, int *disk) { return open_folder(folder, 0, LOOKS, out, disk); }
 
 void mg_close(struct mg_host *host) {
     if (host)
         let_go(host);
+}
+
+int mg_take_number(const char *folder, unsigned number, int *disk) {
+    struct mg_host *host;
+    int status = open_folder(folder, number, TAKES, &host, disk);
+    if (status == MG_OK)
+        let_go(host);
+    return status;
+}
+
+int mg_machine_of(const char *folder, unsigned number, char *into, size_t size) {
+    static const uint8_t nobody[SECTORS_NAME];
+    uint8_t owner[SECTORS_NAME];
+    struct mg_host *host;
+    int status;
+    if (!into || size < 2 * SECTORS_NAME + 1)
+        return MG_BAD_ARGUMENT;
+    into[0] = '\0';
+    status = open_folder(folder, number, LOOKS, &host, NULL);
+    if (status != MG_OK)
+        return status;
+    (void)device_claim(host->files, host->how, host->disks, number, TELL, nobody, owner, host->room);
+    let_go(host);
+    if (memcmp(owner, nobody, SECTORS_NAME) != 0)
+        for (size_t i = 0; i < SECTORS_NAME; i++)
+            (void)snprintf(into + 2 * i, 3, "%02x", owner[i]);
+    return MG_OK;
 }
 
 int mg_set_tries(struct mg_host *host, unsigned tries) {
@@ -554,7 +657,7 @@ static bool make_image(const char *folder, const char *path, const struct header
 static int at_image(const char *folder, const struct header *header, unsigned disk, bool makes) {
     int status = MG_OK;
     bool taken = false;
-    char *path = path_of(folder, "disk", disk, ".img");
+    char *path = path_of(folder, "disk", (int)disk, ".img");
     if (!path)
         return MG_NO_MEMORY;
     if (!makes)
@@ -585,6 +688,60 @@ int mg_format(const char *folder, unsigned disks, unsigned slots, uint64_t clust
                 return status;
         }
     return MG_OK;
+}
+
+/* ---- a new folder for several machines ---- */
+
+/* Looks at the place of a device, or lays it out; a file is made where there is none. */
+static int at_device(const char *folder, const struct header *header, const struct sectors *how, unsigned disk, bool makes, uint8_t *room) {
+    struct stat facts;
+    struct header found = *header;
+    char *path = path_of(folder, "disk", (int)disk, ".img");
+    bool is_there = path && lstat(path, &facts) == 0;
+    bool is_device = is_there && stat(path, &facts) == 0 && S_ISBLK(facts.st_mode);
+    int file = path && (is_device || (makes && !is_there)) ? open_file(path, O_RDWR | O_DIRECT | (is_there ? 0 : O_CREAT | O_EXCL)) : NO_FILE;
+    int status = MG_UNREADABLE;
+    free(path);
+    if (!path)
+        return MG_NO_MEMORY;
+    if (is_there ? !is_device : !makes)
+        return is_there ? MG_ALREADY_THERE : MG_OK;
+    if (file == NO_FILE)
+        return MG_UNREADABLE;
+    if (makes)
+        status = device_lay_out(file, how, header->bytes, HEADER_LENGTH, room) && sync_folder(folder) ? MG_OK : MG_UNREADABLE;
+    else if (!device_suits(file, how->sector))
+        status = MG_BAD_ARGUMENT;
+    else if (lseek(file, 0, SEEK_END) >= (off_t)sectors_length(how) && device_header(file, room)) {
+        memcpy(found.bytes, room, HEADER_LENGTH);
+        status = dlm_c_is_formatted(&found) ? MG_ALREADY_THERE : MG_OK;
+    }
+    close(file);
+    return status;
+}
+
+int mg_format_shared(const char *folder, unsigned disks, unsigned slots, uint64_t cluster, unsigned hosts, unsigned sector, unsigned flags, int *disk) {
+    struct sectors how = {sector == 0 ? SECTORS_MOST : sector, hosts, slots, (flags & MG_NO_DSYNC) == 0};
+    struct header header;
+    uint8_t *room;
+    int status = MG_OK;
+    if (disk)
+        *disk = -1;
+    memset(&header, 0, sizeof header);
+    if (!folder || flags > MG_NO_DSYNC || !sectors_may_be(&how) || dlm_c_header(disks, slots, cluster, 0, &header) != 0)
+        return MG_BAD_ARGUMENT;
+    room = device_room();
+    if (!room)
+        return MG_NO_MEMORY;
+    for (unsigned k = 0; k < 2 * disks && status == MG_OK; k++) {
+        status = status_of(dlm_c_header(disks, slots, cluster, k % disks, &header));
+        if (status == MG_OK)
+            status = at_device(folder, &header, &how, k % disks, k >= disks, room);
+        if (disk && (status == MG_UNREADABLE || status == MG_BAD_ARGUMENT))
+            *disk = (int)(k % disks);
+    }
+    free(room);
+    return status;
 }
 
 /* ---- waiting ---- */

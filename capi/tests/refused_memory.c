@@ -1,12 +1,13 @@
 /*
  * Each allocation fails in turn: a call then ends as MG_NO_MEMORY, and the host goes on. Of a session, whose calls may also end well
  * then, no lock is left. Prints how many there are.
- * To be linked with -Wl,--wrap=malloc,--wrap=calloc,--wrap=realloc.
+ * To be linked with -Wl,--wrap=malloc,--wrap=calloc,--wrap=realloc,--wrap=posix_memalign.
  *
  *   refused_memory FOLDER
  */
 #include <mg_session.h>
 
+#include <errno.h>
 #include <stdio.h>
 #include <stdlib.h>
 #include <sys/stat.h>
@@ -14,6 +15,7 @@
 void *__real_malloc(size_t size);
 void *__real_calloc(size_t count, size_t size);
 void *__real_realloc(void *at, size_t size);
+int __real_posix_memalign(void **at, size_t align, size_t size);
 
 static long until_refused = -1;
 
@@ -22,6 +24,7 @@ static int refused(void) { return until_refused >= 0 && until_refused-- == 0; }
 void *__wrap_malloc(size_t size) { return refused() ? NULL : __real_malloc(size); }
 void *__wrap_calloc(size_t count, size_t size) { return refused() ? NULL : __real_calloc(count, size); }
 void *__wrap_realloc(void *at, size_t size) { return refused() ? NULL : __real_realloc(at, size); }
+int __wrap_posix_memalign(void **at, size_t align, size_t size) { return refused() ? ENOMEM : __real_posix_memalign(at, align, size); }
 
 /* Opens, asks, looks and closes; the first status that is not MG_OK. */
 static int use(const char *folder) {

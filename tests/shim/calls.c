@@ -11,6 +11,7 @@
  * DLM_GAP=P,U    between two pieces it sleeps up to U microseconds, P times in 100
  * DLM_PAUSE=P,U  and so before each call
  * DLM_STOP=P     before a sync, or within a write, the process ends, P times in 1,000
+ * DLM_PAGES=1    an image is opened without O_DIRECT and O_DSYNC, where these are asked for
  * DLM_SLEEP=U    a sync sleeps U microseconds in place of the system call
  */
 #define _GNU_SOURCE
@@ -42,7 +43,7 @@ static int (*real_rename)(const char *, const char *);
 /* By descriptor: the number of the image, with OLD if it is in the old folder, and 1; or 0. And whether it is the old folder. */
 static int images[MOST_FILES], is_old_folder[MOST_FILES];
 static const char *old_folder;
-static int log_fd = -1, read_piece, write_piece, gap_percent, gap_most, pause_percent, pause_most, stop, sleep_for = -1;
+static int log_fd = -1, read_piece, write_piece, gap_percent, gap_most, pause_percent, pause_most, stop, sleep_for = -1, through_pages;
 static uint64_t state;
 
 static unsigned next_random(void) {
@@ -88,6 +89,7 @@ __attribute__((constructor)) static void begin(void) {
     write_piece = number("DLM_WRITE", 0);
     sleep_for = number("DLM_SLEEP", -1);
     stop = number("DLM_STOP", 0);
+    through_pages = number("DLM_PAGES", 0);
     old_folder = getenv("DLM_OLD");
     pair("DLM_GAP", &gap_percent, &gap_most);
     pair("DLM_PAUSE", &pause_percent, &pause_most);
@@ -138,6 +140,8 @@ int open(const char *path, int flags, ...) {
         image = RENEWED + 1;
     if (is_in_old(path) && !strcmp(name, "renewed.new"))
         image = DRAFT + 1;
+    if (image && through_pages)
+        flags &= ~(O_DIRECT | O_DSYNC);
     int makes = image && flags & O_CREAT && log_fd >= 0;
     if (makes)
         one_at_a_time(1);

@@ -1,0 +1,252 @@
+/*
+ * dlm-mount: shows devices that several machines use at once as a folder of images of layout 2, to programs of this machine, such as dlm. It keeps no bytes:
+ * each read, write and sync of an image is one of whole sectors on its device, past the machine's cache.
+ *
+ *   dlm-mount FOLDER MOUNTPOINT      FOLDER has links diskK.img to formatted devices (dlm-shared format)
+ *
+ * It speaks FUSE to the kernel by /dev/fuse, and ends when it is unmounted. README.md beside it says more. No proof covers this file.
+ */
+#ifndef _GNU_SOURCE
+#define _GNU_SOURCE
+#endif
+#include "device.h"
+
+#include <errno.h>
+#include <fcntl.h>
+#include <linux/fuse.h>
+#include <stdio.h>
+#include <stdlib.h>
+#include <string.h>
+#include <sys/mount.h>
+#include <sys/stat.h>
+#include <unistd.h>
+
+enum { DISKS = 7, ROOT = 1, FIRST_DISK = 10, FIRST_LOCK = 100, BUFFER = 1 << 20, MOST = 1 << 17 };
+
+static int files[DISKS], fuse;
+static unsigned disks; /* of the set */
+static struct sectors how[DISKS];
+static uint8_t first[DISKS][SECTORS_ROW]; /* the first row of an image: its header, and zeros */
+static uint8_t machine[SECTORS_NAME], *room;
+
+static bool is_disk(uint64_t node) { return node >= FIRST_DISK && node < FIRST_DISK + DISKS && files[node - FIRST_DISK] >= 0; }
+static bool is_lock(uint64_t node) { return node >= FIRST_LOCK && node < FIRST_LOCK + SECTORS_HOSTS; }
+static uint64_t size_of(unsigned disk) { return SECTORS_ROW * (2 + (uint64_t)how[disk].slots); }
+
+static void answer(uint64_t unique, int error, const void *bytes, size_t length) {
+    static uint8_t out[sizeof(struct fuse_out_header) + MOST + 4096];
+    struct fuse_out_header head = {(uint32_t)(sizeof head + (error ? 0 : length)), -error, unique};
+    memcpy(out, &head, sizeof head);
+    if (!error && length > 0)
+        memcpy(out + sizeof head, bytes, length);
+    (void)!write(fuse, out, head.len);
+}
+
+static int put_attr(uint64_t node, struct fuse_attr *attr) {
+    memset(attr, 0, sizeof *attr);
+    attr->ino = node;
+    attr->nlink = 1;
+    attr->blksize = SECTORS_ROW;
+    attr->mode = node == ROOT ? S_IFDIR | 0777 : S_IFREG | 0666;
+    if (is_disk(node)) {
+        attr->size = size_of((unsigned)(node - FIRST_DISK));
+        attr->blocks = attr->size / 512;
+    }
+    return node == ROOT || is_disk(node) || is_lock(node) ? 0 : ENOENT;
+}
+
+static uint64_t node_of(const char *name) {
+    char right[32];
+    for (unsigned n = 0; n < SECTORS_HOSTS; n++) {
+        snprintf(right, sizeof right, "host%u.lock", n);
+        if (strcmp(name, right) == 0)
+            return FIRST_LOCK + n;
+        snprintf(right, sizeof right, "disk%u.img", n);
+        if (strcmp(name, right) == 0 && is_disk(FIRST_DISK + n))
+            return FIRST_DISK + n;
+    }
+    return 0;
+}
+
+static int read_rows(unsigned disk, uint64_t at, uint8_t *into, size_t length) {
+    uint8_t row[SECTORS_ROW];
+    while (length > 0) {
+        size_t from = (size_t)(at % SECTORS_ROW), part = SECTORS_ROW - from < length ? SECTORS_ROW - from : length;
+        if (at < SECTORS_ROW)
+            memcpy(row, first[disk], sizeof row);
+        else if (!device_read(files[disk], &how[disk], room, at - from, row))
+            return EIO;
+        memcpy(into, row + from, part);
+        into += part;
+        at += part;
+        length -= part;
+    }
+    return 0;
+}
+
+/* Whoever opens the file by which a host number is locked means to work under it: the number has to be this machine's. */
+static int own_number(uint64_t node) {
+    uint8_t owner[SECTORS_NAME];
+    if (!is_lock(node))
+        return 0;
+    return device_claim(files, how, disks, (unsigned)(node - FIRST_LOCK), CLAIM, machine, owner, room) == IS_OURS ? 0 : EACCES;
+}
+
+static void serve(const struct fuse_in_header *in, const void *argument) {
+    static uint8_t bytes[MOST];
+    uint64_t node = in->nodeid;
+    unsigned disk = is_disk(node) ? (unsigned)(node - FIRST_DISK) : 0;
+    union {
+        struct fuse_init_out init;
+        struct fuse_entry_out entry;
+        struct fuse_attr_out attr;
+        struct fuse_open_out open;
+        struct fuse_write_out write;
+        struct fuse_statfs_out statfs;
+        struct {
+            struct fuse_entry_out entry;
+            struct fuse_open_out open;
+        } create;
+    } out;
+    int error = 0;
+    memset(&out, 0, sizeof out);
+    switch (in->opcode) {
+    case FUSE_INIT: {
+        const struct fuse_init_in *init = argument;
+        out.init.major = FUSE_KERNEL_VERSION;
+        out.init.minor = init->minor < FUSE_KERNEL_MINOR_VERSION ? init->minor : FUSE_KERNEL_MINOR_VERSION;
+        out.init.max_write = MOST;
+        out.init.flags = FUSE_BIG_WRITES;
+        answer(in->unique, 0, &out, sizeof out.init);
+        break;
+    }
+    case FUSE_LOOKUP:
+        out.entry.nodeid = node_of(argument);
+        error = out.entry.nodeid == 0 ? ENOENT : put_attr(out.entry.nodeid, &out.entry.attr);
+        answer(in->unique, error, &out, sizeof out.entry);
+        break;
+    case FUSE_CREATE:
+        out.create.entry.nodeid = node_of((const char *)argument + sizeof(struct fuse_create_in));
+        out.create.open.open_flags = FOPEN_DIRECT_IO;
+        error = out.create.entry.nodeid == 0 ? EROFS : put_attr(out.create.entry.nodeid, &out.create.entry.attr);
+        error = error ? error : own_number(out.create.entry.nodeid);
+        answer(in->unique, error, &out, sizeof out.create);
+        break;
+    case FUSE_GETATTR:
+    case FUSE_SETATTR:
+        error = put_attr(node, &out.attr.attr);
+        answer(in->unique, error, &out, sizeof out.attr);
+        break;
+    case FUSE_OPEN:
+        out.open.open_flags = FOPEN_DIRECT_IO;
+        answer(in->unique, own_number(node), &out, sizeof out.open);
+        break;
+    case FUSE_OPENDIR:
+        answer(in->unique, 0, &out, sizeof out.open);
+        break;
+    case FUSE_READ: {
+        const struct fuse_read_in *asked = argument;
+        size_t length = asked->size < MOST ? asked->size : MOST;
+        if (!is_disk(node) || asked->offset >= size_of(disk))
+            length = 0;
+        else if (asked->offset + length > size_of(disk))
+            length = (size_t)(size_of(disk) - asked->offset);
+        error = read_rows(disk, asked->offset, bytes, length);
+        answer(in->unique, error, bytes, length);
+        break;
+    }
+    case FUSE_WRITE: {
+        const struct fuse_write_in *asked = argument;
+        out.write.size = asked->size;
+        error = !is_disk(node) || asked->offset < SECTORS_ROW ? EROFS
+                : device_write(files[disk], &how[disk], room, asked->offset, (const uint8_t *)argument + sizeof *asked, asked->size) ? 0 : EIO;
+        answer(in->unique, error, &out, sizeof out.write);
+        break;
+    }
+    case FUSE_FSYNC:
+        answer(in->unique, is_disk(node) && !sync_data(files[disk]) ? EIO : 0, NULL, 0);
+        break;
+    case FUSE_STATFS:
+        answer(in->unique, 0, &out, sizeof out.statfs);
+        break;
+    case FUSE_FORGET:
+    case FUSE_BATCH_FORGET:
+        break;
+    case FUSE_FLUSH:
+    case FUSE_RELEASE:
+    case FUSE_RELEASEDIR:
+    case FUSE_FSYNCDIR:
+    case FUSE_READDIR:
+    case FUSE_ACCESS:
+        answer(in->unique, 0, NULL, 0);
+        break;
+    default:
+        answer(in->unique, ENOSYS, NULL, 0);
+    }
+}
+
+/* Opens the devices of a folder, and learns from the first of them how many the set has. */
+static bool find(const char *folder) {
+    char path[4096];
+    for (unsigned k = 0; k < DISKS; k++) {
+        snprintf(path, sizeof path, "%s/disk%u.img", folder, k);
+        files[k] = open(path, O_RDWR | O_DIRECT | O_DSYNC | O_CLOEXEC);
+        if (files[k] >= 0 && !device_find(files[k], room, &how[k])) {
+            close(files[k]);
+            files[k] = -1;
+        } else if (files[k] >= 0) {
+            memcpy(first[k], room, SECTORS_ROW);
+            disks = disks ? disks : room[3];
+        }
+        if (files[k] >= 0 && !how[k].dsync) {
+            close(files[k]);
+            files[k] = open(path, O_RDWR | O_DIRECT | O_CLOEXEC);
+        }
+    }
+    return disks >= 1 && disks <= DISKS;
+}
+
+/* As the library does: the file machine-id in the folder, or else /etc/machine-id. */
+static bool read_machine(const char *folder) {
+    char path[4096];
+    unsigned byte;
+    FILE *file;
+    size_t n = 0;
+    snprintf(path, sizeof path, "%s/machine-id", folder);
+    file = fopen(path, "r");
+    if (!file && errno == ENOENT)
+        file = fopen("/etc/machine-id", "r");
+    while (file && n < SECTORS_NAME && fscanf(file, "%2x", &byte) == 1)
+        machine[n++] = (uint8_t)byte;
+    if (file)
+        fclose(file);
+    return n == SECTORS_NAME;
+}
+
+int main(int count, char **words) {
+    static uint8_t buffer[BUFFER] __attribute__((aligned(16)));
+    char options[128];
+    if (count != 3) {
+        fputs("dlm-mount FOLDER MOUNTPOINT\n", stderr);
+        return 2;
+    }
+    room = device_room();
+    if (!room || !find(words[1]) || !read_machine(words[1])) {
+        fprintf(stderr, "dlm-mount: %s: no such devices, or this machine has no name\n", words[1]);
+        return 1;
+    }
+    fuse = open("/dev/fuse", O_RDWR | O_CLOEXEC);
+    snprintf(options, sizeof options, "fd=%d,rootmode=40000,user_id=%u,group_id=%u,allow_other", fuse, (unsigned)getuid(), (unsigned)getgid());
+    if (fuse < 0 || mount("dlm-mount", words[2], "fuse.dlm", MS_NOSUID | MS_NODEV, options) != 0) {
+        perror(fuse < 0 ? "/dev/fuse" : words[2]);
+        return 1;
+    }
+    for (;;) {
+        ssize_t n = read(fuse, buffer, sizeof buffer);
+        if (n < 0 && (errno == EINTR || errno == EAGAIN || errno == ENOENT))
+            continue;
+        if (n < (ssize_t)sizeof(struct fuse_in_header))
+            return errno == ENODEV ? 0 : 1;
+        serve((const struct fuse_in_header *)buffer, buffer + sizeof(struct fuse_in_header));
+    }
+}

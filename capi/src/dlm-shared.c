@@ -1,0 +1,352 @@
+/*
+ * dlm-shared: words of dlm over devices that several machines use at once, by the library. It prints what dlm prints, and ends with the same statuses.
+ * man man/dlm-shared.1 says how it is used. No proof covers this file.
+ */
+#ifndef _GNU_SOURCE
+#define _GNU_SOURCE
+#endif
+#include <midgegalena.h>
+
+#include "device.h"
+
+#include <errno.h>
+#include <fcntl.h>
+#include <stdio.h>
+#include <stdlib.h>
+#include <string.h>
+#include <sys/stat.h>
+#include <sys/wait.h>
+#include <unistd.h>
+
+enum { REFUSED = 1, WRONG = 2, NO_PROGRAM = 127, PATH_LENGTH = 4096 };
+
+static const char *const MODES[] = {"NL", "CR", "CW", "PR", "PW", "EX"};
+
+/* ---- saying ---- */
+
+static int usage(void) {
+    fputs("dlm: usage\n", stderr);
+    return WRONG;
+}
+
+/* What cannot be done over such devices, and why. */
+static int decline(const char *what, const char *why) {
+    fprintf(stderr, "dlm-shared: %s: %s\n", what, why);
+    return WRONG;
+}
+
+/* "dlm: 26 Unreadable disk1", as dlm has it; a host number that is another machine's has that one's name behind it. */
+static int refuse(int status, const char *folder, unsigned host, int disk) {
+    char machine[33] = "";
+    bool is_elsewhere = status == MG_HOST_IN_USE && errno == EREMOTE;
+    if (status < 0) {
+        fprintf(stderr, "dlm-shared: %s\n", mg_strerror(status));
+        return WRONG;
+    }
+    fprintf(stderr, "dlm: %d %s", status, mg_name(status));
+    if (status == MG_HOST_IN_USE || status == MG_NO_LOCK)
+        fprintf(stderr, " host%u", host);
+    else if (disk >= 0)
+        fprintf(stderr, " disk%d", disk);
+    if (is_elsewhere && mg_machine_of(folder, host, machine, sizeof machine) == MG_OK)
+        fprintf(stderr, " %s", machine);
+    fputc('\n', stderr);
+    return REFUSED;
+}
+
+/* Whether all that was printed has gone out. */
+static int ended(void) { return fflush(stdout) == 0 && !ferror(stdout) ? 0 : REFUSED; }
+
+/* ---- words ---- */
+
+/* Digits without a sign and without leading zeros. */
+static bool number(const char *word, uint64_t most, uint64_t *into) {
+    *into = 0;
+    if (word[0] == '\0' || (word[0] == '0' && word[1] != '\0'))
+        return false;
+    for (; *word; word++) {
+        unsigned digit = (unsigned)*word - '0';
+        if (digit > 9 || *into > (most - digit) / 10)
+            return false;
+        *into = 10 * *into + digit;
+    }
+    return *into <= most;
+}
+
+static int mode_of(const char *word) {
+    for (int mode = MG_NL; mode <= MG_EX; mode++)
+        if (strcmp(word, MODES[mode]) == 0)
+            return mode;
+    return MG_NONE;
+}
+
+/* 32 digits, in small letters. */
+static bool value_of(const char *word, uint8_t *into) {
+    static const char digits[] = "0123456789abcdef";
+    if (strlen(word) != 2 * MG_VALUE_LENGTH || strspn(word, digits) != 2 * MG_VALUE_LENGTH)
+        return false;
+    for (int i = 0; i < 2 * MG_VALUE_LENGTH; i++)
+        into[i / 2] = (uint8_t)(into[i / 2] << 4 | (strchr(digits, word[i]) - digits));
+    return true;
+}
+
+/* ---- commands ---- */
+
+/* Makes the command that the words after the host spell; MG_BAD_ARGUMENT where they spell none. */
+static int command(struct mg_host *host, int count, char **words, struct mg_answer *answer) {
+    uint8_t value[MG_VALUE_LENGTH] = {0};
+    uint64_t client, request, lock;
+    unsigned flags = 0, c, l;
+    bool gives = false;
+    int mode = count > 4 ? mode_of(words[4]) : MG_NONE;
+    const char *kind = words[0];
+    if (count < 4 || !number(words[1], 255, &client) || !number(words[2], UINT64_MAX, &request) || !number(words[3], 65535, &lock))
+        return MG_BAD_ARGUMENT;
+    c = (unsigned)client;
+    l = (unsigned)lock;
+    if (count > 5 && strcmp(words[count - 2], "value") == 0 && strcmp(kind, "enqueue") != 0) {
+        gives = value_of(words[count - 1], value);
+        if (!gives)
+            return MG_BAD_ARGUMENT;
+        count -= 2;
+    }
+    if (count > 5 && strcmp(words[count - 1], "noqueue") == 0 && !(strcmp(kind, "enqueue") == 0 && count == 6)) {
+        flags = MG_NO_QUEUE;
+        count--;
+    }
+    if (strcmp(kind, "enqueue") == 0 && count == 6)
+        return mg_enqueue(host, c, request, l, mode, words[5], flags, answer);
+    if (strcmp(kind, "convert") == 0 && count == 5)
+        return gives ? mg_convert_value(host, c, request, l, mode, flags, value, answer) : mg_convert(host, c, request, l, mode, flags, answer);
+    if (count != 4 || flags != 0)
+        return MG_BAD_ARGUMENT;
+    if (strcmp(kind, "release") == 0)
+        return gives ? mg_release_value(host, c, request, l, value, answer) : mg_release(host, c, request, l, answer);
+    if (gives)
+        return MG_BAD_ARGUMENT;
+    if (strcmp(kind, "cancel") == 0)
+        return mg_cancel(host, c, request, l, answer);
+    if (strcmp(kind, "status") == 0)
+        return mg_status(host, c, request, l, answer);
+    return strcmp(kind, "purge") == 0 ? mg_purge(host, c, request, l, answer) : MG_BAD_ARGUMENT;
+}
+
+static const char *mode_text(int mode) { return mode >= MG_NL && mode <= MG_EX ? MODES[mode] : "-"; }
+
+/* One line, by one write. */
+static int submit(struct mg_host *host, const char *folder, unsigned number_of_host, int count, char **words) {
+    static const char *const replies[] = {"", "Granted", "Queued", "Released", "Cancelled"};
+    struct mg_answer answer = {-1, MG_NO_REPLY, 0, MG_NONE, MG_NONE};
+    char reply[64], line[96];
+    int length, status = command(host, count, words, &answer);
+    if (status == MG_BAD_ARGUMENT) {
+        fputs("dlm: bad command\n", stderr);
+        return WRONG;
+    }
+    if (answer.slot < 0)
+        return refuse(status, folder, number_of_host, -1);
+    if (answer.reply == MG_PURGED)
+        snprintf(reply, sizeof reply, "Purged(%u)", (unsigned)answer.purged);
+    else if (answer.reply == MG_STATE)
+        snprintf(reply, sizeof reply, "State(held=%s, wanted=%s)", mode_text(answer.held), mode_text(answer.wanted));
+    else if (answer.reply >= MG_GRANTED && answer.reply <= MG_CANCELLED)
+        snprintf(reply, sizeof reply, "%s", replies[answer.reply]);
+    else
+        snprintf(reply, sizeof reply, "%d %s", status, mg_name(status));
+    length = snprintf(line, sizeof line, "ack %d %s\n", (int)answer.slot, reply);
+    return write(STDOUT_FILENO, line, (size_t)length) == length ? 0 : REFUSED;
+}
+
+static int table(struct mg_host *host, const char *folder, unsigned number_of_host) {
+    static char text[MG_TEXT_SIZE + 1];
+    uint64_t learned;
+    int status = mg_refresh(host, &learned);
+    if (status == MG_OK)
+        status = mg_text(host, text, sizeof text, NULL);
+    if (status != MG_OK)
+        return refuse(status, folder, number_of_host, -1);
+    printf("recovered %llu\n%s", (unsigned long long)learned, text);
+    return ended();
+}
+
+/* What a look learns has its mark already. */
+static int mark(struct mg_host *host, const char *folder, unsigned number_of_host) {
+    uint64_t before, learned;
+    int status = mg_look(host, &before);
+    if (status == MG_OK)
+        status = mg_mark(host, &learned);
+    if (status != MG_OK)
+        return refuse(status, folder, number_of_host, -1);
+    printf("recovered %llu\nmarked %llu slots\n", (unsigned long long)learned, (unsigned long long)(learned - before));
+    return ended();
+}
+
+static int over_host(const char *task, const char *folder, const char *word, int count, char **words) {
+    struct mg_host *host;
+    uint64_t n;
+    int disk, result, status;
+    bool submits = strcmp(task, "submit") == 0;
+    if (!number(word, MG_HOSTS - 1, &n) || (submits ? count < 1 : count != 0))
+        return usage();
+    status = mg_open(folder, (unsigned)n, &host, &disk);
+    if (status == MG_BAD_ARGUMENT)
+        return decline(word, "the devices have no such host number");
+    if (status != MG_OK)
+        return refuse(status, folder, (unsigned)n, disk);
+    if (submits)
+        result = submit(host, folder, (unsigned)n, count, words);
+    else
+        result = strcmp(task, "table") == 0 ? table(host, folder, (unsigned)n) : mark(host, folder, (unsigned)n);
+    mg_close(host);
+    return result;
+}
+
+static int take(const char *folder, const char *word) {
+    char machine[33];
+    uint64_t n;
+    int disk, status;
+    if (!number(word, MG_HOSTS - 1, &n))
+        return usage();
+    status = mg_take_number(folder, (unsigned)n, &disk);
+    if (status == MG_BAD_ARGUMENT)
+        return decline(word, "the folder has no shared devices with such a host number");
+    if (status == MG_OK)
+        status = mg_machine_of(folder, (unsigned)n, machine, sizeof machine);
+    if (status != MG_OK)
+        return refuse(status, folder, (unsigned)n, disk);
+    printf("host%u %s\n", (unsigned)n, machine);
+    return ended();
+}
+
+/* Whether anything has the name of a further image. */
+static bool has_more(const char *folder, unsigned disks) {
+    char path[PATH_LENGTH];
+    struct stat facts;
+    for (unsigned k = disks; k < MG_DISKS; k++) {
+        snprintf(path, sizeof path, "%s/disk%u.img", folder, k);
+        if (lstat(path, &facts) == 0)
+            return true;
+    }
+    return false;
+}
+
+static int format(int count, char **words) {
+    uint64_t disks, slots, cluster, hosts = MG_HOSTS, sector = 0;
+    bool no_dsync = count > 0 && strcmp(words[count - 1], "nodsync") == 0;
+    int disk = -1, status = MG_ALREADY_THERE;
+    count -= no_dsync;
+    if (count < 4 || count > 6 || !number(words[1], MG_DISKS, &disks) || !number(words[2], MG_SLOTS, &slots) || !number(words[3], UINT64_MAX, &cluster) ||
+        (count > 4 && !number(words[4], MG_HOSTS, &hosts)) || (count > 5 && !number(words[5], SECTORS_MOST, &sector)))
+        return usage();
+    if (!has_more(words[0], (unsigned)disks))
+        status = mg_format_shared(words[0], (unsigned)disks, (unsigned)slots, cluster, (unsigned)hosts, (unsigned)sector, no_dsync ? MG_NO_DSYNC : 0, &disk);
+    if (status == MG_BAD_ARGUMENT && disk >= 0)
+        return decline("format", "a device has longer sectors than that");
+    if (status == MG_BAD_ARGUMENT)
+        return usage();
+    if (status != MG_OK)
+        return refuse(status, words[0], 0, disk);
+    printf("formatted %u disks, %u slots\n", (unsigned)disks, (unsigned)slots);
+    return ended();
+}
+
+/* ---- images of layout 2 ---- */
+
+/* Copies a device as an image of layout 2. Of anything else the first bytes are copied, so that a check tells what is wrong with it. */
+static bool copy_image(int from, FILE *to, uint8_t *room) {
+    struct sectors how = {0, 0, 0, false};
+    uint8_t row[SECTORS_ROW];
+    if (!device_find(from, room, &how))
+        return device_header(from, room) && fwrite(room, 1, SECTORS_HEADER, to) == SECTORS_HEADER;
+    if (fwrite(room, 1, SECTORS_HEADER, to) != SECTORS_HEADER)
+        return false;
+    for (uint64_t at = SECTORS_ROW; at < SECTORS_ROW * (2 + (uint64_t)how.slots); at += SECTORS_ROW)
+        if (!device_read(from, &how, room, at, row) || fwrite(row, 1, sizeof row, to) != sizeof row)
+            return false;
+    return true;
+}
+
+/* Copies what there is of disk0.img to disk6.img. An image that cannot be read to its end has no copy. */
+static int copies(const char *folder, const char *into, unsigned *count) {
+    char path[PATH_LENGTH], copy[PATH_LENGTH];
+    uint8_t *room = device_room();
+    int result = room ? 0 : REFUSED;
+    *count = 0;
+    for (unsigned k = 0; k < MG_DISKS && room; k++) {
+        int from, to;
+        FILE *out;
+        bool done;
+        snprintf(path, sizeof path, "%s/disk%u.img", folder, k);
+        snprintf(copy, sizeof copy, "%s/disk%u.img", into, k);
+        from = open(path, O_RDONLY | O_DIRECT | O_CLOEXEC);
+        if (from < 0 && errno == ENOENT)
+            continue;
+        to = open(copy, O_WRONLY | O_CREAT | O_EXCL | O_CLOEXEC, 0666);
+        out = to >= 0 ? fdopen(to, "wb") : NULL;
+        done = from >= 0 && out && copy_image(from, out, room);
+        if (from >= 0)
+            close(from);
+        if (out)
+            done = fclose(out) == 0 && done;
+        *count += done;
+        if (!done) {
+            fprintf(stderr, "dlm-shared: disk%u: %s\n", k, to < 0 ? "it has no room for a copy, or there is one" : "not copied to its end");
+            result = REFUSED;
+            if (to >= 0)
+                unlink(copy);
+        }
+    }
+    free(room);
+    return result;
+}
+
+static int export_images(const char *folder, const char *into) {
+    unsigned count;
+    int result = copies(folder, into, &count);
+    printf("exported %u images\n", count);
+    return result == 0 ? ended() : result;
+}
+
+/* dlm checks copies, which then go. */
+static int check(const char *folder) {
+    char into[] = "/tmp/dlm-shared.XXXXXX", path[PATH_LENGTH];
+    unsigned count;
+    int status = REFUSED;
+    pid_t child;
+    if (!mkdtemp(into))
+        return decline("check", "no folder can be made in /tmp");
+    (void)copies(folder, into, &count);
+    child = fork();
+    if (child == 0) {
+        execlp("dlm", "dlm", "check", into, (char *)NULL);
+        fprintf(stderr, "dlm-shared: check: dlm cannot be run: %s\n", strerror(errno));
+        _exit(NO_PROGRAM);
+    }
+    while (child > 0 && waitpid(child, &status, 0) < 0 && errno == EINTR)
+        ;
+    for (unsigned k = 0; k < MG_DISKS; k++) {
+        snprintf(path, sizeof path, "%s/disk%u.img", into, k);
+        unlink(path);
+    }
+    rmdir(into);
+    return child > 0 && WIFEXITED(status) ? WEXITSTATUS(status) : REFUSED;
+}
+
+int main(int count, char **words) {
+    const char *task = count > 1 ? words[1] : "";
+    if (strcmp(task, "format") == 0)
+        return format(count - 2, words + 2);
+    if ((strcmp(task, "submit") == 0 || strcmp(task, "table") == 0 || strcmp(task, "mark") == 0) && count > 3)
+        return over_host(task, words[2], words[3], count - 4, words + 4);
+    if (strcmp(task, "check") == 0 && count == 3)
+        return check(words[2]);
+    if (strcmp(task, "export") == 0 && count == 4)
+        return export_images(words[2], words[3]);
+    if (strcmp(task, "take") == 0 && count == 4)
+        return take(words[2], words[3]);
+    if (strcmp(task, "fill") == 0 || strcmp(task, "renew") == 0)
+        return decline(task, "a log on shared devices is not renewed: dlm makes images of layout 2, and nothing puts a table onto such devices");
+    if (strcmp(task, "migrate") == 0)
+        return decline(task, "dlm moves images of the first layout to images of layout 2, and to no shared devices");
+    return usage();
+}

@@ -1,0 +1,186 @@
+#!/usr/bin/env bash
+# machines.sh [SECONDS]: devices that several machines use at once. Each "machine" is a folder with loop devices of its own over the same files, so each has pages
+# of its own, like a machine. Formats them, looks at what is refused, and moves a host number from one machine to another. Then hosts of four machines submit and
+# are killed (tests/machines.py), hosts that stay open count under a lock (capi/tests/contend_machines.c), and mg-lock runs on two machines, for so many seconds
+# each (none given: 4). A read of sectors that another machine writes is looked at (tests/shim/moments_of_sectors.c), and losses of power are tried over files
+# (tests/sector_loss.py).
+# It needs the library for C, a C compiler, root and loop devices, and says so where it cannot. The variable BUILT of the environment names another folder with
+# dlm-shared, libmidgegalena.a and, perhaps, mg-lock.
+set -uo pipefail
+
+source "$(dirname -- "$(readlink -f -- "${BASH_SOURCE[0]}")")/lib.sh"
+export PYTHONDONTWRITEBYTECODE=1
+seconds=${1:-4}
+built=${BUILT:-$top/capi/out}
+if ! command -v cc > /dev/null; then
+    echo "left out: machines.sh, several machines on one device: no C compiler (cc)"
+    exit 0
+fi
+if [[ -z ${BUILT-} ]] && ! "$top/capi/build.sh" > "$work/told" 2>&1; then
+    cat -- "$work/told"
+    exit 1
+fi
+shared=$built/dlm-shared
+flags=(-Wall -Wextra -Werror -O2 -I "$top/capi/include")
+cc -std=c99 -pedantic "${flags[@]}" "$top/capi/tests/contend_machines.c" "$built/libmidgegalena.a" -o "$work/contend_machines" || fail "contend_machines.c"
+cc -std=c99 -pedantic -D_DEFAULT_SOURCE "${flags[@]}" -Wl,--wrap=pread,--wrap=pwrite,--wrap=fdatasync "$top/capi/tests/devices.c" \
+    "$top/capi/src/"{device,sectors}.c -o "$work/devices" || fail "devices.c"
+cc -std=gnu11 "${flags[@]}" -I "$top/capi/src" "$top/capi/examples/dlm-mount/dlm-mount.c" "$top/capi/src/"{device,sectors}.c -o "$work/dlm-mount" || fail "dlm-mount.c"
+cc -std=gnu11 "${flags[@]}" -pthread "$tests/shim/moments_of_sectors.c" -o "$work/moments" || fail "moments_of_sectors.c"
+[[ $failed -eq 0 ]] || exit 1
+
+# Losses of power need no device.
+"$tests/sector_loss.py" --program "$shared" --seconds "$seconds" || failed=1
+
+devices=()
+finish() {
+    local device
+    for device in "${devices[@]}"; do
+        losetup -d "$device"
+    done
+    rm -r -- "$work"
+}
+trap finish EXIT
+trap 'exit 1' INT TERM
+
+# add FILE [WORD..]: one more loop device over this file.
+add() {
+    local file=$1
+    shift
+    device=$(losetup --show -f "$@" -- "$file" 2>/dev/null) || {
+        echo "left out: machines.sh, several machines on one device: no loop devices, or no root"
+        exit "$failed"
+    }
+    devices+=("$device")
+}
+
+# Three machines on three files. 16 slots and sectors of 4,096 bytes for four hosts take 282,624 bytes; the first file is no longer.
+truncate -s 282624 -- "$work/storage0"
+truncate -s 1M -- "$work/storage1" "$work/storage2"
+for machine in a b c; do
+    mkdir -- "$work/$machine"
+    for k in 0 1 2; do
+        add "$work/storage$k"
+        ln -s -- "$device" "$work/$machine/disk$k.img"
+    done
+    printf '%032x\n' "0x$machine" > "$work/$machine/machine-id"
+done
+name_of_a=$(< "$work/a/machine-id")
+name_of_b=$(< "$work/b/machine-id")
+
+"$work/devices" "$work/a/disk"{1,2}.img "$work/a/disk0.img" || fail "devices.c over loop devices"
+for k in 0 1 2; do
+    dd if=/dev/zero of="$work/a/disk$k.img" bs=4096 count=1 conv=fsync oflag=direct status=none
+done
+expect "not formatted" 1 "dlm: 24 NotFormatted disk0" "$shared" table "$work/a" 0
+expect "too many slots for the device" 1 "dlm: 26 Unreadable disk0" "$shared" format "$work/a" 3 17 7 4
+expect "none was made" 1 "dlm: 24 NotFormatted disk0" "$shared" table "$work/b" 0
+expect "no such sector" 2 "dlm: usage" "$shared" format "$work/a" 3 16 7 4 4095
+expect "no such host" 2 "dlm: usage" "$shared" format "$work/a" 3 16 7 17
+expect "a further image" 1 "dlm: 29 AlreadyThere" "$shared" format "$work/a" 2 16 7 4
+expect "format" 0 "formatted 3 disks, 16 slots" "$shared" format "$work/a" 3 16 7 4
+expect "format again, on another machine" 1 "dlm: 29 AlreadyThere" "$shared" format "$work/b" 3 16 7 4
+expect "submit on one machine" 0 "ack 0 Granted" "$shared" submit "$work/a" 0 enqueue 1 1 1 EX db
+held=$'recovered 1\ndb\n  granted 1 1 0 EX'
+expect "table on another" 0 "$held" "$shared" table "$work/b" 1
+expect "submit there" 0 "ack 1 Queued" "$shared" submit "$work/b" 1 enqueue 2 1 2 PR db
+expect "release" 0 "ack 2 Released" "$shared" submit "$work/a" 0 release 1 2 1 value 000102030405060708090a0b0c0d0e0f
+expect "state" 0 "ack 3 State(held=PR, wanted=-)" "$shared" submit "$work/b" 1 status 2 2 2
+expect "refused by the table" 0 "ack 4 12 NoSuchLock" "$shared" submit "$work/a" 0 cancel 1 3 9
+expect "mark" 0 $'recovered 5\nmarked 0 slots' "$shared" mark "$work/b" 1
+expect "no command" 2 "dlm: bad command" "$shared" submit "$work/a" 0 enqueue 1 4 1 XX db
+expect "no words" 2 "dlm: usage" "$shared" submit "$work/a" 0
+expect "no such host number" 2 "dlm-shared: 4: the devices have no such host number" "$shared" table "$work/a" 4
+for task in fill renew migrate; do
+    "$shared" "$task" "$work/a" 0 > "$work/told" 2>&1
+    [[ $? -eq 2 ]] && grep -q "^dlm-shared: $task: " "$work/told" || fail "$task is not declined"
+done
+
+# A host number belongs to one machine.
+expect "another machine's number" 1 "dlm: 36 HostInUse host0 $name_of_a" "$shared" table "$work/b" 0
+expect "take it" 0 "host0 $name_of_b" "$shared" take "$work/b" 0
+expect "its first machine" 1 "dlm: 36 HostInUse host0 $name_of_b" "$shared" table "$work/a" 0
+expect "a process of the same machine" 1 "dlm: 36 HostInUse host1" flock "$work/b/host1.lock" "$shared" table "$work/b" 1
+
+# Longer sectors than those that were asked for.
+truncate -s 1M -- "$work/storage3"
+mkdir -- "$work/long"
+add "$work/storage3" --sector-size 4096
+ln -s -- "$device" "$work/long/disk0.img"
+expect "longer sectors" 2 "dlm-shared: format: a device has longer sectors than that" "$shared" format "$work/long" 1 4 7 4 512
+expect "as long" 0 "formatted 1 disks, 4 slots" "$shared" format "$work/long" 1 4 7 4
+expect "their command" 0 "ack 0 Granted" "$shared" submit "$work/long" 0 enqueue 1 1 1 NL db
+
+# The program dlm refuses such devices with what it has, and checks copies. Over dlm-mount it works on them.
+mkdir -- "$work/copy" "$work/shown" "$work/none"
+expect "export" 0 "exported 3 images" "$shared" export "$work/c" "$work/copy"
+expect "a number of ordinary images" 2 "dlm-shared: 0: the folder has no shared devices with such a host number" "$shared" take "$work/copy" 0
+if [[ -x $program ]]; then
+    expect "dlm format" 1 "dlm: 29 AlreadyThere" "$program" format "$work/c" 3 16 7
+    expect "dlm table" 1 "dlm: 25 WrongHeader disk0" "$program" table "$work/c" 0
+    expect "dlm submit" 1 "dlm: 25 WrongHeader disk0" "$program" submit "$work/c" 0 enqueue 1 9 9 NL db
+    expect "dlm check" 1 "dlm: 25 WrongHeader disk0" "$program" check "$work/c"
+    expect "dlm fill" 1 "dlm: 25 WrongHeader disk0" "$program" fill "$work/c" 0
+    expect "dlm renew" 1 "dlm: 25 WrongHeader disk0" "$program" renew "$work/c" 0 "$work/none" 3 16 8
+    expect "dlm check of the copy" 0 sound "$program" check "$work/copy"
+    expect "dlm table of the copy" 0 "$("$shared" table "$work/b" 1)" "$program" table "$work/copy" 1
+    expect "check" 0 sound env PATH="$(dirname -- "$program"):$PATH" "$shared" check "$work/c"
+    if [[ -e /dev/fuse ]]; then
+        "$work/dlm-mount" "$work/c" "$work/shown" &
+        for _ in $(seq 100); do [[ -e $work/shown/disk0.img ]] && break || sleep 0.05; done
+        expect "dlm over dlm-mount" 0 "ack 5 Granted" "$program" submit "$work/shown" 2 enqueue 3 1 3 NL db
+        expect "another machine's number there" 1 "dlm: 37 NoLock host1" "$program" table "$work/shown" 1
+        expect "what it did" 0 "recovered 6" bash -c '"$1" table "$2" 1 | head -n 1' _ "$shared" "$work/b"
+        umount "$work/shown"
+        wait
+    fi
+else
+    echo "left out: machines.sh, dlm over shared devices: the program is not built"
+fi
+
+# Hosts that stay open count under a lock, and mg-lock does.
+for machine in a b c; do
+    for k in 0 1 2; do dd if=/dev/zero of="$work/$machine/disk$k.img" bs=4096 count=1 conv=fsync oflag=direct status=none; done
+done
+truncate -s 4M -- "$work/storage"{0,1,2}
+for device in "${devices[@]:0:9}"; do losetup -c "$device"; done
+expect "format for more" 0 "formatted 3 disks, 240 slots" "$shared" format "$work/a" 3 240 8 4
+"$work/contend_machines" "$work/counter" 3 20 "$work/a" "$work/b" "$work/c" || fail "hosts that stay open"
+if [[ -x $built/mg-lock ]]; then
+    echo 0 > "$work/counter"
+    for host in 0 1; do
+        machine=$([[ $host -eq 0 ]] && echo a || echo b)
+        for _ in $(seq 10); do
+            "$built/mg-lock" "$work/$machine" "$host" counted -- bash -c 'n=$(<"$1") && sleep 0.01 && echo $((n + 1)) >"$1"' _ "$work/counter"
+        done &
+    done
+    wait
+    expect "mg-lock on two machines" 0 20 cat "$work/counter"
+    "$built/mg-lock" -w 60 "$work/b" 0 counted true > "$work/told" 2>&1
+    [[ $? -eq 125 ]] && grep -q "36 HostInUse (the host number is of machine $name_of_a" "$work/told" || fail "mg-lock under another machine's number: $(< "$work/told")"
+    # What OPERATIONS.md says of trying it on one machine.
+    mkdir -- "$work/page"
+    awk '/^mkdir a b && echo/ { inside = 1 } /^```/ { inside = 0 } inside' "$top/docs/OPERATIONS.md" > "$work/page/words"
+    (cd -- "$work/page" && PATH=$built:$PATH bash words) > "$work/told" 2>&1
+    mapfile -t made < <(for k in 0 1 2; do losetup -j "$work/page/lun$k" | cut -d : -f 1; done)
+    devices+=("${made[@]}")
+    [[ ${#made[@]} -eq 6 ]] && grep -qx "now on b" "$work/told" || fail "what OPERATIONS.md says: $(< "$work/told")"
+else
+    echo "left out: machines.sh, mg-lock: it is not there"
+fi
+
+# Reads beside another machine's writes. The file is not read and written through pages, where its file system can do that.
+truncate -s 1M -- "$work/storage4"
+add "$work/storage4" --direct-io=on
+written=$device
+add "$work/storage4" --direct-io=on
+"$work/moments" "$written" "$device" 4096 2 || fail "two reads agreed on what never stood there"
+
+given=(--shared "$shared" --seconds "$seconds" --hold --noise)
+[[ ! -x $program ]] || given+=(--dlm "$program")
+"$tests/machines.py" "${given[@]}" || failed=1
+if [[ -x $program && -e /dev/fuse ]]; then
+    "$tests/machines.py" "${given[@]}" --kind mount --program "$program" --mount "$work/dlm-mount" || failed=1
+fi
+[[ $failed -eq 0 ]] || exit 1
+echo "machines.sh: several machines on shared devices: formatted, refused, nothing lost"
