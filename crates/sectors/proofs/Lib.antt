@@ -1,6 +1,7 @@
 pub mod Faults
 pub mod HeaderLaws
 pub mod Moving
+pub mod Owners
 pub mod PlaceLaws
 pub mod Putting
 pub mod RowLaws

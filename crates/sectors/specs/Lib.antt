@@ -1,6 +1,8 @@
 pub mod Geometry
 pub mod Headers
 pub mod Moments
+pub mod Names
+pub mod Owners
 pub mod Places
 pub mod Row
 pub mod Sector

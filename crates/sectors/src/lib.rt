@@ -5,7 +5,9 @@ mod fault;
 mod geometry;
 mod header;
 mod law;
+mod name;
 mod number;
+mod owner;
 mod place;
 mod row;
 mod sector;
@@ -21,6 +23,8 @@ pub use law::{
     headers_come_back, new_devices_show, places_are_apart, reads_show, reads_that_agree,
     rows_are_moments, rows_come_back, writes_of_sectors, writes_raise, writes_show,
 };
+pub use name::{MachineName, NAME_LENGTH, NAMED_LENGTH, name_in, put_name};
+pub use owner::{Owner, owner_of};
 pub use place::{SectorRange, beat_sector, block_at, row_at, slot_row, vote_sector};
 pub use row::{agree, gather};
 pub use sector::{STAMPED_LENGTH, StampSpent, put_in, stamp_in};
