@@ -7,7 +7,10 @@ use Rattle.byteorder.specs.Numbers.{big_number-reads_back, length-bytes_high_fir
 use Rattle.disk.specs.Disk.{put_at}
 use Rattle.torn_block.specs.layouts.Block.{number_bytes}
 use Rattle.paxos_block.specs.layouts.Saying.{number_at}
+use Rattle.sectors.specs.declared.name.MachineName.{MachineName}
+use Rattle.sectors.specs.declared.name.TheConstants.{NAME_LENGTH, NAMED_LENGTH}
 use Rattle.sectors.specs.declared.sector.TheConstants.{STAMPED_LENGTH}
+use Rattle.sectors.specs.Names.{name_of, sector_naming}
 use Rattle.sectors.specs.Sector.{block_of, stamp_of, sector_with}
 use Rattle.sectors.proofs.Putting.{part, length-part, get_or-part, length_kept}
 use Rattle.disk.proofs.CrashLemmas.{length-put, put-below, put-inside, put-above}
@@ -44,6 +47,32 @@ module _ (sector from : List ℕ) (offset : ℕ) (within : offset + length from 
   pub length_with : 264 ≤ length sector → length (sector_with offset from sector) ≡ length sector
   length_with longer =
       omega (arith, long_put, length-append (put_at (block_of sector) offset from) (number_bytes (stamp_of sector + 1) ++ drop STAMPED_LENGTH sector), length-append (number_bytes (stamp_of sector + 1)) (drop STAMPED_LENGTH sector), length-number (stamp_of sector + 1), length-drop STAMPED_LENGTH sector)
+
+module _ (name : MachineName) (sector : List ℕ) (long : NAMED_LENGTH ≤ length sector) where
+  abbrev behind : List ℕ
+  behind = name.bytes ++ drop NAMED_LENGTH sector
+
+  same_block : length (block_of sector) ≡ 256
+  same_block = length-take-le 256 sector (omega arith)
+
+  -- a name leaves the block
+  pub block_naming : block_of (sector_naming name sector) ≡ block_of sector
+  block_naming = take_at (block_of sector) (number_bytes (stamp_of sector + 1) ++ behind) 256 same_block
+
+  from_stamp : drop 256 (sector_naming name sector) ≡ number_bytes (stamp_of sector + 1) ++ behind
+  from_stamp = drop_at (block_of sector) (number_bytes (stamp_of sector + 1) ++ behind) 256 same_block
+
+  -- it has the next stamp
+  pub stamp_naming : stamp_of sector + 1 < 2 ^ 64 → stamp_of (sector_naming name sector) ≡ stamp_of sector + 1
+  unfolding number_at
+  stamp_naming unspent = ap (big_number 8) from_stamp ∙ reads_back (stamp_of sector + 1) behind unspent
+
+  -- it is there
+  pub name_naming : length name.bytes ≡ NAME_LENGTH → name_of (sector_naming name sector) ≡ name
+  name_naming many =
+      let there = sym (drop-drop 8 256 (sector_naming name sector)) ∙ ap (drop 8) from_stamp ∙ drop_at (number_bytes (stamp_of sector + 1)) behind 8 (length-number (stamp_of sector + 1)) in
+      let bytes = ap (take 16) there ∙ take_at name.bytes (drop NAMED_LENGTH sector) 16 many in
+      λ i. record { bytes = bytes i }
 
 -- what stood in a range is put there again
 front : (items : List ℕ) (n k : ℕ) → n ≡ length (take k items) → take k items ≡ take n items

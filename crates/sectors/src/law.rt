@@ -15,6 +15,9 @@ ghost use Rattle.sectors.specs.declared.header.TheConstants.{DEVICE_HEADER_LENGT
 ghost use Rattle.sectors.specs.Geometry.{IsGeometry, row_size, device_size};
 ghost use Rattle.sectors.specs.Headers.{IsDeviceHeader, IsRight, header_saying};
 ghost use Rattle.sectors.specs.Moments.{Sectors, Touch, IsSeen, Leads, Raises};
+ghost use Rattle.sectors.specs.Names.{name_of, sector_naming};
+ghost use Rattle.sectors.specs.declared.name.MachineName.{MachineName};
+ghost use Rattle.sectors.specs.declared.name.TheConstants.{NAME_LENGTH, NAMED_LENGTH};
 ghost use Rattle.sectors.specs.Places.{place_of, row_place, IsSpot, sector_at, row_in, Shows};
 ghost use Rattle.sectors.specs.Row.{IsRowOf, Agree, sector_in};
 ghost use Rattle.sectors.specs.Sector.{block_of, stamp_of, stamped_of, sector_with};
@@ -119,6 +122,16 @@ pub fn rows_are_moments()
         ((host : ℕ) → host < geometry.hosts → IsSeen (base + host) (sector_in geometry host other) second) →
         Agree geometry one other → (host : ℕ) → host < geometry.hosts →
         middle (base + host) ≡ sector_in geometry host one }
+{}
+
+/// A name that is put into a sector comes back, under the next stamp. The block stays.
+pub fn names_come_back()
+    ensures name { (name : MachineName) (sector : List ℕ) → NAMED_LENGTH ≤ length sector →
+        length name.bytes ≡ NAME_LENGTH → name_of (sector_naming name sector) ≡ name }
+    ensures stamp { (name : MachineName) (sector : List ℕ) → NAMED_LENGTH ≤ length sector →
+        stamp_of sector + 1 < 2 ^ 64 → stamp_of (sector_naming name sector) ≡ stamp_of sector + 1 }
+    ensures block { (name : MachineName) (sector : List ℕ) → NAMED_LENGTH ≤ length sector →
+        block_of (sector_naming name sector) ≡ block_of sector }
 {}
 
 /// What a write that failed leaves: some bytes in its range, and elsewhere what was there. The sector is then as it was or as it was
