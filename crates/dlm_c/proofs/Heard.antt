@@ -1,5 +1,5 @@
 -- What a claim hears of a host leaves it on the same lock.
-use Rattle.std.proofs.Common.{◌≡◌, ◌⊎◌, ℕ, Option, Some, inl, inr}
+use Rattle.std.proofs.Common.{◌⊎◌, ℕ, Option, Some, inl, inr}
 use Rattle.session.specs.Bounds.{ComesNearer}
 use Rattle.session.specs.Keeping.{IsOnSame, IsStillKnown, Keeps, KeepsReleaseUntilOut}
 use Rattle.session.specs.Outcomes.{IsOut}

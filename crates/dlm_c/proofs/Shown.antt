@@ -1,5 +1,5 @@
 -- Lists that are filled item by item, each item by that of another list at its place.
-use Rattle.std.proofs.Common.{◌≡◌, ◌+◌, ◌<◌, ℕ, zero, suc, List, [], ◌∷◌, Option, Some, subst, arith, slice_get, slice_set}
+use Rattle.std.proofs.Common.{◌≡◌, ◌+◌, ◌<◌, ℕ, zero, suc, List, [], ◌∷◌, Option, Some, refl, subst, arith, length, map, slice_get, slice_set}
 use Rattle.std.specs.Prelude.{T, is_none}
 use Rattle.dlm_c.specs.Views.{ShowBelow}
 
@@ -22,3 +22,14 @@ goes_put {V} {R} Goes (x ∷ made) (l ∷ from) (suc i) v goes before (suc k) vi
 pub shown_put : {V R : Type 0} (Shows : V → R → Type 0) (views : List V) (records : List R) (i : ℕ) (v : V) → ((r : R) → slice_get records i ≡ Some r → Shows v r) →
     ShowBelow Shows views records i → ShowBelow Shows (slice_set views i v) records (i + 1)
 shown_put Shows views records i v shows before = goes_put (λ n. Shows) views records i v shows before
+
+-- where each goes by its own, the whole list does
+pub all_go : {V R : Type 0} (f : R → V) (made : List V) (from : List R) → length made ≡ length from →
+    ((k : ℕ) (v : V) (r : R) → slice_get made k ≡ Some v → slice_get from k ≡ Some r → v ≡ f r) → made ≡ map f from
+all_go f [] [] same goes = refl
+all_go f [] (r ∷ from) same goes = let no : ⊥ = omega (arith, same) in absurd no
+all_go f (v ∷ made) [] same goes = let no : ⊥ = omega (arith, same) in absurd no
+all_go f (v ∷ made) (r ∷ from) same goes =
+    let head = goes zero v r refl refl in
+    let tail = all_go f made from (omega (arith, same)) (λ k. goes (suc k)) in
+    λ i. head i ∷ tail i

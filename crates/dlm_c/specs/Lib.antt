@@ -2,11 +2,13 @@ pub mod Asking
 pub mod Calls
 pub mod Claims
 pub mod Cleanups
+pub mod Devices
 pub mod Ends
 pub mod Headers
 pub mod Held
 pub mod Images
 pub mod Numbers
+pub mod Owners
 pub mod Requests
 pub mod Signs
 pub mod Steps

@@ -48,6 +48,14 @@ no_room = negsuc 5
 abbrev pub nothing_said : ℤ
 nothing_said = negsuc 6
 
+-- two reads of a row saw different sectors
+abbrev pub different : ℤ
+different = negsuc 7
+
+-- the sector's stamp is the last that there is
+abbrev pub stamp_spent : ℤ
+stamp_spent = negsuc 8
+
 -- a refusal that ends an operation
 abbrev pub operation_number : operation.Refusal → ℤ
 operation_number refusal = pos (of_operation.refusal_number refusal)
@@ -62,6 +70,10 @@ no_such_lock = table_number NoSuchLock
 -- memory was refused
 abbrev pub no_memory : ℤ
 no_memory = pos 21
+
+-- the host number is another machine's
+abbrev pub host_in_use : ℤ
+host_in_use = pos 36
 
 -- a mode, and that there is none
 abbrev pub mode_number : Mode → ℤ

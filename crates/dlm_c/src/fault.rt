@@ -23,6 +23,15 @@ pub const NO_ROOM: i32 = -6;
 /// The last answer that was heard did not end an operation.
 pub const NOTHING_SAID: i32 = -7;
 
+/// Two reads of a row saw different sectors.
+pub const DIFFERENT: i32 = -8;
+
+/// The sector's stamp is the last that there is.
+pub const STAMP_SPENT: i32 = -9;
+
+/// The host number is another machine's.
+pub const HOST_IN_USE: i32 = 36;
+
 /// Why a call from C did not do what it was asked.
 #[derive(Clone, Copy, Debug, PartialEq, Eq)]
 pub enum Fault {
