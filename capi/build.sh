@@ -40,17 +40,20 @@ if ! (cd -- "$top/crates/dlm_c" && rt lib < /dev/null) > "$out/build.log" 2>&1; 
     echo "capi/build.sh: not built: $out/build.log says why" >&2
     exit 125
 fi
-for part in midgegalena mg_session device sectors; do
+for part in midgegalena mg_session device; do
     "$cc" -std=c99 -O2 -fPIC -Wall -Wextra -pedantic ${CFLAGS:-} -I "$here/include" -c "$here/src/$part.c" -o "$out/$part.o"
 done
 # One object, of which nothing but mg_* is seen, so that another library of the kit's in the same program does no harm.
-ld -r -o "$out/whole.o" "$out/"{midgegalena,mg_session,device,sectors}.o "$top/crates/dlm_c/out/libdlm_c.a" "$kit/libos_c.a" "$kit/liblibc_c.a"
+ld -r -o "$out/whole.o" "$out/"{midgegalena,mg_session,device}.o "$top/crates/dlm_c/out/libdlm_c.a" "$kit/libos_c.a" "$kit/liblibc_c.a"
 objcopy --wildcard --keep-global-symbol='mg_*' "$out/whole.o"
+# The same of the calls on devices alone, for dlm-shared and dlm-mount.
+ld -r -o "$out/devices.o" "$out/device.o" "$top/crates/dlm_c/out/libdlm_c.a" "$kit/libos_c.a" "$kit/liblibc_c.a"
+objcopy --wildcard --keep-global-symbol='device_*' --keep-global-symbol=sync_data "$out/devices.o"
 rm -f -- "$out"/libmidgegalena.*
 ar rcs "$out/libmidgegalena.a" "$out/whole.o"
 "$cc" -shared -Wl,-soname,"libmidgegalena.so.$major" -Wl,-z,defs,-z,relro,-z,now ${CFLAGS:-} -o "$out/libmidgegalena.so.$version" "$out/whole.o"
 "$cc" -std=c99 -O2 -Wall -Wextra -pedantic ${CFLAGS:-} -I "$here/include" "$here/src/mg-lock.c" "$out/libmidgegalena.a" -o "$out/mg-lock"
-"$cc" -std=c99 -O2 -Wall -Wextra -pedantic ${CFLAGS:-} -I "$here/include" "$here/src/"{dlm-shared,device,sectors}.c "$out/libmidgegalena.a" -o "$out/dlm-shared"
+"$cc" -std=c99 -O2 -Wall -Wextra -pedantic ${CFLAGS:-} -I "$here/include" "$here/src/dlm-shared.c" "$out/devices.o" "$out/libmidgegalena.a" -o "$out/dlm-shared"
 ln -sf "libmidgegalena.so.$version" "$out/libmidgegalena.so.$major"
 ln -sf "libmidgegalena.so.$major" "$out/libmidgegalena.so"
 write_pc

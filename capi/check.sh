@@ -102,10 +102,8 @@ for set in 1 2 3 4 5 6 7; do
 done
 
 # Devices that several machines use: bytes, calls that fail, host numbers; and the same tests over such images, in files. tests/machines.sh has devices.
-tried "sectors, built" cc -std=c99 $common "$here/tests/sectors.c" "$here/src/sectors.c" -o "$work/sectors"
-tried "sectors" "$work/sectors"
-device_calls=(-std=c99 $common -Wl,--wrap=pread,--wrap=pwrite,--wrap=fdatasync "$here/tests/devices.c" "$here/src/device.c" "$here/src/sectors.c")
-tried "devices, built" cc "${device_calls[@]}" -o "$work/devices"
+device_calls=(-std=c99 $common -Wl,--wrap=pread,--wrap=pwrite,--wrap=fdatasync "$here/tests/devices.c")
+tried "devices, built" cc "${device_calls[@]}" "$here/out/devices.o" -o "$work/devices"
 tried "shared, built" cc -std=c99 $common "$here/tests/shared.c" $flags -o "$work/shared"
 for program in calls values sessions full_log contend failover; do
     source=$here/tests/$program.c
@@ -203,12 +201,12 @@ END
     fi
 fi
 source=$here/examples/dlm-mount
-tried "dlm-mount, built" cc -std=gnu11 -O2 -Wall -Wextra -Werror -I "$here/src" "$source/dlm-mount.c" "$here/src/device.c" "$here/src/sectors.c" -o "$work/dlm-mount"
+tried "dlm-mount, built" cc -std=gnu11 -O2 -Wall -Wextra -Werror -I "$here/src" "$source/dlm-mount.c" "$here/out/devices.o" -o "$work/dlm-mount"
 
 # A host dies before it has marked its release: a wait ends all the same.
 if command -v rt > /dev/null; then
     kit=$(dirname -- "$(dirname -- "$(readlink -f -- "$(command -v rt)")")")/c
-    tried "unmarked, built" cc -std=c99 $common "$here/tests/unmarked.c" "$here/src/"{mg_session,device,sectors}.c "$top/crates/dlm_c/out/libdlm_c.a" "$kit/libos_c.a" "$kit/liblibc_c.a" -o "$work/unmarked"
+    tried "unmarked, built" cc -std=c99 $common "$here/tests/unmarked.c" "$here/src/"{mg_session,device}.c "$top/crates/dlm_c/out/libdlm_c.a" "$kit/libos_c.a" "$kit/liblibc_c.a" -o "$work/unmarked"
     folder
     tried "unmarked" "$work/unmarked" "$work/images"
 fi
@@ -440,7 +438,7 @@ fi
 
 # How much C no proof covers: the lines that are neither blank nor comment.
 lines=0
-for part in midgegalena mg_session device sectors; do lines=$((lines + $(awk -f "$here/tests/lines.awk" "$here/src/$part.c"))); done
+for part in midgegalena mg_session device; do lines=$((lines + $(awk -f "$here/tests/lines.awk" "$here/src/$part.c"))); done
 for page in README.md docs/LIBRARY.md; do tried "lines of C in $page" grep -q "\b$lines lines of C" "$top/$page"; done
 
 # Memory.
@@ -464,7 +462,7 @@ if echo 'int main(void) { return 0; }' | cc -x c -fsanitize=address,undefined - 
     kit=$(dirname -- "$(dirname -- "$(readlink -f -- "$(command -v rt)")")")/c
     for program in calls values full_log images contend; do
         tried "sanitized $program, built" cc -std=c99 $common -fsanitize=address,undefined -fno-sanitize-recover=all "$here/tests/$program.c" \
-            "$here/src/"{midgegalena,device,sectors}.c "$top/crates/dlm_c/out/libdlm_c.a" "$kit/libos_c.a" "$kit/liblibc_c.a" -o "$work/sanitized_$program"
+            "$here/src/"{midgegalena,device}.c "$top/crates/dlm_c/out/libdlm_c.a" "$kit/libos_c.a" "$kit/liblibc_c.a" -o "$work/sanitized_$program"
         folder
         given=("$work/images")
         [[ $program != contend ]] || given+=(3 5)
@@ -497,7 +495,7 @@ if command -v valgrind > /dev/null; then
     done
 fi
 if [[ -f $work/sanitizer ]] && command -v rt > /dev/null; then
-    sanitized=(-std=c99 $common -fsanitize=address,undefined -fno-sanitize-recover=all "$here/src/"{midgegalena,mg_session,device,sectors}.c)
+    sanitized=(-std=c99 $common -fsanitize=address,undefined -fno-sanitize-recover=all "$here/src/"{midgegalena,mg_session,device}.c)
     proved=("$top/crates/dlm_c/out/libdlm_c.a" "$kit/libos_c.a" "$kit/liblibc_c.a")
     tried "sanitized sessions, built" cc "${sanitized[@]}" "$here/tests/sessions.c" "${proved[@]}" -o "$work/sanitized_sessions"
     folder

@@ -24,8 +24,8 @@ shared=$built/dlm-shared
 flags=(-Wall -Wextra -Werror -O2 -I "$top/capi/include")
 cc -std=c99 -pedantic "${flags[@]}" "$top/capi/tests/contend_machines.c" "$built/libmidgegalena.a" -o "$work/contend_machines" || fail "contend_machines.c"
 cc -std=c99 -pedantic -D_DEFAULT_SOURCE "${flags[@]}" -Wl,--wrap=pread,--wrap=pwrite,--wrap=fdatasync "$top/capi/tests/devices.c" \
-    "$top/capi/src/"{device,sectors}.c -o "$work/devices" || fail "devices.c"
-cc -std=gnu11 "${flags[@]}" -I "$top/capi/src" "$top/capi/examples/dlm-mount/dlm-mount.c" "$top/capi/src/"{device,sectors}.c -o "$work/dlm-mount" || fail "dlm-mount.c"
+    "$top/capi/out/devices.o" -o "$work/devices" || fail "devices.c"
+cc -std=gnu11 "${flags[@]}" -I "$top/capi/src" "$top/capi/examples/dlm-mount/dlm-mount.c" "$top/capi/out/devices.o" -o "$work/dlm-mount" || fail "dlm-mount.c"
 cc -std=gnu11 "${flags[@]}" -pthread "$tests/shim/moments_of_sectors.c" -o "$work/moments" || fail "moments_of_sectors.c"
 [[ $failed -eq 0 ]] || exit 1
 
@@ -85,7 +85,7 @@ held=$'recovered 1\ndb\n  granted 1 1 0 EX'
 expect "table on another" 0 "$held" "$shared" table "$work/b" 1
 expect "submit there" 0 "ack 1 Queued" "$shared" submit "$work/b" 1 enqueue 2 1 2 PR db
 expect "release" 0 "ack 2 Released" "$shared" submit "$work/a" 0 release 1 2 1 value 000102030405060708090a0b0c0d0e0f
-expect "state" 0 "ack 3 State(held=PR, wanted=-)" "$shared" submit "$work/b" 1 status 2 2 2
+expect "state" 0 "ack 3 State(held=PR, wanted=-, value=000102030405060708090a0b0c0d0e0f)" "$shared" submit "$work/b" 1 status 2 2 2
 expect "refused by the table" 0 "ack 4 12 NoSuchLock" "$shared" submit "$work/a" 0 cancel 1 3 9
 expect "mark" 0 $'recovered 5\nmarked 0 slots' "$shared" mark "$work/b" 1
 expect "no command" 2 "dlm: bad command" "$shared" submit "$work/a" 0 enqueue 1 4 1 XX db
@@ -128,7 +128,7 @@ if [[ -x $program ]]; then
     if [[ -e /dev/fuse ]]; then
         "$work/dlm-mount" "$work/c" "$work/shown" &
         for _ in $(seq 100); do [[ -e $work/shown/disk0.img ]] && break || sleep 0.05; done
-        expect "dlm over dlm-mount" 0 "ack 5 Granted" "$program" submit "$work/shown" 2 enqueue 3 1 3 NL db
+        expect "dlm over dlm-mount" 0 "ack 5 Granted(000102030405060708090a0b0c0d0e0f)" "$program" submit "$work/shown" 2 enqueue 3 1 3 NL db
         expect "another machine's number there" 1 "dlm: 37 NoLock host1" "$program" table "$work/shown" 1
         expect "what it did" 0 "recovered 6" bash -c '"$1" table "$2" 1 | head -n 1' _ "$shared" "$work/b"
         umount "$work/shown"

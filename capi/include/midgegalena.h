@@ -145,7 +145,8 @@ int mg_open_to_look(const char *folder, struct mg_host **out, int *disk);
  * devices: nobody here sees to that. MG_BAD_ARGUMENT where the folder has none such. */
 int mg_take_number(const char *folder, unsigned host, int *disk);
 
-/* The name of the machine that has a host number, of 32 digits and a zero; "" where none has it, or there are no such devices. */
+/* The name of the machine that has a host number, of 32 digits and a zero; "" where none has it, where half of the devices or fewer can be asked, or where
+ * there are no such devices. */
 int mg_machine_of(const char *folder, unsigned host, char *into, size_t size);
 
 /* Lets a host and its number go. NULL is nothing. The host's locks stay: they are in the log. */

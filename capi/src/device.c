@@ -1,9 +1,7 @@
 /*
- * device.h says what for. No proof covers this file. It judges no block and no command: it moves whole sectors, past the machine's cache.
+ * device.h says what for. No proof covers this file. It judges no header, no sector and no name: it moves whole sectors, past the machine's cache.
  */
-#ifndef _GNU_SOURCE
 #define _GNU_SOURCE
-#endif
 #include "device.h"
 
 #include <errno.h>
@@ -13,96 +11,86 @@
 #include <sys/ioctl.h>
 #include <unistd.h>
 
-enum { MOST_READS = 9, MOST_DISKS = 7, ROOM = SECTORS_HOSTS * SECTORS_MOST };
+enum { MOST_READS = 9, ROOM = DEVICE_HOSTS * DEVICE_LONGEST_SECTOR };
 
 uint8_t *device_room(void) {
     void *room = NULL;
-    return posix_memalign(&room, SECTORS_MOST, ROOM) == 0 ? room : NULL;
+    return posix_memalign(&room, DEVICE_LONGEST_SECTOR, 2 * ROOM) == 0 ? room : NULL;
 }
 
 /* All of it in one call, or it has failed: a sector is not put together of two. */
-static bool move(int file, uint8_t *bytes, size_t length, uint64_t at, bool writes) {
+static bool move(int file, uint8_t *bytes, uint64_t length, uint64_t at, bool writes) {
     ssize_t n;
     do
-        n = writes ? pwrite(file, bytes, length, (off_t)at) : pread(file, bytes, length, (off_t)at);
+        n = writes ? pwrite(file, bytes, (size_t)length, (off_t)at) : pread(file, bytes, (size_t)length, (off_t)at);
     while (n < 0 && errno == EINTR);
-    return n == (ssize_t)length;
+    return n >= 0 && (uint64_t)n == length;
 }
 
 bool sync_data(int file) {
-    int done;
-    do
-        done = fdatasync(file);
-    while (done != 0 && errno == EINTR);
-    return done == 0;
+    while (fdatasync(file) != 0)
+        if (errno != EINTR)
+            return false;
+    return true;
 }
 
-bool device_header(int file, uint8_t *room) { return move(file, room, SECTORS_HEADER, 0, false); }
+bool device_first(int file, uint8_t *room) { return move(file, room, DEVICE_FIRST, 0, false); }
 
-bool device_find(int file, uint8_t *room, struct sectors *how) {
+bool device_find(int file, unsigned disk, uint8_t *room, struct device *device, struct header *image) {
     off_t size = lseek(file, 0, SEEK_END);
-    return size >= 0 && device_header(file, room) && sectors_take_header(how, room) && (uint64_t)size >= sectors_length(how);
+    return size >= 0 && device_first(file, room) && dlm_c_device(disk, (uint64_t)size, (const struct first_bytes *)room, device, image) == 0;
 }
 
-bool device_suits(int file, uint32_t sector) {
+bool device_suits(int file, uint32_t sector_size) {
     unsigned physical;
-    return ioctl(file, BLKPBSZGET, &physical) != 0 || physical <= sector;
+    return ioctl(file, BLKPBSZGET, &physical) != 0 || physical <= sector_size;
 }
 
-bool device_lay_out(int file, const struct sectors *how, const uint8_t *header, size_t length, uint8_t *room) {
-    uint64_t size = sectors_length(how);
-    bool done = true;
+bool device_lay_out(int file, const struct device *device, unsigned disks, uint64_t cluster, unsigned disk, uint8_t *room) {
+    uint64_t size = 0;
+    uint8_t *first = room + ROOM, gate;
+    bool done = dlm_c_device_header(device, disks, cluster, disk, (struct first_bytes *)first, &size) == 0;
     memset(room, 0, ROOM);
     for (uint64_t at = 0; at < size && done; at += ROOM)
-        done = move(file, room, size - at < ROOM ? (size_t)(size - at) : ROOM, at, true);
+        done = move(file, room, size - at < ROOM ? size - at : ROOM, at, true);
+    gate = first[0];
     for (int opens = 0; opens < 2 && done; opens++) {
-        memcpy(room, header, length);
-        sectors_put_header(how, room);
-        room[0] = opens ? header[0] : 0;
-        done = sync_data(file) && move(file, room, SECTORS_HEADER, 0, true);
+        first[0] = opens ? gate : 0;
+        done = sync_data(file) && move(file, first, DEVICE_FIRST, 0, true);
     }
     return done && sync_data(file);
 }
 
-bool device_read(int file, const struct sectors *how, uint8_t *room, uint64_t at, uint8_t *row) {
-    uint8_t seen[2][SECTORS_ROW + SECTORS_HOSTS * SECTORS_STAMP];
-    uint64_t place;
-    if (!sectors_place(how, at, 0, &place) || at % SECTORS_ROW != 0)
-        return false;
-    for (int n = 0; n < MOST_READS && move(file, room, sectors_row(how), place, false); n++) {
-        sectors_gather(how, room, seen[n % 2], seen[n % 2] + SECTORS_ROW);
-        if (n > 0 && memcmp(seen[0], seen[1], sizeof seen[0]) == 0) {
-            memcpy(row, seen[0], SECTORS_ROW);
-            return true;
+bool device_read(int file, const struct device *device, uint8_t *room, uint64_t at, struct row *row) {
+    uint8_t *const reads[] = {room, room + ROOM};
+    struct sectors them;
+    bool is_row = dlm_c_device_row(device, at, &them) == 0, done = false;
+    for (int n = 0; n < MOST_READS && is_row && !done && move(file, reads[n % 2], them.length, them.place, false); n++)
+        done = n > 0 && dlm_c_device_agreed(device, reads[0], (size_t)them.length, reads[1], (size_t)them.length, row) == 0;
+    return done;
+}
+
+bool device_write(int file, const struct device *device, uint8_t *room, uint64_t at, const uint8_t *from, size_t length) {
+    struct sectors it;
+    return length == 0 ||
+           (dlm_c_device_block(device, at, length, &it) == 0 && move(file, room, it.length, it.place, false) &&
+            dlm_c_device_put(room, (size_t)it.length, it.offset, from, length) == 0 && move(file, room, it.length, it.place, true));
+}
+
+int device_claim(const int *files, const struct device *devices, unsigned disks, unsigned host, enum claim_of kind, const struct machine *machine,
+                 struct machine *other, uint8_t *room) {
+    struct all_heard said = {{{0, {{0}}}}, disks};
+    struct sectors at[DEVICE_DISKS];
+    int status;
+    for (unsigned k = 0; k < disks; k++)
+        said.all[k].is_heard = files[k] >= 0 && dlm_c_device_block(&devices[k], DEVICE_ROW + host * DEVICE_BLOCK, 0, &at[k]) == 0 &&
+                               move(files[k], room, at[k].length, at[k].place, false) && dlm_c_device_name(room, (size_t)at[k].length, &said.all[k].name) == 0;
+    status = dlm_c_device_owner(&said, machine, other);
+    for (unsigned k = 0; k < disks && kind != TELL && (status == IS_OURS || (kind == TAKE && status == IS_OTHERS)); k++)
+        if (said.all[k].is_heard && memcmp(&said.all[k].name, machine, sizeof *machine) != 0) {
+            said.all[k].is_heard = move(files[k], room, at[k].length, at[k].place, false) && dlm_c_device_put_name(room, (size_t)at[k].length, machine) == 0 &&
+                                   move(files[k], room, at[k].length, at[k].place, true) && sync_data(files[k]);
+            said.all[k].name = *machine;
         }
-    }
-    return false;
-}
-
-/* Nobody else writes this sector, so it has what this host wrote last. */
-static bool put(int file, const struct sectors *how, uint8_t *room, uint64_t place, size_t at, const uint8_t *from, size_t length) {
-    return move(file, room, how->sector, place, false) && (sectors_put(room, at, from, length), move(file, room, how->sector, place, true));
-}
-
-bool device_write(int file, const struct sectors *how, uint8_t *room, uint64_t at, const uint8_t *from, size_t length) {
-    uint64_t place;
-    return length == 0 || (sectors_place(how, at, length, &place) && put(file, how, room, place, at % SECTORS_BLOCK, from, length));
-}
-
-enum claimed device_claim(const int *files, const struct sectors *how, unsigned disks, unsigned host, enum claim_of kind, const uint8_t *machine, uint8_t *owner,
-                          uint8_t *room) {
-    uint8_t names[MOST_DISKS][SECTORS_NAME] = {{0}};
-    uint64_t places[MOST_DISKS] = {0};
-    bool heard[MOST_DISKS] = {false}, is_ours;
-    unsigned count = 0;
-    for (unsigned k = 0; k < disks; k++) {
-        heard[k] = files[k] >= 0 && sectors_place(&how[k], SECTORS_ROW + host * SECTORS_BLOCK, 0, &places[k]) && move(files[k], room, how[k].sector, places[k], false);
-        memcpy(names[k], room + SECTORS_NAME_AT, SECTORS_NAME);
-        count += heard[k];
-    }
-    is_ours = sectors_is_ours((const uint8_t(*)[SECTORS_NAME])names, heard, disks, machine, owner) || kind == TAKE;
-    for (unsigned k = 0, most = 2 * count > disks && is_ours && kind != TELL ? disks : 0; k < most; k++)
-        if (heard[k] && memcmp(names[k], machine, SECTORS_NAME) != 0)
-            count -= !(put(files[k], &how[k], room, places[k], SECTORS_NAME_AT, machine, SECTORS_NAME) && sync_data(files[k]));
-    return 2 * count <= disks ? IS_UNHEARD : is_ours ? IS_OURS : IS_OTHERS;
+    return dlm_c_device_owner(&said, machine, other);
 }

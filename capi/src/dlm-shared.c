@@ -133,11 +133,27 @@ static int command(struct mg_host *host, int count, char **words, struct mg_answ
 
 static const char *mode_text(int mode) { return mode >= MG_NL && mode <= MG_EX ? MODES[mode] : "-"; }
 
+/* The value of the lock's name as it is printed; "" where that is not shown. */
+static void show_value(struct mg_host *host, const char *word, char text[48]) {
+    static const uint8_t zeros[MG_VALUE_LENGTH];
+    struct mg_value value;
+    uint64_t lock;
+    text[0] = '\0';
+    if (!number(word, 65535, &lock) || mg_value(host, (unsigned)lock, &value) != MG_OK)
+        return;
+    if ((value.flags & MG_VALID) && memcmp(value.bytes, zeros, sizeof zeros) == 0)
+        return;
+    for (int i = 0; i < MG_VALUE_LENGTH; i++)
+        snprintf(text + 2 * i, 3, "%02x", value.bytes[i]);
+    if (!(value.flags & MG_VALID))
+        strcat(text, " invalid");
+}
+
 /* One line, by one write. */
 static int submit(struct mg_host *host, const char *folder, unsigned number_of_host, int count, char **words) {
-    static const char *const replies[] = {"", "Granted", "Queued", "Released", "Cancelled"};
+    static const char *const replies[] = {"", "", "Queued", "Released", "Cancelled"};
     struct mg_answer answer = {-1, MG_NO_REPLY, 0, MG_NONE, MG_NONE};
-    char reply[64], line[96];
+    char value[48], reply[128], line[160];
     int length, status = command(host, count, words, &answer);
     if (status == MG_BAD_ARGUMENT) {
         fputs("dlm: bad command\n", stderr);
@@ -145,11 +161,15 @@ static int submit(struct mg_host *host, const char *folder, unsigned number_of_h
     }
     if (answer.slot < 0)
         return refuse(status, folder, number_of_host, -1);
+    show_value(host, words[3], value);
     if (answer.reply == MG_PURGED)
         snprintf(reply, sizeof reply, "Purged(%u)", (unsigned)answer.purged);
     else if (answer.reply == MG_STATE)
-        snprintf(reply, sizeof reply, "State(held=%s, wanted=%s)", mode_text(answer.held), mode_text(answer.wanted));
-    else if (answer.reply >= MG_GRANTED && answer.reply <= MG_CANCELLED)
+        snprintf(reply, sizeof reply, "State(held=%s, wanted=%s%s%s)", mode_text(answer.held), mode_text(answer.wanted),
+                 answer.held != MG_NONE && value[0] ? ", value=" : "", answer.held != MG_NONE ? value : "");
+    else if (answer.reply == MG_GRANTED)
+        snprintf(reply, sizeof reply, value[0] ? "Granted(%s)" : "Granted%s", value);
+    else if (answer.reply > MG_GRANTED && answer.reply <= MG_CANCELLED)
         snprintf(reply, sizeof reply, "%s", replies[answer.reply]);
     else
         snprintf(reply, sizeof reply, "%d %s", status, mg_name(status));
@@ -236,7 +256,7 @@ static int format(int count, char **words) {
     int disk = -1, status = MG_ALREADY_THERE;
     count -= no_dsync;
     if (count < 4 || count > 6 || !number(words[1], MG_DISKS, &disks) || !number(words[2], MG_SLOTS, &slots) || !number(words[3], UINT64_MAX, &cluster) ||
-        (count > 4 && !number(words[4], MG_HOSTS, &hosts)) || (count > 5 && !number(words[5], SECTORS_MOST, &sector)))
+        (count > 4 && !number(words[4], MG_HOSTS, &hosts)) || (count > 5 && !number(words[5], DEVICE_LONGEST_SECTOR, &sector)))
         return usage();
     if (!has_more(words[0], (unsigned)disks))
         status = mg_format_shared(words[0], (unsigned)disks, (unsigned)slots, cluster, (unsigned)hosts, (unsigned)sector, no_dsync ? MG_NO_DSYNC : 0, &disk);
@@ -253,17 +273,20 @@ static int format(int count, char **words) {
 /* ---- images of layout 2 ---- */
 
 /* Copies a device as an image of layout 2. Of anything else the first bytes are copied, so that a check tells what is wrong with it. */
-static bool copy_image(int from, FILE *to, uint8_t *room) {
-    struct sectors how = {0, 0, 0, false};
-    uint8_t row[SECTORS_ROW];
-    if (!device_find(from, room, &how))
-        return device_header(from, room) && fwrite(room, 1, SECTORS_HEADER, to) == SECTORS_HEADER;
-    if (fwrite(room, 1, SECTORS_HEADER, to) != SECTORS_HEADER)
-        return false;
-    for (uint64_t at = SECTORS_ROW; at < SECTORS_ROW * (2 + (uint64_t)how.slots); at += SECTORS_ROW)
-        if (!device_read(from, &how, room, at, row) || fwrite(row, 1, sizeof row, to) != sizeof row)
+static bool copy_image(int from, unsigned disk, FILE *to, uint8_t *room) {
+    struct device how;
+    struct header shown;
+    struct row row;
+    if (!device_find(from, disk, room, &how, &shown))
+        return device_first(from, room) && fwrite(room, 1, DEVICE_FIRST, to) == DEVICE_FIRST;
+    memset(&row, 0, sizeof row);
+    memcpy(row.bytes, shown.bytes, sizeof shown.bytes);
+    for (uint64_t at = DEVICE_ROW; fwrite(row.bytes, 1, sizeof row.bytes, to) == sizeof row.bytes; at += DEVICE_ROW)
+        if (at == shown.size)
+            return true;
+        else if (!device_read(from, &how, room, at, &row))
             return false;
-    return true;
+    return false;
 }
 
 /* Copies what there is of disk0.img to disk6.img. An image that cannot be read to its end has no copy. */
@@ -283,7 +306,7 @@ static int copies(const char *folder, const char *into, unsigned *count) {
             continue;
         to = open(copy, O_WRONLY | O_CREAT | O_EXCL | O_CLOEXEC, 0666);
         out = to >= 0 ? fdopen(to, "wb") : NULL;
-        done = from >= 0 && out && copy_image(from, out, room);
+        done = from >= 0 && out && copy_image(from, k, out, room);
         if (from >= 0)
             close(from);
         if (out)

@@ -64,13 +64,7 @@ struct opened {
     uint32_t disks;
 };
 
-/* HeaderBytes of header.rt */
-struct header {
-    uint64_t size;
-    uint8_t bytes[HEADER_LENGTH];
-};
-
-/* DueCall, Written, Row and ToldAnswer of call.rt */
+/* DueCall, Written and ToldAnswer of call.rt; device.h has Row, and HeaderBytes of header.rt */
 struct due_call {
     uint64_t boot;
     uint64_t at;
@@ -81,10 +75,6 @@ struct due_call {
 
 struct written {
     uint8_t bytes[COPY_LENGTH];
-};
-
-struct row {
-    uint8_t bytes[ROW_LENGTH];
 };
 
 struct told_answer {
@@ -298,15 +288,15 @@ struct mg_host {
     bool only_looks;
     int lock;
     int files[MG_DISKS];          /* NO_FILE: every call fails */
-    struct sectors how[MG_DISKS]; /* of a device that several machines use; of other images the sector is 0 */
-    uint8_t *room;                /* for a row of such a device, NULL where there is none */
+    struct device how[MG_DISKS];  /* of a device that several machines use; of other images the sector size is 0 */
+    uint8_t *room;                /* for rows of such a device, NULL where there is none */
     /* The device call that is due, what it writes, and what was read last. */
     struct due_call call;
     struct written written;
     struct row row;
 };
 
-static bool is_shared(const struct mg_host *host, unsigned disk) { return host->how[disk].sector != 0; }
+static bool is_shared(const struct mg_host *host, unsigned disk) { return host->how[disk].sector_size != 0; }
 
 /* Makes the device call that is due, and says what it was answered. It is never an attach: of these the library has the answer,
  * since every file tells boot number 1. */
@@ -319,7 +309,7 @@ static uint32_t make_call(struct mg_host *host) {
     if (!file || *file == NO_FILE)
         return FAILED;
     if (call->kind == READ && is_shared(host, call->disk))
-        done = call->length == ROW_LENGTH && device_read(*file, &host->how[call->disk], host->room, call->at, host->row.bytes);
+        done = call->length == ROW_LENGTH && device_read(*file, &host->how[call->disk], host->room, call->at, &host->row);
     else if (call->kind == READ)
         done = read_settled(*file, host->row.bytes, (size_t)call->length, call->at);
     else if (call->kind == WRITE && call->length > COPY_LENGTH)
@@ -371,9 +361,10 @@ static void let_go(struct mg_host *host) {
 
 /* Opens an image anew, past the machine's cache, if it is a device that several machines use. Tells of it as of an image of layout 2. */
 static bool find_shared(struct mg_host *host, unsigned disk, const char *path, int flags, struct image *image) {
-    struct sectors how = {0, 0, 0, false};
+    struct device how;
+    struct header shown;
     int file = open_file(path, flags | O_DIRECT | O_DSYNC);
-    bool is_found = file != NO_FILE && device_find(file, host->room, &how);
+    bool is_found = file != NO_FILE && device_find(file, disk, host->room, &how, &shown);
     if (file != NO_FILE && !(is_found && how.dsync)) {
         close(file);
         file = is_found ? open_file(path, flags | O_DIRECT) : NO_FILE;
@@ -384,8 +375,8 @@ static bool find_shared(struct mg_host *host, unsigned disk, const char *path, i
     host->files[disk] = file;
     host->how[disk] = how;
     image->is_device = 0;
-    image->size = ROW_LENGTH * (2 + (uint64_t)how.slots);
-    memcpy(image->bytes, host->room, HEADER_LENGTH);
+    image->size = shown.size;
+    memcpy(image->bytes, shown.bytes, HEADER_LENGTH);
     return true;
 }
 
@@ -406,7 +397,7 @@ static bool find_image(struct mg_host *host, const char *folder, unsigned disk, 
             image->is_read = image->is_device && find_shared(host, disk, path, flags, image);
             if (!image->is_read && read_settled(*file, image->bytes, size < HEADER_LENGTH ? (size_t)size : HEADER_LENGTH, 0)) {
                 image->is_read = 1;
-                if (!image->is_device && image->bytes[1] == SECTORS_VERSION)
+                if (!image->is_device && image->bytes[1] == DEVICE_VERSION)
                     (void)find_shared(host, disk, path, flags, image);
             }
         }
@@ -440,9 +431,9 @@ static int lock_number(const char *folder, unsigned number, int *lock) {
 }
 
 /* The name of this machine, for devices that keep one: 32 digits of the file machine-id in the folder, or else of /etc/machine-id. */
-static bool read_machine(const char *folder, uint8_t name[SECTORS_NAME]) {
+static bool read_machine(const char *folder, struct machine *name) {
     static const char digits[] = "0123456789abcdef";
-    char text[2 * SECTORS_NAME + 1] = "";
+    char text[2 * sizeof name->bytes + 1] = "";
     char *path = path_of(folder, "machine-id", -1, "");
     int file = path ? open_file(path, O_RDONLY) : NO_FILE;
     bool done;
@@ -455,24 +446,24 @@ static bool read_machine(const char *folder, uint8_t name[SECTORS_NAME]) {
     close(file);
     errno = EINVAL;
     for (size_t i = 0; i < sizeof text - 1 && done; i++)
-        name[i / 2] = (uint8_t)(name[i / 2] << 4 | (strchr(digits, text[i]) - digits));
+        name->bytes[i / 2] = (uint8_t)(name->bytes[i / 2] << 4 | (strchr(digits, text[i]) - digits));
     return done;
 }
 
 /* Where devices keep the names of machines the number has to be this one's. */
 static int own_number(struct mg_host *host, const char *folder, unsigned number, bool takes) {
-    uint8_t machine[SECTORS_NAME], owner[SECTORS_NAME];
-    enum claimed claimed;
+    struct machine machine, other;
+    int status;
     bool any = false;
     for (unsigned k = 0; k < host->disks; k++)
         any |= is_shared(host, k) && host->files[k] != NO_FILE;
     if (!any)
         return takes ? MG_BAD_ARGUMENT : MG_OK;
-    if (!read_machine(folder, machine))
+    if (!read_machine(folder, &machine))
         return MG_NO_LOCK;
-    claimed = device_claim(host->files, host->how, host->disks, number, takes ? TAKE : CLAIM, machine, owner, host->room);
+    status = status_of(device_claim(host->files, host->how, host->disks, number, takes ? TAKE : CLAIM, &machine, &other, host->room));
     errno = EREMOTE;
-    return claimed == IS_OURS ? MG_OK : claimed == IS_OTHERS ? MG_HOST_IN_USE : MG_NO_MAJORITY;
+    return status;
 }
 
 static int open_host(struct mg_host *host, struct images *images, const char *folder, unsigned number, enum way way, int32_t *disk) {
@@ -562,21 +553,23 @@ int mg_take_number(const char *folder, unsigned number, int *disk) {
 }
 
 int mg_machine_of(const char *folder, unsigned number, char *into, size_t size) {
-    static const uint8_t nobody[SECTORS_NAME];
-    uint8_t owner[SECTORS_NAME];
+    static const struct machine nobody;
+    struct machine ours, owner;
     struct mg_host *host;
     int status;
-    if (!into || size < 2 * SECTORS_NAME + 1)
+    if (!into || size < 2 * sizeof owner.bytes + 1)
         return MG_BAD_ARGUMENT;
     into[0] = '\0';
     status = open_folder(folder, number, LOOKS, &host, NULL);
     if (status != MG_OK)
         return status;
-    (void)device_claim(host->files, host->how, host->disks, number, TELL, nobody, owner, host->room);
+    /* If it is another machine's, that one; else this one's, if the devices have that name. */
+    status = read_machine(folder, &ours) ? device_claim(host->files, host->how, host->disks, number, TELL, &ours, &owner, host->room) : IS_OURS;
+    if (status != IS_OTHERS)
+        status = device_claim(host->files, host->how, host->disks, number, TELL, &nobody, &owner, host->room);
     let_go(host);
-    if (memcmp(owner, nobody, SECTORS_NAME) != 0)
-        for (size_t i = 0; i < SECTORS_NAME; i++)
-            (void)snprintf(into + 2 * i, 3, "%02x", owner[i]);
+    for (size_t i = 0; i < sizeof owner.bytes && status == IS_OTHERS; i++)
+        (void)snprintf(into + 2 * i, 3, "%02x", owner.bytes[i]);
     return MG_OK;
 }
 
@@ -692,10 +685,17 @@ int mg_format(const char *folder, unsigned disks, unsigned slots, uint64_t clust
 
 /* ---- a new folder for several machines ---- */
 
+/* A device that is to be made, as disk 0 to one below `disks`. */
+struct plan {
+    struct device device;
+    unsigned disks;
+    uint64_t cluster, size;
+};
+
 /* Looks at the place of a device, or lays it out; a file is made where there is none. */
-static int at_device(const char *folder, const struct header *header, const struct sectors *how, unsigned disk, bool makes, uint8_t *room) {
+static int at_device(const char *folder, const struct plan *plan, unsigned disk, bool makes, uint8_t *room) {
     struct stat facts;
-    struct header found = *header;
+    struct header found;
     char *path = path_of(folder, "disk", (int)disk, ".img");
     bool is_there = path && lstat(path, &facts) == 0;
     bool is_device = is_there && stat(path, &facts) == 0 && S_ISBLK(facts.st_mode);
@@ -709,10 +709,11 @@ static int at_device(const char *folder, const struct header *header, const stru
     if (file == NO_FILE)
         return MG_UNREADABLE;
     if (makes)
-        status = device_lay_out(file, how, header->bytes, HEADER_LENGTH, room) && sync_folder(folder) ? MG_OK : MG_UNREADABLE;
-    else if (!device_suits(file, how->sector))
+        status = device_lay_out(file, &plan->device, plan->disks, plan->cluster, disk, room) && sync_folder(folder) ? MG_OK : MG_UNREADABLE;
+    else if (!device_suits(file, plan->device.sector_size))
         status = MG_BAD_ARGUMENT;
-    else if (lseek(file, 0, SEEK_END) >= (off_t)sectors_length(how) && device_header(file, room)) {
+    else if (lseek(file, 0, SEEK_END) >= (off_t)plan->size && device_first(file, room)) {
+        found.size = plan->size;
         memcpy(found.bytes, room, HEADER_LENGTH);
         status = dlm_c_is_formatted(&found) ? MG_ALREADY_THERE : MG_OK;
     }
@@ -721,22 +722,17 @@ static int at_device(const char *folder, const struct header *header, const stru
 }
 
 int mg_format_shared(const char *folder, unsigned disks, unsigned slots, uint64_t cluster, unsigned hosts, unsigned sector, unsigned flags, int *disk) {
-    struct sectors how = {sector == 0 ? SECTORS_MOST : sector, hosts, slots, (flags & MG_NO_DSYNC) == 0};
-    struct header header;
-    uint8_t *room;
+    struct plan plan = {{sector == 0 ? DEVICE_LONGEST_SECTOR : sector, hosts, slots, (flags & MG_NO_DSYNC) == 0}, disks, cluster, 0};
+    uint8_t *room = device_room();
     int status = MG_OK;
     if (disk)
         *disk = -1;
-    memset(&header, 0, sizeof header);
-    if (!folder || flags > MG_NO_DSYNC || !sectors_may_be(&how) || dlm_c_header(disks, slots, cluster, 0, &header) != 0)
-        return MG_BAD_ARGUMENT;
-    room = device_room();
     if (!room)
         return MG_NO_MEMORY;
-    for (unsigned k = 0; k < 2 * disks && status == MG_OK; k++) {
-        status = status_of(dlm_c_header(disks, slots, cluster, k % disks, &header));
-        if (status == MG_OK)
-            status = at_device(folder, &header, &how, k % disks, k >= disks, room);
+    if (!folder || flags > MG_NO_DSYNC || dlm_c_device_header(&plan.device, disks, cluster, 0, (struct first_bytes *)room, &plan.size) != 0)
+        status = MG_BAD_ARGUMENT;
+    for (unsigned k = 0; status == MG_OK && k < 2 * disks; k++) {
+        status = at_device(folder, &plan, k % disks, k >= disks, room);
         if (disk && (status == MG_UNREADABLE || status == MG_BAD_ARGUMENT))
             *disk = (int)(k % disks);
     }

@@ -77,8 +77,10 @@ int __wrap_fdatasync(int file) {
     return fault == NONE || fault == IS_SHORT ? __real_fdatasync(file) : -1;
 }
 
-static const uint8_t HEADER[16] = {0xA5, 2, 0, 3, 0, 0, 0, 4, 0, 0, 0, 0, 0, 0, 0, 9};
-static const struct sectors HOW = {4096, 4, 4, true};
+/* Disk 1 of three. The image that it shows has the same first bytes but for the version, and zeros behind them. */
+enum { DISKS = 3, DISK = 1, CLUSTER = 9 };
+static const uint8_t FIRST[24] = {0xA5, 3, 1, 3, 0, 0, 0, 4, 0, 0, 0, 0, 0, 0, 0, 9, 0, 0, 0x10, 0, 1, 4, 1, 0};
+static const struct device HOW = {4096, 4, 4, 1};
 
 static uint8_t *room;
 
@@ -88,19 +90,128 @@ static int gate(int file) {
     return room[0];
 }
 
+/* Each field of what is handed to the proved library, and back, is where that has it: bytes and numbers by hand from docs/FORMAT.md. */
+static void crosses(void) {
+    static const uint8_t wanted[24] = {0xA5, 3, 2, 5, 0, 0, 0, 7, 1, 2, 3, 4, 5, 6, 7, 8, 0, 0, 2, 0, 1, 3, 0, 0};
+    static const uint8_t given[3] = {1, 2, 3};
+    const struct device how = {512, 3, 7, 0}, wrong = {512, 3, 4097, 0};
+    struct device found = {0, 0, 0, 9};
+    struct first_bytes first;
+    struct header image = {0, {0}};
+    struct sectors at = {9, 9, 9};
+    struct machine ours, theirs, other = {{0}};
+    struct all_heard said = {{{0, {{0}}}}, 3};
+    struct row row;
+    uint8_t raw[3 * 512], again[3 * 512];
+    uint64_t size = 0;
+    IS(dlm_c_device_header(&how, 5, 0x0102030405060708, 2, &first, &size), 0);
+    IS(size, 4096 + 8 * 3 * 512);
+    IS(memcmp(first.bytes, wanted, sizeof wanted), 0);
+    for (size_t i = sizeof wanted; i < sizeof first.bytes; i++)
+        is_at(1000, first.bytes[i], 0);
+    IS(dlm_c_device(2, size, &first, &found, &image), 0);
+    IS(memcmp(&found, &how, sizeof how), 0);
+    IS(image.size, 4096 * 9);
+    IS(image.bytes[1], 2);
+    for (size_t i = 0; i < sizeof image.bytes; i++)
+        is_at(1100, i == 1 ? 3 : image.bytes[i], i < 16 ? wanted[i] : 0);
+    IS(dlm_c_device(2, size - 1, &first, &found, &image) == -1 && dlm_c_device(1, size, &first, &found, &image) == -1, true);
+    IS(dlm_c_device_header(&wrong, 5, 7, 2, &first, &size) == -1 && dlm_c_device_header(&how, 5, 7, 5, &first, &size) == -1, true);
+    first.bytes[22] = 1;
+    IS(dlm_c_device(2, size, &first, &found, &image) == 0 && found.dsync == 1, true);
+    IS(dlm_c_device_row(&how, 8192 + 4096, &at), 0);
+    IS(at.place == 4096 + 2 * 3 * 512 && at.length == 3 * 512 && at.offset == 0, true);
+    IS(dlm_c_device_block(&how, 8192 + 256 * 2 + 129, 127, &at), 0);
+    IS(at.place == 4096 + 3 * 512 + 2 * 512 && at.length == 512 && at.offset == 129, true);
+    IS(dlm_c_device_row(&how, 8192 + 256, &at) == -1 && dlm_c_device_block(&how, 8192 + 255, 2, &at) == -1 && dlm_c_device_block(&how, 8192 + 768, 1, &at) == -1, true);
+    for (int host = 0; host < 3; host++) {
+        memset(raw + 512 * host, 0x10 + host, 256);
+        memset(raw + 512 * host + 256, 0x20 + host, 8);
+        memset(raw + 512 * host + 264, 0xEE, 248);
+    }
+    memcpy(again, raw, sizeof raw);
+    again[511] = 0;
+    memset(row.bytes, 0xFF, sizeof row.bytes);
+    IS(dlm_c_device_agreed(&how, raw, sizeof raw, again, sizeof again, &row), 0);
+    for (int i = 0; i < 4096; i++)
+        is_at(2000 + i / 256, row.bytes[i], i < 768 ? 0x10 + i / 256 : 0);
+    again[512 + 263]++;
+    IS(dlm_c_device_agreed(&how, raw, sizeof raw, again, sizeof again, &row), -8);
+    IS(dlm_c_device_agreed(&how, raw, sizeof raw, again, sizeof again - 1, &row), -1);
+    memset(raw + 256, 0, 8);
+    raw[263] = 0xFF;
+    memcpy(again, raw, 512);
+    IS(dlm_c_device_put(raw, 512, 128, given, 3), 0);
+    for (int i = 0; i < 512; i++)
+        is_at(3000 + i, raw[i], i >= 128 && i < 131 ? i - 127 : i == 262 ? 1 : i == 263 ? 0 : again[i]);
+    IS(dlm_c_device_put(raw, 512, 254, given, 3), -1);
+    memset(ours.bytes, 'a', sizeof ours.bytes);
+    memset(theirs.bytes, 'b', sizeof theirs.bytes);
+    IS(dlm_c_device_put_name(raw, 512, &ours), 0);
+    for (int i = 0; i < 512; i++)
+        is_at(4000 + i, raw[i], i >= 128 && i < 131 ? i - 127 : i == 262 || i == 263 ? 1 : i >= 264 && i < 280 ? 'a' : again[i]);
+    IS(dlm_c_device_name(raw, 512, &other) == 0 && memcmp(&other, &ours, sizeof ours) == 0, true);
+    IS(dlm_c_device_name(raw, 279, &other) == -1 && dlm_c_device_put_name(raw, 279, &ours) == -1, true);
+    memset(raw + 256, 0xFF, 8);
+    IS(dlm_c_device_put(raw, 512, 0, given, 3) == -9 && dlm_c_device_put_name(raw, 512, &ours) == -9, true);
+    for (int k = 0; k < 2; k++) {
+        said.all[k].is_heard = 1;
+        said.all[k].name = k == 0 ? ours : theirs;
+    }
+    IS(dlm_c_device_owner(&said, &ours, &other) == IS_OTHERS && memcmp(&other, &theirs, sizeof other) == 0, true);
+    said.all[2] = said.all[0];
+    IS(dlm_c_device_owner(&said, &ours, &other), IS_OURS);
+    said.disks = 5;
+    IS(dlm_c_device_owner(&said, &ours, &other), IS_OTHERS);
+    said.disks = 7;
+    IS(dlm_c_device_owner(&said, &ours, &other), IS_UNHEARD);
+    said.disks = 8;
+    IS(dlm_c_device_owner(&said, &ours, &other), -1);
+}
+
+/* What each disk says: 'a' our name, 'b' and 'c' of others, '-' nobody's, '?' not heard. Whose the number is: "ours", another one's name, or '?'. */
+static void owner(const char *says, char whose) {
+    struct all_heard said = {{{0, {{0}}}}, (uint32_t)strlen(says)};
+    struct machine ours, other = {{0}};
+    int status;
+    memset(ours.bytes, 'a', sizeof ours.bytes);
+    for (unsigned k = 0; k < said.disks; k++) {
+        memset(said.all[k].name.bytes, says[k] == '-' ? 0 : says[k], sizeof ours.bytes);
+        said.all[k].is_heard = says[k] != '?';
+    }
+    status = dlm_c_device_owner(&said, &ours, &other);
+    if (status != (whose == 'a' ? IS_OURS : whose == '?' ? IS_UNHEARD : IS_OTHERS) || (status == IS_OTHERS && other.bytes[15] != whose)) {
+        printf("%s: %d, not %c's\n", says, status, whose);
+        failures++;
+    }
+}
+
+static void owners(void) {
+    static const char *const all[] = {"--- a", "aaa a", "a-- a", "?-- a", "bbb b", "b-- b", "aab a", "ab? b", "a?b b", "abb b", "a-b b", "cbb b", "bccbc c", "aaabb a", "aabb? b", "a?? ?", "?a ?", "a a", "b b", "? ?", "aaaabbb a", "aaa?bbc b", "aa--b b"};
+    for (size_t i = 0; i < sizeof all / sizeof *all; i++) {
+        char says[8] = "";
+        (void)sscanf(all[i], "%7s", says);
+        owner(says, all[i][strlen(says) + 1]);
+    }
+}
+
+static bool is_laid_out(int file) { return device_lay_out(file, &HOW, DISKS, CLUSTER, DISK, room); }
+
 static void lays_out(int file) {
-    struct sectors how;
+    struct device how;
+    struct header image;
     long calls;
     memset(room, 0xEE, 65536);
     for (int at = 0; at < 200; at++)
         IS(__real_pwrite(file, room, 4096, 4096 * at), 4096);
     reset(NONE, 0);
-    IS(device_lay_out(file, &HOW, HEADER, sizeof HEADER, room), true);
+    IS(is_laid_out(file), true);
     IS(seen.syncs, 3);
     calls = seen.calls;
-    IS(device_find(file, room, &how), true);
-    IS(how.sector == 4096 && how.hosts == 4 && how.slots == 4 && how.dsync, true);
-    IS(memcmp(room, HEADER, 2), 0);
+    IS(device_find(file, DISK, room, &how, &image), true);
+    IS(memcmp(&how, &HOW, sizeof how) == 0 && image.size == 6 * 4096, true);
+    IS(memcmp(room, FIRST, sizeof FIRST), 0);
+    IS(device_find(file, 0, room, &how, &image), false);
     for (int at = 1; at < 21; at++) {
         IS(__real_pread(file, room, 4096, 4096 * at), 4096);
         for (int i = 0; i < 4096; i++)
@@ -115,7 +226,7 @@ static void lays_out(int file) {
             memset(room, 0xEE, 4096);
             IS(__real_pwrite(file, room, 4096, 0), 4096);
             reset(fault, until);
-            if (device_lay_out(file, &HOW, HEADER, sizeof HEADER, room)) {
+            if (is_laid_out(file)) {
                 /* A short sync is none. */
                 IS(fault, IS_SHORT);
                 continue;
@@ -126,13 +237,14 @@ static void lays_out(int file) {
     /* A call that is interrupted is made again. */
     for (long until = 0; until < calls; until++) {
         reset(IS_INTERRUPTED, until);
-        IS(device_lay_out(file, &HOW, HEADER, sizeof HEADER, room), true);
+        IS(is_laid_out(file), true);
     }
 }
 
 static void reads_and_writes(int file) {
     static const uint8_t body[127] = {2, 1, 0, 9};
-    uint8_t row[SECTORS_ROW], before[4096];
+    uint8_t before[4096];
+    struct row row;
     reset(NONE, 0);
     IS(device_write(file, &HOW, room, 8192 + 256 * 2 + 129, body, 127), true);
     IS(seen.reads == 1 && seen.writes == 1 && seen.syncs == 0 && seen.length == 4096, true);
@@ -145,12 +257,12 @@ static void reads_and_writes(int file) {
     for (int i = 0; i < 4096; i++)
         is_at(6000 + i, before[i], i >= 129 && i < 256 ? body[i - 129] : i == 263);
     reset(NONE, 0);
-    IS(device_read(file, &HOW, room, 8192, row), true);
+    IS(device_read(file, &HOW, room, 8192, &row), true);
     IS(seen.reads == 2 && seen.length == 4 * 4096, true);
     for (int i = 0; i < 4096; i++)
-        is_at(7000 + i / 256, row[i], i >= 512 + 129 && i < 768 ? body[i - 641] : 0);
+        is_at(7000 + i / 256, row.bytes[i], i >= 512 + 129 && i < 768 ? body[i - 641] : 0);
     /* No row, no block, bytes of two blocks, and a host without a block. */
-    IS(device_read(file, &HOW, room, 0, row) || device_read(file, &HOW, room, 8192 + 256, row) || device_read(file, &HOW, room, 8192 + 4 * 4096, row), false);
+    IS(device_read(file, &HOW, room, 0, &row) || device_read(file, &HOW, room, 8192 + 256, &row) || device_read(file, &HOW, room, 8192 + 4 * 4096, &row), false);
     IS(device_write(file, &HOW, room, 100, body, 1) || device_write(file, &HOW, room, 8192 + 200, body, 100) || device_write(file, &HOW, room, 8192 + 1024, body, 1), false);
     /* A call that fails, and one that is short. The sector stays as it was, or has all of the write. */
     for (enum fault fault = FAILS; fault <= IS_SHORT; fault++)
@@ -159,7 +271,7 @@ static void reads_and_writes(int file) {
             IS(device_write(file, &HOW, room, 8192 + 256, body, 127), false);
             IS(seen.writes, until);
             reset(fault, until);
-            IS(device_read(file, &HOW, room, 8192, row), false);
+            IS(device_read(file, &HOW, room, 8192, &row), false);
         }
     reset(IS_INTERRUPTED, 1);
     IS(device_write(file, &HOW, room, 8192 + 512 + 129, body, 127), true);
@@ -172,57 +284,57 @@ static void reads_and_writes(int file) {
         reset(NONE, 0);
         seen.reader = file;
         seen.changes = changes;
-        IS(device_read(file, &HOW, room, 8192, row), changes <= 7);
+        IS(device_read(file, &HOW, room, 8192, &row), changes <= 7);
         IS(seen.reads, changes <= 7 ? changes + 2 : 9);
     }
 }
 
 static void claims(int *files, char **paths) {
-    const struct sectors how[3] = {HOW, HOW, HOW}, mixed[3] = {HOW, {0, 0, 0, false}, HOW};
-    uint8_t ours[SECTORS_NAME], theirs[SECTORS_NAME], owner[SECTORS_NAME], nobody[SECTORS_NAME] = {0};
+    const struct device how[3] = {HOW, HOW, HOW}, mixed[3] = {HOW, {0, 0, 0, 0}, HOW};
+    struct machine ours, theirs, owner, nobody = {{0}};
     int two[3], one[3];
-    memset(ours, 1, sizeof ours);
-    memset(theirs, 2, sizeof theirs);
+    memset(ours.bytes, 1, sizeof ours.bytes);
+    memset(theirs.bytes, 2, sizeof theirs.bytes);
     for (int k = 0; k < 3; k++) {
         two[k] = k == 1 ? -1 : files[k];
         one[k] = k == 1 ? files[k] : -1;
-        IS(device_lay_out(files[k], &HOW, HEADER, sizeof HEADER, room), true);
+        IS(is_laid_out(files[k]), true);
     }
     reset(NONE, 0);
-    IS(device_claim(files, how, 3, 2, TELL, nobody, owner, room), IS_OURS);
+    IS(device_claim(files, how, 3, 2, TELL, &nobody, &owner, room), IS_OURS);
     IS(seen.writes, 0);
-    IS(device_claim(two, how, 3, 2, CLAIM, ours, owner, room), IS_OURS);
+    IS(device_claim(two, how, 3, 2, CLAIM, &ours, &owner, room), IS_OURS);
     IS(seen.writes == 2 && seen.syncs == 2, true);
     reset(NONE, 0);
-    IS(device_claim(files, how, 3, 2, CLAIM, theirs, owner, room), IS_OTHERS);
-    IS(memcmp(owner, ours, sizeof owner), 0);
+    IS(device_claim(files, how, 3, 2, CLAIM, &theirs, &owner, room), IS_OTHERS);
+    IS(memcmp(&owner, &ours, sizeof owner), 0);
     /* On the third device nobody has the number so far. Half of the devices say nothing, and get no name. */
-    IS(device_claim(one, how, 3, 2, CLAIM, theirs, owner, room), IS_UNHEARD);
-    IS(device_claim(one, how, 3, 2, TAKE, theirs, owner, room), IS_UNHEARD);
-    IS(device_claim(files, mixed, 3, 2, TELL, nobody, owner, room), IS_OTHERS);
+    IS(device_claim(one, how, 3, 2, CLAIM, &theirs, &owner, room), IS_UNHEARD);
+    IS(device_claim(one, how, 3, 2, TAKE, &theirs, &owner, room), IS_UNHEARD);
+    IS(device_claim(files, mixed, 3, 2, TELL, &nobody, &owner, room), IS_OTHERS);
     IS(seen.writes, 0);
-    IS(device_claim(files, how, 3, 2, CLAIM, ours, owner, room), IS_OURS);
+    IS(device_claim(files, how, 3, 2, CLAIM, &ours, &owner, room), IS_OURS);
     IS(seen.writes, 1);
     reset(NONE, 0);
-    IS(device_claim(files, how, 3, 2, CLAIM, ours, owner, room), IS_OURS);
+    IS(device_claim(files, how, 3, 2, CLAIM, &ours, &owner, room), IS_OURS);
     IS(seen.reads == 3 && seen.writes == 0, true);
     /* Another number is not touched, and a block of the heartbeat area keeps its bytes beside the name. */
-    IS(device_claim(files, how, 3, 3, TELL, nobody, owner, room), IS_OURS);
-    IS(device_write(files[0], &HOW, room, 4096 + 512, ours, 16), true);
-    IS(device_claim(two, how, 3, 2, TAKE, theirs, owner, room), IS_OURS);
+    IS(device_claim(files, how, 3, 3, TELL, &nobody, &owner, room), IS_OURS);
+    IS(device_write(files[0], &HOW, room, 4096 + 512, ours.bytes, 16), true);
+    IS(device_claim(two, how, 3, 2, TAKE, &theirs, &owner, room), IS_OURS);
     IS(__real_pread(files[0], room, 4096, 4096 * 3), 4096);
-    IS(memcmp(room, ours, 16) == 0 && room[16] == 0 && memcmp(room + 264, theirs, 16) == 0 && room[263] == 3, true);
-    IS(device_claim(files, how, 3, 2, CLAIM, ours, owner, room), IS_OTHERS);
+    IS(memcmp(room, ours.bytes, 16) == 0 && room[16] == 0 && memcmp(room + 264, theirs.bytes, 16) == 0 && room[263] == 3, true);
+    IS(device_claim(files, how, 3, 2, CLAIM, &ours, &owner, room), IS_OTHERS);
     /* The device that was away still has the first name: it gets the other one. */
-    IS(device_claim(files, how, 3, 2, CLAIM, theirs, owner, room), IS_OURS);
-    IS(device_claim(one, how, 1, 2, TELL, nobody, owner, room), IS_UNHEARD);
-    IS(device_claim(files + 1, how, 1, 2, TELL, nobody, owner, room), IS_OTHERS);
-    IS(memcmp(owner, theirs, sizeof owner), 0);
+    IS(device_claim(files, how, 3, 2, CLAIM, &theirs, &owner, room), IS_OURS);
+    IS(device_claim(one, how, 1, 2, TELL, &nobody, &owner, room), IS_UNHEARD);
+    IS(device_claim(files + 1, how, 1, 2, TELL, &nobody, &owner, room), IS_OTHERS);
+    IS(memcmp(&owner, &theirs, sizeof owner), 0);
     /* No such host; a read, a write or a sync that fails on two devices of three. */
-    IS(device_claim(files, how, 3, 4, CLAIM, ours, owner, room), IS_UNHEARD);
+    IS(device_claim(files, how, 3, 4, CLAIM, &ours, &owner, room), IS_UNHEARD);
     for (int closed = 0; closed < 2; closed++) {
         int few[3] = {files[0], open(paths[1], O_RDONLY | O_DIRECT), open(paths[2], closed ? O_RDONLY | O_DIRECT : O_RDWR | O_DIRECT)};
-        IS(device_claim(few, how, 3, (unsigned)closed, CLAIM, ours, owner, room), closed ? IS_UNHEARD : IS_OURS);
+        IS(device_claim(few, how, 3, (unsigned)closed, CLAIM, &ours, &owner, room), closed ? IS_UNHEARD : IS_OURS);
         close(few[1]);
         close(few[2]);
     }
@@ -230,9 +342,12 @@ static void claims(int *files, char **paths) {
 
 int main(int argc, char **argv) {
     int files[3];
-    struct sectors how;
+    struct device how;
+    struct header image;
     if (argc < 4)
         return 2;
+    crosses();
+    owners();
     room = device_room();
     reset(NONE, 0);
     for (int k = 0; k < 3; k++) {
@@ -241,9 +356,9 @@ int main(int argc, char **argv) {
             return 3;
         IS(files[k] >= 0, 1);
     }
-    memset(room, 0, SECTORS_HEADER);
-    IS(__real_pwrite(files[0], room, SECTORS_HEADER, 0), SECTORS_HEADER);
-    IS(device_find(files[0], room, &how), false);
+    memset(room, 0, 4096);
+    IS(__real_pwrite(files[0], room, 4096, 0), 4096);
+    IS(device_find(files[0], 0, room, &how, &image), false);
     IS(device_suits(files[0], 4096), true);
     lays_out(files[0]);
     reads_and_writes(files[0]);
@@ -252,10 +367,9 @@ int main(int argc, char **argv) {
         /* A device that is too short for what its header tells. */
         int brief = open(argv[4], O_RDWR | O_DIRECT);
         memset(room, 0, 4096);
-        memcpy(room, HEADER, sizeof HEADER);
-        sectors_put_header(&HOW, room);
+        memcpy(room, FIRST, sizeof FIRST);
         IS(__real_pwrite(brief, room, 4096, 0), 4096);
-        IS(device_find(brief, room, &how), false);
+        IS(device_find(brief, DISK, room, &how, &image), false);
         close(brief);
     }
     for (int k = 0; k < 3; k++)

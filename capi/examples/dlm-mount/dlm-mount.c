@@ -25,13 +25,14 @@ enum { DISKS = 7, ROOT = 1, FIRST_DISK = 10, FIRST_LOCK = 100, BUFFER = 1 << 20,
 
 static int files[DISKS], fuse;
 static unsigned disks; /* of the set */
-static struct sectors how[DISKS];
-static uint8_t first[DISKS][SECTORS_ROW]; /* the first row of an image: its header, and zeros */
-static uint8_t machine[SECTORS_NAME], *room;
+static struct device how[DISKS];
+static struct header shown[DISKS]; /* the length and the first bytes of an image */
+static struct machine machine;
+static uint8_t *room;
 
 static bool is_disk(uint64_t node) { return node >= FIRST_DISK && node < FIRST_DISK + DISKS && files[node - FIRST_DISK] >= 0; }
-static bool is_lock(uint64_t node) { return node >= FIRST_LOCK && node < FIRST_LOCK + SECTORS_HOSTS; }
-static uint64_t size_of(unsigned disk) { return SECTORS_ROW * (2 + (uint64_t)how[disk].slots); }
+static bool is_lock(uint64_t node) { return node >= FIRST_LOCK && node < FIRST_LOCK + DEVICE_HOSTS; }
+static uint64_t size_of(unsigned disk) { return shown[disk].size; }
 
 static void answer(uint64_t unique, int error, const void *bytes, size_t length) {
     static uint8_t out[sizeof(struct fuse_out_header) + MOST + 4096];
@@ -46,7 +47,7 @@ static int put_attr(uint64_t node, struct fuse_attr *attr) {
     memset(attr, 0, sizeof *attr);
     attr->ino = node;
     attr->nlink = 1;
-    attr->blksize = SECTORS_ROW;
+    attr->blksize = DEVICE_ROW;
     attr->mode = node == ROOT ? S_IFDIR | 0777 : S_IFREG | 0666;
     if (is_disk(node)) {
         attr->size = size_of((unsigned)(node - FIRST_DISK));
@@ -57,7 +58,7 @@ static int put_attr(uint64_t node, struct fuse_attr *attr) {
 
 static uint64_t node_of(const char *name) {
     char right[32];
-    for (unsigned n = 0; n < SECTORS_HOSTS; n++) {
+    for (unsigned n = 0; n < DEVICE_HOSTS; n++) {
         snprintf(right, sizeof right, "host%u.lock", n);
         if (strcmp(name, right) == 0)
             return FIRST_LOCK + n;
@@ -69,14 +70,14 @@ static uint64_t node_of(const char *name) {
 }
 
 static int read_rows(unsigned disk, uint64_t at, uint8_t *into, size_t length) {
-    uint8_t row[SECTORS_ROW];
+    struct row row = {{0}};
     while (length > 0) {
-        size_t from = (size_t)(at % SECTORS_ROW), part = SECTORS_ROW - from < length ? SECTORS_ROW - from : length;
-        if (at < SECTORS_ROW)
-            memcpy(row, first[disk], sizeof row);
-        else if (!device_read(files[disk], &how[disk], room, at - from, row))
+        size_t from = (size_t)(at % DEVICE_ROW), part = DEVICE_ROW - from < length ? DEVICE_ROW - from : length;
+        if (at < DEVICE_ROW)
+            memcpy(row.bytes, shown[disk].bytes, sizeof shown[disk].bytes);
+        else if (!device_read(files[disk], &how[disk], room, at - from, &row))
             return EIO;
-        memcpy(into, row + from, part);
+        memcpy(into, row.bytes + from, part);
         into += part;
         at += part;
         length -= part;
@@ -86,10 +87,10 @@ static int read_rows(unsigned disk, uint64_t at, uint8_t *into, size_t length) {
 
 /* Whoever opens the file by which a host number is locked means to work under it: the number has to be this machine's. */
 static int own_number(uint64_t node) {
-    uint8_t owner[SECTORS_NAME];
+    struct machine other;
     if (!is_lock(node))
         return 0;
-    return device_claim(files, how, disks, (unsigned)(node - FIRST_LOCK), CLAIM, machine, owner, room) == IS_OURS ? 0 : EACCES;
+    return device_claim(files, how, disks, (unsigned)(node - FIRST_LOCK), CLAIM, &machine, &other, room) == IS_OURS ? 0 : EACCES;
 }
 
 static void serve(const struct fuse_in_header *in, const void *argument) {
@@ -158,7 +159,7 @@ static void serve(const struct fuse_in_header *in, const void *argument) {
     case FUSE_WRITE: {
         const struct fuse_write_in *asked = argument;
         out.write.size = asked->size;
-        error = !is_disk(node) || asked->offset < SECTORS_ROW ? EROFS
+        error = !is_disk(node) || asked->offset < DEVICE_ROW ? EROFS
                 : device_write(files[disk], &how[disk], room, asked->offset, (const uint8_t *)argument + sizeof *asked, asked->size) ? 0 : EIO;
         answer(in->unique, error, &out, sizeof out.write);
         break;
@@ -191,12 +192,11 @@ static bool find(const char *folder) {
     for (unsigned k = 0; k < DISKS; k++) {
         snprintf(path, sizeof path, "%s/disk%u.img", folder, k);
         files[k] = open(path, O_RDWR | O_DIRECT | O_DSYNC | O_CLOEXEC);
-        if (files[k] >= 0 && !device_find(files[k], room, &how[k])) {
+        if (files[k] >= 0 && !device_find(files[k], k, room, &how[k], &shown[k])) {
             close(files[k]);
             files[k] = -1;
         } else if (files[k] >= 0) {
-            memcpy(first[k], room, SECTORS_ROW);
-            disks = disks ? disks : room[3];
+            disks = disks ? disks : shown[k].bytes[3];
         }
         if (files[k] >= 0 && !how[k].dsync) {
             close(files[k]);
@@ -216,11 +216,11 @@ static bool read_machine(const char *folder) {
     file = fopen(path, "r");
     if (!file && errno == ENOENT)
         file = fopen("/etc/machine-id", "r");
-    while (file && n < SECTORS_NAME && fscanf(file, "%2x", &byte) == 1)
-        machine[n++] = (uint8_t)byte;
+    while (file && n < sizeof machine.bytes && fscanf(file, "%2x", &byte) == 1)
+        machine.bytes[n++] = (uint8_t)byte;
     if (file)
         fclose(file);
-    return n == SECTORS_NAME;
+    return n == sizeof machine.bytes;
 }
 
 int main(int count, char **words) {
