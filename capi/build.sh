@@ -46,9 +46,9 @@ done
 # One object, of which nothing but mg_* is seen, so that another library of the kit's in the same program does no harm.
 ld -r -o "$out/whole.o" "$out/"{midgegalena,mg_session,device}.o "$top/crates/dlm_c/out/libdlm_c.a" "$kit/libos_c.a" "$kit/liblibc_c.a"
 objcopy --wildcard --keep-global-symbol='mg_*' "$out/whole.o"
-# The same of the calls on devices alone, for dlm-shared and dlm-mount.
+# The same of the calls on devices alone, for dlm-shared, dlm-mount and their test.
 ld -r -o "$out/devices.o" "$out/device.o" "$top/crates/dlm_c/out/libdlm_c.a" "$kit/libos_c.a" "$kit/liblibc_c.a"
-objcopy --wildcard --keep-global-symbol='device_*' --keep-global-symbol=sync_data "$out/devices.o"
+objcopy --wildcard --keep-global-symbol='device_*' --keep-global-symbol='dlm_c_device*' --keep-global-symbol=sync_data "$out/devices.o"
 rm -f -- "$out"/libmidgegalena.*
 ar rcs "$out/libmidgegalena.a" "$out/whole.o"
 "$cc" -shared -Wl,-soname,"libmidgegalena.so.$major" -Wl,-z,defs,-z,relro,-z,now ${CFLAGS:-} -o "$out/libmidgegalena.so.$version" "$out/whole.o"
