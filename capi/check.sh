@@ -154,7 +154,7 @@ ack 2 Queued
 $ submit images 3 enqueue 3 2 4 PR db noqueue
 ack 3 16 NotQueued
 $ submit images 0 convert 1 2 1 PW value 000102030405060708090a0b0c0d0e0f
-ack 4 Granted
+ack 4 Granted(000102030405060708090a0b0c0d0e0f)
 $ submit images 1 status 2 2 3
 ack 5 State(held=-, wanted=PR)
 $ submit images 2 cancel 3 3 3
@@ -474,7 +474,8 @@ fi
 
 # The same of the calls on shared devices.
 if [[ -f $work/sanitizer && $is_direct -ne 3 ]]; then
-    tried "sanitized devices, built" cc -fsanitize=address,undefined -fno-sanitize-recover=all "${device_calls[@]}" -o "$work/sanitized_devices"
+    tried "sanitized devices, built" cc -fsanitize=address,undefined -fno-sanitize-recover=all "${device_calls[@]}" "$here/src/device.c" \
+        "$top/crates/dlm_c/out/libdlm_c.a" "$kit/libos_c.a" "$kit/liblibc_c.a" -o "$work/sanitized_devices"
     folder
     for k in 0 1 2; do truncate -s 128K -- "$work/images/$k"; done
     tried "sanitized devices" "$work/sanitized_devices" "$work/images/"{0,1,2}
