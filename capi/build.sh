@@ -52,7 +52,7 @@ objcopy --wildcard --keep-global-symbol='device_*' --keep-global-symbol='dlm_c_d
 rm -f -- "$out"/libmidgegalena.*
 ar rcs "$out/libmidgegalena.a" "$out/whole.o"
 "$cc" -shared -Wl,-soname,"libmidgegalena.so.$major" -Wl,-z,defs,-z,relro,-z,now ${CFLAGS:-} -o "$out/libmidgegalena.so.$version" "$out/whole.o"
-"$cc" -std=c99 -O2 -Wall -Wextra -pedantic ${CFLAGS:-} -I "$here/include" "$here/src/mg-lock.c" "$out/libmidgegalena.a" -o "$out/mg-lock"
+"$cc" -std=c99 -O2 -Wall -Wextra -pedantic ${CFLAGS:-} -I "$here/include" "$here/src/"{mg-lock,status}.c "$out/libmidgegalena.a" -o "$out/mg-lock"
 "$cc" -std=c99 -O2 -Wall -Wextra -pedantic ${CFLAGS:-} -I "$here/include" "$here/src/dlm-shared.c" "$out/devices.o" "$out/libmidgegalena.a" -o "$out/dlm-shared"
 ln -sf "libmidgegalena.so.$version" "$out/libmidgegalena.so.$major"
 ln -sf "libmidgegalena.so.$major" "$out/libmidgegalena.so"

@@ -279,12 +279,19 @@ done
 # The program mg-lock. MG_LOCK: turns of each of eight processes.
 if command -v python3 > /dev/null && [[ -x $dlm ]]; then
     mkdir -- "$work/mg-lock"
-    tried "answers, built" cc -std=c99 $common -Wl,--wrap=mg_take,--wrap=mg_give "$here/src/mg-lock.c" "$here/tests/answers.c" "$PREFIX/lib/libmidgegalena.a" -o "$work/answers"
+    tried "answers, built" cc -std=c99 $common -Wl,--wrap=mg_take,--wrap=mg_give "$here/src/"{mg-lock,status}.c "$here/tests/answers.c" "$PREFIX/lib/libmidgegalena.a" -o "$work/answers"
     tried "mg-lock" env PYTHONDONTWRITEBYTECODE=1 python3 "$here/tests/mg_lock.py" "$PREFIX/bin/mg-lock" "$dlm" "$work/mg-lock" "${MG_LOCK:-3}" \
         "$PREFIX/lib/libmidgegalena.so" "$work/answers"
     tail -n 1 "$work/out.txt" >> "$work/restarted.txt"
 else
     left_out "mg-lock: there is no Python, or dlm is not built"
+fi
+
+# mg-lock --status.
+if command -v python3 > /dev/null && [[ -x $dlm ]]; then
+    mkdir -- "$work/status"
+    tried "status" env PYTHONDONTWRITEBYTECODE=1 python3 "$here/tests/status.py" "$PREFIX/bin/mg-lock" "$dlm" "$work/status"
+    tail -n 1 "$work/out.txt" >> "$work/restarted.txt"
 fi
 
 # Device calls that fail, and processes that die, in the midst of a take or a give; and how late a take comes back.
@@ -494,6 +501,10 @@ if command -v valgrind > /dev/null; then
         # shellcheck disable=SC2086
         tried "valgrind mg-lock $option" in_folder "${checks_memory[@]}" "$PREFIX/bin/mg-lock" $option "${given[@]}"
     done
+    for option in "" --json; do
+        # shellcheck disable=SC2086
+        tried "valgrind mg-lock --status $option" in_folder "$PREFIX/bin/mg-lock" -w 1 images 0 db -- "${checks_memory[@]}" "$PREFIX/bin/mg-lock" --status $option images
+    done
 fi
 if [[ -f $work/sanitizer ]] && command -v rt > /dev/null; then
     sanitized=(-std=c99 $common -fsanitize=address,undefined -fno-sanitize-recover=all "$here/src/"{midgegalena,mg_session,device}.c)
@@ -501,10 +512,10 @@ if [[ -f $work/sanitizer ]] && command -v rt > /dev/null; then
     tried "sanitized sessions, built" cc "${sanitized[@]}" "$here/tests/sessions.c" "${proved[@]}" -o "$work/sanitized_sessions"
     folder
     tried "sanitized sessions" "$work/sanitized_sessions" "$work/images"
-    tried "sanitized mg-lock, built" cc "${sanitized[@]}" "$here/src/mg-lock.c" "${proved[@]}" -o "$work/sanitized_mg-lock"
+    tried "sanitized mg-lock, built" cc "${sanitized[@]}" "$here/src/"{mg-lock,status}.c "${proved[@]}" -o "$work/sanitized_mg-lock"
     folder
     in_folder ./format images 64
-    tried "sanitized mg-lock" in_folder ./sanitized_mg-lock -w 1 images 0 db -- bash -c '! ./sanitized_mg-lock -n images 0 db true && ./sanitized_mg-lock -r images 0'
+    tried "sanitized mg-lock" in_folder ./sanitized_mg-lock -w 1 images 0 db -- bash -c '! ./sanitized_mg-lock -n images 0 db true && ./sanitized_mg-lock -r images 0 && ./sanitized_mg-lock --status images && ./sanitized_mg-lock --status --json images'
 fi
 
 # What is put in place is taken out again.

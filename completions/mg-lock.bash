@@ -1,7 +1,7 @@
 # Completion for bash of mg-lock: options, folders, hosts, then the words of the command.
 
 _mg_lock() {
-    local word=${COMP_WORDS[COMP_CWORD]} before=${COMP_WORDS[COMP_CWORD - 1]} words= given=0 i
+    local word=${COMP_WORDS[COMP_CWORD]} before=${COMP_WORDS[COMP_CWORD - 1]} words= given=0 shows=0 i
     COMPREPLY=()
     case $before in
         -m | --mode) mapfile -t COMPREPLY < <(compgen -W "NL CR CW PR PW EX" -- "$word"); return ;;
@@ -11,14 +11,16 @@ _mg_lock() {
     for ((i = 1; i < COMP_CWORD; i++)); do
         case ${COMP_WORDS[i]} in
             -m | --mode | -w | --timeout | -E | --conflict-exit-code | -k | --check | -i | --interval) [[ $given -gt 0 ]] || ((i++)) ;;
+            --status) [[ $given -gt 0 ]] && ((given++)) || shows=1 ;;
             -*) [[ $given -eq 0 ]] || ((given++)) ;;
             *) ((given++)) ;;
         esac
     done
+    [[ $shows -eq 0 || $given -eq 0 ]] || return
     case $given in
         0)
             if [[ $word == -* ]]; then
-                words="--exclusive --shared --mode --nonblock --timeout --conflict-exit-code --value --close --check --interval --recover --all --verbose --help --version"
+                words="--exclusive --shared --mode --nonblock --timeout --conflict-exit-code --value --close --check --interval --recover --all --status --json --verbose --help --version"
                 mapfile -t COMPREPLY < <(compgen -W "$words" -- "$word")
             else
                 compopt -o filenames

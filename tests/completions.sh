@@ -73,6 +73,9 @@ expect 'mg-lock -n -w 3 im' '<-n> <-w> <3> <images>'
 expect 'mg-lock -s images ' '<-s> <images> <0> <1> <2> <3> <4> <5> <6> <7> <8> <9> <10> <11> <12> <13> <14> <15>'
 expect 'mg-lock images 0 ' '<images> <0>'
 expect 'mg-lock images 0 db -- one' '<images> <0> <db> <--> <one.dlm>'
+expect 'mg-lock --st' '<--status>'
+expect 'mg-lock --status --json im' '<--status> <--json> <images>'
+expect 'mg-lock --status images ' '<--status> <images>'
 
 # asked TYPED WORDS: fish offers these words.
 asked() {

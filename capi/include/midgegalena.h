@@ -296,6 +296,20 @@ int mg_clients(struct mg_host *host, struct mg_client_view *into, size_t room, s
  * the text is. */
 int mg_text(struct mg_host *host, char *into, size_t size, size_t *length);
 
+/* ---- the images, as the host knows them: no device call ---- */
+
+struct mg_disk_view {
+    uint32_t disk;
+    int32_t status; /* MG_OK: it is used */
+};
+
+/* Each disk, by number. When the images were opened MG_UNREADABLE could not be opened or read, MG_NOT_FORMATTED has no header that was
+ * made to its end, and MG_WRONG_HEADER has one that is not this image's, or another length or layout. MG_UNREADABLE is also a disk on
+ * which a call of this host has failed since. A call on other disks tells nothing of it: a look, for one, reads a majority. Of the
+ * blocks it says nothing: `dlm check` reads these. All goes on while more than half are MG_OK. Fills up to `room`; `*count` is how
+ * many there are. `into` may be NULL where `room` is 0. */
+int mg_disks(struct mg_host *host, struct mg_disk_view *into, size_t room, size_t *count);
+
 #ifdef __cplusplus
 }
 #endif

@@ -9,6 +9,8 @@
 #endif
 #include <mg_session.h>
 
+#include "status.h"
+
 #include <errno.h>
 #include <fcntl.h>
 #include <getopt.h>
@@ -33,7 +35,7 @@ static struct {
     char **command;
     unsigned host;
     int mode, conflict, interval, check, timeout; /* milliseconds, below 0: none */
-    bool closes, prints, verbose, recovers, all;
+    bool closes, prints, verbose, recovers, all, shows, as_json;
 } asked = {.mode = MG_EX, .conflict = 1, .interval = 5, .timeout = -1};
 
 static int64_t begun;    /* when, in milliseconds */
@@ -224,6 +226,7 @@ static int run(struct mg_session *session, const sigset_t *before, bool *lost) {
 static void usage(FILE *where) {
     fputs("usage: mg-lock [OPTION]... FOLDER HOST NAME [--] [COMMAND [ARGUMENT]...]\n"
           "       mg-lock --recover [--all] FOLDER HOST\n"
+          "       mg-lock --status [--json] FOLDER\n"
           "Runs COMMAND while it holds a lock on NAME, through host HOST of the images in FOLDER.\n"
           "Without a COMMAND it holds the lock until it is interrupted.\n"
           "\n"
@@ -239,6 +242,8 @@ static void usage(FILE *where) {
           "  -i, --interval MS      longest pause between looks (5)\n"
           "  -r, --recover          release what processes that are gone have left, and no more\n"
           "  -a, --all              with -r: all locks of this host; only when its machine has just started\n"
+          "      --status           print slots, disks, host numbers in use here, and locks; it only looks\n"
+          "      --json             with --status: for programs\n"
           "      --verbose          say how long it waited\n"
           "  -h, --help; -V, --version\n"
           "\n"
@@ -282,7 +287,7 @@ static const struct option OPTIONS[] = {
     {"timeout", 1, NULL, 'w'},   {"wait", 1, NULL, 'w'},     {"conflict-exit-code", 1, NULL, 'E'},
     {"value", 0, NULL, 'v'},     {"close", 0, NULL, 'o'},    {"check", 1, NULL, 'k'},   {"interval", 1, NULL, 'i'},
     {"recover", 0, NULL, 'r'},   {"all", 0, NULL, 'a'},      {"verbose", 0, NULL, 'l'}, {"help", 0, NULL, 'h'},
-    {"version", 0, NULL, 'V'},   {NULL, 0, NULL, 0}};
+    {"version", 0, NULL, 'V'},   {"status", 0, NULL, 'S'},   {"json", 0, NULL, 'J'},    {NULL, 0, NULL, 0}};
 
 /* 0, or the status to end with; below 0: end well. */
 static int read_options(int argc, char **argv) {
@@ -317,6 +322,8 @@ static int read_options(int argc, char **argv) {
         case 'r': asked.recovers = true; break;
         case 'a': asked.all = true; break;
         case 'l': asked.verbose = true; break;
+        case 'S': asked.shows = true; break;
+        case 'J': asked.as_json = true; break;
         case 'h': usage(stdout); return -1;
         case 'V': printf("mg-lock of midgegalena %s\n", mg_version()); return -1;
         default: usage(stderr); return FAILED;
@@ -325,17 +332,28 @@ static int read_options(int argc, char **argv) {
     return 0;
 }
 
+/* Whether there are as many words as what is asked for takes, and no option of something else. */
+static bool may_be(int words) {
+    if (asked.shows)
+        return words == 1 && !asked.recovers && !asked.all;
+    if (asked.recovers)
+        return words == 2 && !asked.as_json;
+    return words >= 3 && !asked.all && !asked.as_json;
+}
+
 static int read_arguments(int argc, char **argv) {
     int host, status = read_options(argc, argv);
     if (status != 0)
         return status;
     argc -= optind;
     argv += optind;
-    if (argc < (asked.recovers ? 2 : 3) || (asked.recovers && argc > 2) || (asked.all && !asked.recovers)) {
+    if (!may_be(argc)) {
         usage(stderr);
         return FAILED;
     }
     asked.folder = argv[0];
+    if (asked.shows)
+        return 0;
     if (!number(argv[1], 0, MG_HOSTS - 1, &host))
         return refuse("no host", argv[1]);
     asked.host = (unsigned)host;
@@ -357,6 +375,17 @@ static int recover(struct mg_session *session) {
         return refuse(told(status), NULL);
     printf("released %u\n", released);
     return 0;
+}
+
+static int show(void) {
+    char image[16];
+    int disk, status = show_status(asked.folder, asked.as_json, stdout, &disk);
+    snprintf(image, sizeof image, "disk%d", disk);
+    if (status != MG_OK)
+        (void)refuse(told(status), disk < 0 ? NULL : image);
+    if (fflush(stdout) != 0 || ferror(stdout))
+        return refuse("it could not be printed", strerror(errno));
+    return status == MG_OK ? 0 : FAILED;
 }
 
 /* Says which lock was not given back. Where a session has the host number for itself, no mg-lock gets it: that session's mg_take releases. */
@@ -428,6 +457,8 @@ int main(int argc, char **argv) {
     int status = read_arguments(argc, argv);
     if (status != 0)
         return status < 0 ? 0 : status;
+    if (asked.shows)
+        return show();
     begun = milliseconds();
     block_signals(&before);
     status = mg_begin(asked.folder, asked.host, MG_SHARE, &session, NULL);

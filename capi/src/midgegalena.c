@@ -294,6 +294,7 @@ struct mg_host {
     struct due_call call;
     struct written written;
     struct row row;
+    int faults[MG_DISKS]; /* MG_OK, or why the image is not used, or that a call on it failed */
 };
 
 static bool is_shared(const struct mg_host *host, unsigned disk) { return host->how[disk].sector_size != 0; }
@@ -341,11 +342,29 @@ static int carry_out(struct mg_host *host, int32_t begun, struct answer *answer)
     status = dlm_c_call(&host->handle, BOOT, &host->call, &host->written);
     while (status == 0) {
         told.outcome = make_call(host);
+        if (told.outcome != DONE && host->call.disk < MG_DISKS && host->faults[host->call.disk] == MG_OK)
+            host->faults[host->call.disk] = MG_UNREADABLE;
         status = dlm_c_next(&host->handle, &told, &host->row, &host->call, &host->written);
     }
     if (status != NOTHING_DUE)
         return MG_BROKEN;
     return status_of(dlm_c_answer(&host->handle, answer));
+}
+
+/* Notes why images are not used, by what the proved library says of their first bytes. */
+static void note_faults(struct mg_host *host, const struct images *images) {
+    for (unsigned k = 0; k < MG_DISKS; k++) {
+        const struct image *image = &images->all[k];
+        struct header found;
+        found.size = image->size;
+        memcpy(found.bytes, image->bytes, HEADER_LENGTH);
+        if (host->files[k] != NO_FILE)
+            host->faults[k] = MG_OK;
+        else if (image->is_read != 1)
+            host->faults[k] = MG_UNREADABLE;
+        else
+            host->faults[k] = image->size >= HEADER_LENGTH && !dlm_c_is_formatted(&found) ? MG_NOT_FORMATTED : MG_WRONG_HEADER;
+    }
 }
 
 static void let_go(struct mg_host *host) {
@@ -519,6 +538,8 @@ static int open_folder(const char *folder, unsigned number, enum way way, struct
     followed = realpath(folder, NULL);
     status = images ? open_host(host, images, followed ? followed : folder, number, way, &at_fault) : MG_NO_MEMORY;
     free(followed);
+    if (status == MG_OK)
+        note_faults(host, images);
     free(images);
     if (disk)
         *disk = at_fault;
@@ -1168,5 +1189,24 @@ int mg_text(struct mg_host *host, char *into, size_t size, size_t *length) {
     status = status_of(dlm_c_text(&host->handle, room > 0 ? (uint8_t *)into : &none, room, &there));
     if (length)
         *length = there;
+    return status;
+}
+
+/* ---- the images ---- */
+
+int mg_disks(struct mg_host *host, struct mg_disk_view *into, size_t room, size_t *count) {
+    struct mg_host_view facts;
+    int status;
+    if (count)
+        *count = 0;
+    if (!host || (!into && room > 0))
+        return MG_BAD_ARGUMENT;
+    status = mg_host_facts(host, &facts);
+    for (unsigned k = 0; status == MG_OK && k < facts.disks && k < room && k < MG_DISKS; k++) {
+        into[k].disk = k;
+        into[k].status = host->faults[k];
+    }
+    if (count)
+        *count = facts.disks;
     return status;
 }

@@ -55,6 +55,7 @@ static void bad_arguments(const char *folder) {
     IS(mg_locks(NULL, NULL, 0, NULL), MG_BAD_ARGUMENT);
     IS(mg_clients(NULL, NULL, 0, NULL), MG_BAD_ARGUMENT);
     IS(mg_text(NULL, NULL, 0, NULL), MG_BAD_ARGUMENT);
+    IS(mg_disks(NULL, NULL, 0, NULL), MG_BAD_ARGUMENT);
 }
 
 /* What a command is asked, and the commands that are to refuse it: those that read the argument which is none. */
@@ -136,6 +137,7 @@ static void bad_commands(struct mg_host *host) {
     IS(mg_locks(host, NULL, 1, NULL), MG_BAD_ARGUMENT);
     IS(mg_clients(host, NULL, 1, NULL), MG_BAD_ARGUMENT);
     IS(mg_text(host, NULL, 1, NULL), MG_BAD_ARGUMENT);
+    IS(mg_disks(host, NULL, 1, NULL), MG_BAD_ARGUMENT);
     IS(mg_look(host, &learned), MG_OK);
     IS(learned, 0);
     IS(mg_refresh(host, &learned), MG_OK);

@@ -30,6 +30,16 @@ static int opens(const char *folder, int *disk) {
     return status;
 }
 
+/* What is told of a disk. */
+static int tells(struct mg_host *host, unsigned disk) {
+    struct mg_disk_view views[MG_DISKS];
+    size_t count = 0;
+    IS(mg_disks(host, views, MG_DISKS, &count), MG_OK);
+    IS(count, 3);
+    IS(views[disk].disk, disk);
+    return views[disk].status;
+}
+
 static int enqueues(struct mg_host *host, int request) {
     return mg_enqueue(host, 1, (uint64_t)request, (unsigned)request, MG_NL, "a", 0, NULL);
 }
@@ -50,6 +60,10 @@ int main(int argc, char **argv) {
     IS(mg_open(argv[1], 0, &host, &disk), MG_OK);
     IS(enqueues(host, 1), MG_OK);
     IS(mg_mark(host, NULL), MG_OK);
+    IS(tells(host, 0), MG_UNREADABLE);
+    IS(tells(host, 1), MG_OK);
+    IS(tells(host, 2), MG_OK);
+    IS(mg_disks(host, NULL, 0, NULL), MG_OK);
     mg_close(host);
     IS(rename(image(argv[1], 1), strcat(strcpy(other, argv[1]), "/kept1")), 0);
     IS(mg_open(argv[1], 0, &host, &disk), MG_OK);
@@ -57,6 +71,8 @@ int main(int argc, char **argv) {
     IS(mg_refresh(host, NULL), MG_NO_MAJORITY);
     IS(mg_look(host, NULL), MG_NO_MAJORITY);
     IS(mg_wait(host, 1, 1, 10, NULL), MG_NO_MAJORITY);
+    IS(tells(host, 1), MG_UNREADABLE);
+    IS(tells(host, 2), MG_OK);
     mg_close(host);
 
     /* They are back: what was acknowledged is there. */
@@ -84,6 +100,9 @@ int main(int argc, char **argv) {
     close(file);
     IS(mg_open(argv[1], 0, &host, &disk), MG_OK);
     IS(enqueues(host, 3), MG_NO_MAJORITY);
+    IS(tells(host, 0), MG_OK);
+    IS(tells(host, 1), MG_NOT_FORMATTED);
+    IS(tells(host, 2), MG_WRONG_HEADER);
     mg_close(host);
 
     /* No image is right: that is told of the first. */
@@ -104,6 +123,18 @@ int main(int argc, char **argv) {
     IS(ftruncate(file, 2048 + 15 * 1024), 0);
     IS(opens(argv[1], &disk), MG_WRONG_HEADER);
     IS(disk, 0);
+    close(file);
+
+    /* A call fails on an image that was opened. */
+    IS(mg_open(inner, 0, &host, &disk), MG_OK);
+    IS(tells(host, 1), MG_OK);
+    file = open(image(inner, 1), O_RDWR);
+    IS(ftruncate(file, 4096), 0);
+    IS(enqueues(host, 1), MG_NO_MAJORITY);
+    IS(tells(host, 0), MG_OK);
+    IS(tells(host, 1), MG_UNREADABLE);
+    mg_close(host);
+    IS(ftruncate(file, 8192 + 16 * 4096), 0);
     close(file);
 
     /* The lock's file cannot be made: its place is taken by a folder without rights of its own kind. */

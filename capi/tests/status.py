@@ -1,0 +1,301 @@
+#!/usr/bin/env python3
+"""Tries mg-lock --status: what it prints for people and for programs, and that it only looks.
+
+    status.py MG_LOCK DLM WORK
+
+MG_LOCK and DLM are the programs, WORK an empty folder. Prints what was wrong, and how many checks there were."""
+import fcntl
+import json
+import os
+import shutil
+import signal
+import subprocess
+import sys
+import threading
+import time
+
+mg_lock, dlm, work = map(os.path.abspath, sys.argv[1:])
+images = os.path.join(work, "images")
+checks = failed = 0
+
+
+def expect(well, what):
+    global checks, failed
+    checks += 1
+    if not well:
+        failed += 1
+        print("failed:", what, flush=True)
+
+
+def folder(slots=64, disks=3):
+    shutil.rmtree(images, ignore_errors=True)
+    os.mkdir(images)
+    do("format", images, disks, slots, 7)
+
+
+def do(*words):
+    return subprocess.run([dlm, *map(str, words)], check=True, capture_output=True, text=True).stdout
+
+
+def submit(host, line):
+    return do("submit", images, host, *line.split())
+
+
+def run(*words, **more):
+    return subprocess.run([mg_lock, *map(str, words)], capture_output=True, text=True, timeout=60, **more)
+
+
+def told(status=0):
+    """What it tells programs. Each key is there, and no other."""
+    said = run("--status", "--json", images)
+    expect(said.returncode == status, f"status {said.returncode}, not {status}: {said}")
+    told = json.loads(said.stdout)
+    keys = ["cluster", "refusal", "slots", "used", "left", "disks", "answering", "may_fail", "hosts", "locks"]
+    expect(list(told) == keys, f"keys {list(told)}")
+    for lock in told["locks"] or []:
+        expect(list(lock) == ["name", "lock", "client", "host", "held", "wanted", "sign"], f"keys {list(lock)}")
+    return told
+
+
+def until(what, seconds=20):
+    end = time.monotonic() + seconds
+    while time.monotonic() < end:
+        if what():
+            return True
+        time.sleep(0.01)
+    return False
+
+
+def begin(host, name, command="exec sleep 1000", *options):
+    """A process of mg-lock, as the leader of a group."""
+    return subprocess.Popen([mg_lock, *options, images, str(host), name, "--", "sh", "-c", command], start_new_session=True)
+
+
+def lock(name, number, client, host, held, wanted, sign="none"):
+    return {"name": name, "lock": number, "client": client, "host": host, "held": held, "wanted": wanted, "sign": sign}
+
+
+def empty():
+    folder()
+    used = [{"disk": disk, "refusal": None} for disk in range(3)]
+    expect(told() == {"cluster": "7", "refusal": None, "slots": 64, "used": 0, "left": 64, "disks": used, "answering": 3, "may_fail": 1,
+                      "hosts": [], "locks": []}, f"empty: {told()}")
+    text = "cluster: 7\nslots: 0 of 64 are used, 64 are left\ndisks: 3 of 3 answer, 1 more may fail\nhost numbers in use on this machine: none\nlocks: 0\n"
+    expect(run("--status", images).stdout == text, f"empty: {run('--status', images).stdout}")
+    os.symlink(images, images + "-link")
+    expect(run("--status", images + "-link").stdout == text, "by a link")
+    os.unlink(images + "-link")
+    shutil.rmtree(images)
+    os.mkdir(images)
+    do("format", images, 1, 4096, 2**64 - 1)
+    expect((told()["cluster"], told()["slots"], told()["may_fail"]) == (str(2**64 - 1), 4096, 0), "one disk")
+
+
+def names():
+    """Each byte that a name may have."""
+    folder()
+    letters = "".join(map(chr, range(0x21, 0x7F)))
+    given = [letters[at : at + 15] for at in range(0, len(letters), 15)] + ['"', "\\", '\\"', '"}],', "\\u0041", "//"]
+    for number, name in enumerate(given, 1):
+        submit(0, f"enqueue 1 {number} {number} NL {name}")
+    expect(sorted(it["name"] for it in told()["locks"]) == sorted(given), f"names: {told()['locks']}")
+    shown = run("--status", images).stdout.split("\n")
+    expect(all(name in shown for name in given), f"names: {shown}")
+
+
+def queues():
+    folder()
+    for host, line in ((0, "enqueue 1 1 1 PR db"), (1, "enqueue 2 1 2 PR db"), (0, "convert 1 2 1 EX"), (2, "enqueue 3 1 3 CW db"), (2, "enqueue 3 2 4 EX a")):
+        submit(host, line)
+    wanted = [lock("a", 4, 3, 2, "EX", None), lock("db", 2, 2, 1, "PR", None), lock("db", 1, 1, 0, "PR", "EX"), lock("db", 3, 3, 2, None, "CW")]
+    expect(told()["locks"] == wanted and (told()["used"], told()["left"]) == (5, 59), f"queues: {told()}")
+    expect(run("--status", images).stdout.split("\n")[4:-1] == [
+        "locks: 4", "a", "  lock 4 of client 3, host 2: has EX", "db", "  lock 2 of client 2, host 1: has PR",
+        "  lock 1 of client 1, host 0: has PR, waits for EX", "  lock 3 of client 3, host 2: waits for CW"], "queues, for people")
+
+
+def take(path):
+    """Locks a file as a host locks its number."""
+    file = os.open(path, os.O_RDWR | os.O_CREAT)
+    fcntl.flock(file, fcntl.LOCK_EX)
+    return file
+
+
+def hosts():
+    folder()
+    elsewhere = os.path.join("/dev/shm" if os.path.isdir("/dev/shm") else work, f"status-{os.getpid()}")
+    os.symlink(elsewhere, os.path.join(images, "host9.lock"))
+    submit(4, "enqueue 1 1 1 EX db")  # its file is there, and nobody has it
+    files = [take(os.path.join(images, f"host{host}.lock")) for host in (15, 3)] + [take(elsewhere)]
+    waits = subprocess.Popen(["flock", os.path.join(images, "host3.lock"), "true"])
+    shared = os.open(os.path.join(images, "host5.lock"), os.O_RDWR | os.O_CREAT)
+    expect(until(lambda: told()["hosts"] == [3, 9, 15]), f"hosts: {told()['hosts']}")
+    expect("host numbers in use on this machine: 3 9 15\n" in run("--status", images).stdout, "hosts, for people")
+    for file in [*files, shared]:
+        os.close(file)
+    waits.wait(20)
+    expect(told()["hosts"] == [], f"hosts that let go: {told()['hosts']}")
+    os.unlink(elsewhere)
+
+
+def killed():
+    folder()
+    holder = begin(0, "db")
+    expect(until(lambda: len(told()["locks"]) == 1), "it holds")
+    others = [begin(0, "db"), begin(1, "db")]
+    expect(until(lambda: len(told()["locks"]) == 3), "two wait")
+    first = told()["locks"][0]
+    expect((first["name"], first["client"], first["host"], first["held"], first["sign"]) == ("db", 240, 0, "EX", "held"), f"the holder: {first}")
+    expect([(it["held"], it["wanted"], it["sign"]) for it in told()["locks"][1:]] == [(None, "EX", "held")] * 2, f"the others: {told()['locks']}")
+    for process in others:
+        process.terminate()
+        process.wait(20)
+    # Its command lives on.
+    holder.kill()
+    holder.wait()
+    expect([it["sign"] for it in told()["locks"]] == ["held"], f"mg-lock is killed alone: {told()['locks']}")
+    expect("sign of life" not in run("--status", images).stdout, "mg-lock is killed alone, for people")
+    os.killpg(holder.pid, signal.SIGKILL)
+    expect(until(lambda: [it["sign"] for it in told()["locks"]] == ["free"]), f"killed: {told()['locks']}")
+    expect(": has EX; no process here has its sign of life\n" in run("--status", images).stdout, "killed, for people")
+    used = told()["used"]
+    expect(told()["used"] == used and len(told()["locks"]) == 1, "to look releases nothing, and takes no slot")
+    expect(run("--recover", images, 0).returncode == 0 and told()["locks"] == [], "recovered")
+
+
+def without_proc():
+    """Where /proc/locks cannot be read it is not known who is there."""
+    hides = ["unshare", "--mount", "sh", "-c", 'mount -t tmpfs none /proc && exec "$@"', "sh"]
+    if not shutil.which("unshare") or subprocess.run([*hides, "true"], capture_output=True).returncode != 0:
+        print("left out: --status without /proc: this user may not hide it")
+        return
+    folder()
+    submit(1, "enqueue 1 1 1 EX a")
+    holder = begin(0, "db")
+    expect(until(lambda: len(told()["locks"]) == 2), "it holds")
+    said = subprocess.run([*hides, mg_lock, "--status", "--json", images], capture_output=True, text=True)
+    status = json.loads(said.stdout)
+    expect(said.returncode == 0 and status["hosts"] is None, f"without /proc: {said}")
+    expect([it["sign"] for it in status["locks"]] == ["none", None], f"without /proc: {said}")
+    said = subprocess.run([*hides, mg_lock, "--status", images], capture_output=True, text=True)
+    expect("host numbers in use on this machine: not known, /proc/locks cannot be read\n" in said.stdout, f"without /proc: {said}")
+    os.killpg(holder.pid, signal.SIGTERM)
+    holder.wait(20)
+
+
+def facts():
+    """Names, sizes, times and bytes of what is in the folder."""
+    found = {}
+    for name in sorted(os.listdir(images)):
+        path = os.path.join(images, name)
+        facts = os.stat(path)
+        with open(path, "rb") as file:
+            found[name] = (facts.st_size, facts.st_mtime_ns, facts.st_ctime_ns, file.read())
+    return found
+
+
+def only_looks():
+    folder()
+    submit(0, "enqueue 1 1 1 EX db")
+    holder = begin(1, "other")
+    expect(until(lambda: len(told()["locks"]) == 2), "one holds")
+    before = facts()
+    path, ends, refused = os.path.join(images, "host0.lock"), threading.Event(), []
+
+    def takes():
+        """Somebody who takes the number again and again is never refused."""
+        while not ends.is_set():
+            file = os.open(path, os.O_RDWR)
+            try:
+                fcntl.flock(file, fcntl.LOCK_EX | fcntl.LOCK_NB)
+            except BlockingIOError:
+                refused.append(path)
+            os.close(file)
+
+    thread = threading.Thread(target=takes)
+    thread.start()
+    for _ in range(30):
+        run("--status", "--json", images)
+    ends.set()
+    thread.join()
+    expect(not refused, "a host was kept from its number")
+    expect(facts() == before, "something in the folder was changed")
+    os.killpg(holder.pid, signal.SIGTERM)
+    holder.wait(20)
+
+
+def named(disk):
+    """The number and name that `dlm check` has for a disk, and that --status has."""
+    lines = subprocess.run([dlm, "check", images], capture_output=True, text=True).stdout.split("\n")
+    checked = [line.split()[1:] for line in lines if line.startswith(f"disk{disk} ")]
+    refusal = told()["disks"][disk]["refusal"]
+    return checked, refusal and [[str(refusal["number"]), refusal["name"]]]
+
+
+def damaged():
+    folder()
+    submit(0, "enqueue 1 1 1 EX db")
+    path = os.path.join(images, "disk1.img")
+    with open(path, "rb") as file:
+        whole = file.read()
+    with open(os.path.join(images, "disk2.img"), "rb") as file:
+        other = file.read()
+    for what, text, name in (("missing", None, "Unreadable"), ("of zeros", bytes(len(whole)), "NotFormatted"), ("short", whole[:5000], "WrongHeader"),
+                             ("empty", b"", "WrongHeader"), ("too long", whole + b"0", "WrongHeader"), ("another disk's", other, "WrongHeader")):
+        os.unlink(path)
+        if text is not None:
+            with open(path, "wb") as file:
+                file.write(text)
+        checked, shown = named(1)
+        expect(checked == shown and shown[0][1] == name, f"{what}: dlm check {checked}, mg-lock {shown}")
+        status = told()
+        expect((status["answering"], status["may_fail"], len(status["locks"])) == (2, 0, 1), f"{what}: {status}")
+        text = run("--status", images).stdout
+        expect(f"disks: 2 of 3 answer, 0 more may fail\n  disk1 {shown[0][0]} {name}\n" in text, f"{what}, for people: {text}")
+        if not os.path.exists(path):
+            with open(path, "wb") as file:
+                file.write(b"")
+    # No majority is left.
+    os.rename(os.path.join(images, "disk0.img"), os.path.join(images, "lost"))
+    status = told(125)
+    expect(status["refusal"] == {"number": 7, "name": "NoMajority"}, f"no majority: {status}")
+    expect((status["used"], status["left"], status["locks"]) == (None, None, None), f"no majority: {status}")
+    expect((status["answering"], status["may_fail"], status["slots"]) == (1, 0, 64), f"no majority: {status}")
+    said = run("--status", images)
+    expect(said.returncode == 125 and said.stderr.startswith("mg-lock: 7 NoMajority "), f"no majority: {said}")
+    expect("\nslots: 64\ndisks: 1 of 3 answer, which is no majority\n  disk0 26 Unreadable\n" in said.stdout, f"no majority: {said}")
+    expect("locks" not in said.stdout, f"no majority: {said}")
+    # No image at all.
+    for name in os.listdir(images):
+        os.unlink(os.path.join(images, name))
+    for words in ((), ("--json",)):
+        said = run("--status", *words, images)
+        expect((said.returncode, said.stdout) == (125, "") and said.stderr.startswith("mg-lock: 26 Unreadable "), f"no image: {said}")
+
+
+def full():
+    folder(slots=5)
+    submit(0, "enqueue 1 1 1 EX db")
+    do("fill", images, 1)
+    do("mark", images, 1)
+    status = told()
+    expect((status["slots"], status["used"], status["left"], len(status["locks"])) == (5, 5, 0, 1), f"full: {status}")
+    expect("slots: 5 of 5 are used, 0 are left: the log is full\n" in run("--status", images).stdout, "full, for people")
+
+
+def wrong_use():
+    folder()
+    for words in (["--status"], ["--status", images, 0], ["--json", images, 0, "db", "true"], ["--status", "--recover", images], ["--status", "--all", images],
+                  ["--recover", "--json", images, 0], ["--json", images], ["--status", work + "/nowhere"]):
+        said = run(*words)
+        expect((said.returncode, said.stdout) == (125, ""), f"usage {words}: {said}")
+    for words in ((), ("--json",)):
+        with open("/dev/full", "w", encoding="utf-8") as nowhere:
+            said = subprocess.run([mg_lock, "--status", *words, images], stdout=nowhere, stderr=subprocess.PIPE, text=True)
+        expect(said.returncode == 125 and "could not be printed" in said.stderr, f"nowhere to print: {said}")
+
+
+for test in (empty, names, queues, hosts, killed, without_proc, only_looks, damaged, full, wrong_use):
+    test()
+print(f"status.py: {checks} checks, {failed} failed")
+sys.exit(failed > 0)
