@@ -333,14 +333,32 @@ else
     left_out "renewed logs: the program is not built, or there is no Python"
 fi
 
-# From Python.
+# From Python, by the package as pip installs it.
 if command -v python3 > /dev/null; then
+    package=$here/python
+    if python3 -m pip --version > /dev/null 2>&1; then
+        tried "python, installed" env PYTHONDONTWRITEBYTECODE=1 python3 -m pip install -q --root-user-action=ignore --no-build-isolation --no-index --no-compile \
+            --target "$work/python" "$here/python"
+        package=$work/python
+        tried "python, what is installed" test -f "$package/midgegalena/py.typed" -a -f "$package/midgegalena/__init__.py" -a ! -e "$here/python/build"
+    else
+        left_out "the package for Python as pip installs it: there is no pip"
+    fi
+    tried "python, the library's version" grep -qx "version = \"$(sed -n 's/^Version: //p' "$PREFIX/lib/pkgconfig/midgegalena.pc")\"" "$here/python/pyproject.toml"
+    if command -v mypy > /dev/null; then
+        tried "python, types" env MYPYPATH="$here/python" mypy --strict --cache-dir "$work/mypy" "$here/python/midgegalena" "$here/examples/python/jobs.py"
+    else
+        left_out "types of the package for Python: there is no mypy"
+    fi
     folder
-    tried "python" env PYTHONDONTWRITEBYTECODE=1 python3 "$here/examples/python/turns.py" "$PREFIX/lib/libmidgegalena.so" "$work/images"
+    tried "python" env PYTHONDONTWRITEBYTECODE=1 PYTHONPATH="$package" python3 "$here/examples/python/turns.py" "$PREFIX/lib/libmidgegalena.so" "$work/images"
     cp -- "$work/out.txt" "$work/said.txt"
     tried "what python says" diff "$work/said.txt" "$here/examples/python/turns.out"
     folder
     tried "python, killed" env PYTHONDONTWRITEBYTECODE=1 python3 "$here/tests/killed.py" "$PREFIX/lib/libmidgegalena.so" "$work/images"
+    folder
+    tried "python, jobs" env PYTHONDONTWRITEBYTECODE=1 PYTHONPATH="$package" python3 "$here/tests/jobs.py" "$PREFIX/lib/libmidgegalena.so" "$work/images" "${JOBS:-60}"
+    tail -n 1 "$work/out.txt" >> "$work/restarted.txt"
 else
     left_out "Python: there is none"
 fi

@@ -144,7 +144,7 @@ PLACES = (
     Place("capi/examples/rust/guard.rs", r"^const (?P<symbol>[A-Z_]+): c_int = (?P<number>\d+);", [], ["table"], repeats=True),
     Place("crates/dlm_c/src/fault.rt", r"Fault::(?P<name>NoMemory) => (?P<number>\d+)", ["no memory"]),
 )
-PYTHON = "capi/examples/python/midgegalena.py"
+PYTHON = "capi/python/midgegalena/__init__.py"
 # Pages about C, and what the names on them are taken from: headers, and the variables of mg-lock.
 SYMBOLS = ("man/midgegalena.3", "man/mg_session.3", "man/mg-lock.1", "docs/LIBRARY.md")
 NAMED = (HEADER, "capi/include/mg_session.h", "capi/src/mg-lock.c")

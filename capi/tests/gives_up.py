@@ -14,7 +14,7 @@ import sys
 import time
 
 mg_lock, dlm, library, work = map(os.path.abspath, sys.argv[1:])
-sys.path.insert(0, os.path.join(os.path.dirname(os.path.dirname(os.path.realpath(__file__))), "examples/python"))
+sys.path.insert(0, os.path.join(os.path.dirname(os.path.dirname(os.path.realpath(__file__))), "python"))
 from midgegalena import Refused, Session  # noqa: E402
 
 LOG_FULL = 9

@@ -9,7 +9,7 @@ import sys
 import threading
 import time
 
-sys.path.insert(0, os.path.join(os.path.dirname(os.path.dirname(os.path.realpath(__file__))), "examples/python"))
+sys.path.insert(0, os.path.join(os.path.dirname(os.path.dirname(os.path.realpath(__file__))), "python"))
 from midgegalena import EX, IN_DOUBT, NL, NO_MAJORITY, PR, InDoubt, Refused, Session, load, milliseconds  # noqa: E402
 
 library, folder = sys.argv[1:]

@@ -25,8 +25,8 @@ library = os.path.abspath(sys.argv[5]) if len(sys.argv) > 5 else None
 with_answers = os.path.abspath(sys.argv[6]) if len(sys.argv) > 6 else None
 images = os.path.join(work, "images")
 current = os.path.join(work, "current")
-examples = os.path.join(os.path.dirname(os.path.abspath(__file__)), "..", "examples", "python")
-sys.path.insert(0, examples)
+package = os.path.join(os.path.dirname(os.path.abspath(__file__)), "..", "python")
+sys.path.insert(0, package)
 from midgegalena import Session  # noqa: E402
 
 checks = failed = 0
@@ -108,7 +108,8 @@ def statuses():
     expect(closed.returncode == 127, "not found, and nowhere to say so")
     expect(run(images, 0, "db", "--", images).returncode == 126, "cannot be run")
     for words in ([], [images], [images, 0], [images, 16, "db", "true"], [images, 0, "", "true"], [images, 0, "sixteen-letters-", "true"],
-                  ["-m", "XX", images, 0, "db", "true"], ["-w", "x", images, 0, "db", "true"], ["--unknown", images, 0, "db", "true"],
+                  ["-m", "XX", images, 0, "db", "true"], ["-w", "x", images, 0, "db", "true"], ["-i", "0", images, 0, "db", "true"],
+                  ["-i", "60001", images, 0, "db", "true"], ["--unknown", images, 0, "db", "true"],
                   ["--all", images, 0, "db", "true"], ["--recover", images, 0, "db"], [work, 0, "db", "true"]):
         expect(run(*words).returncode == 125, f"usage {words}")
     expect(run("--help").returncode == 0 and run("--version").returncode == 0, "help and version")
@@ -163,6 +164,8 @@ def waits():
     begun = time.monotonic()
     expect(run("-w", 0.4, images, 1, "db", "--", "true").returncode == 1, "-w")
     expect(0.4 <= time.monotonic() - begun < 2, f"-w 0.4 took {time.monotonic() - begun:.2f} s")
+    expect(run("-i", 1, "-w", 0.2, images, 1, "db", "--", "true").returncode == 1, "-i 1")
+    expect(run("-i", 60000, "-w", 0.2, images, 1, "db", "--", "true").returncode == 1, "-i 60000")
     expect(run("-n", images, 1, "other", "--", "true").returncode == 0, "another name")
     waiting = [begin(images, host, "db", "--", "true") for host in (0, 0, 1, 2)]
     expect(until(lambda: table().count("waiting") == 4), "four wait, two of them under the holder's number")
@@ -434,7 +437,7 @@ def renewed():
         expect(file.read() == "24\n", "counted across renewals")
     # A session that has its number to itself.
     if library:
-        process = subprocess.Popen([sys.executable, "-c", ACROSS.format(examples=examples, folder=current, library=library)],
+        process = subprocess.Popen([sys.executable, "-c", ACROSS.format(package=package, folder=current, library=library)],
                                    stdin=subprocess.PIPE, stdout=subprocess.PIPE, text=True)
         expect(process.stdout.readline() == "10\n", "a session holds")
         renew(11, 64)
@@ -524,7 +527,7 @@ def numbers():
     subprocess.run([dlm, "format", os.path.join(work, "set17"), "3", "40", "17"], check=True, stdout=subprocess.DEVNULL)
     os.symlink("set17", os.path.join(work, "next"))
     os.rename(os.path.join(work, "next"), current)
-    across, begins = ([sys.executable, "-c", text.format(examples=examples, folder=current, library=library)] for text in (ACROSS, BEGINS))
+    across, begins = ([sys.executable, "-c", text.format(package=package, folder=current, library=library)] for text in (ACROSS, BEGINS))
     first = subprocess.Popen(across, stdin=subprocess.PIPE, stdout=subprocess.PIPE, text=True)
     expect(first.stdout.readline() == "17\n", "a session holds")
     renew(18, 64)
@@ -576,7 +579,7 @@ os.rename(at + ".new", at)
 """
 IN_PYTHON = """
 import os, subprocess, sys
-sys.path.insert(0, {examples!r}); sys.dont_write_bytecode = True
+sys.path.insert(0, {package!r}); sys.dont_write_bytecode = True
 from midgegalena import Session
 session = Session({images!r}, int(sys.argv[1]), share=True, library={library!r})
 for i in range({rounds}):
@@ -588,7 +591,7 @@ for i in range({rounds}):
 
 ACROSS = """
 import sys
-sys.path.insert(0, {examples!r}); sys.dont_write_bytecode = True
+sys.path.insert(0, {package!r}); sys.dont_write_bytecode = True
 from midgegalena import Session
 session = Session({folder!r}, 3, library={library!r})
 with session.lock("mine") as held:
@@ -601,7 +604,7 @@ with session.lock("mine", timeout=5) as held:
 
 BEGINS = """
 import sys
-sys.path.insert(0, {examples!r}); sys.dont_write_bytecode = True
+sys.path.insert(0, {package!r}); sys.dont_write_bytecode = True
 from midgegalena import Session
 Session({folder!r}, 3, library={library!r}).close()
 """
@@ -619,7 +622,7 @@ def counted(hosts, kills=0):
         file.write(COUNT)
     # the guard is held while the command lives, so two at once are seen
     command = ["sh", "-c", f"flock -n -E 99 {guard} {sys.executable} -S -E {script} {counter}; [ $? -ne 99 ] || echo overlap >> {overlaps}; echo $MG_LOCK_SLOT >> {slots}"]
-    python = IN_PYTHON.format(examples=examples, images=images, library=library, rounds=rounds, command=command)
+    python = IN_PYTHON.format(package=package, images=images, library=library, rounds=rounds, command=command)
     processes = []
     done = 0
     for i in range(8):

@@ -208,6 +208,42 @@ static void taken_and_given(const char *name, unsigned flags) {
     mg_end(second);
 }
 
+/* The first pauses of a wait, which is stopped then. */
+static struct {
+    int count, lengths[4];
+} pauses;
+
+static int notes(void *with, int length) {
+    (void)with;
+    if (pauses.count < 4)
+        pauses.lengths[pauses.count++] = length;
+    return pauses.count == 4;
+}
+
+/* Looks are 1 ms apart, then twice as long each time, up to the bound that the caller sets: 5 ms at first. */
+static void paced(const char *name, unsigned flags) {
+    static const struct {
+        int bound, lengths[4];
+    } wanted[] = {{0, {1, 2, 5, 5}}, {1, {1, 1, 1, 1}}, {5, {1, 2, 5, 5}}, {8, {1, 2, 4, 8}}, {20000, {1, 2, 4, 8}}};
+    const char *path = folder(name, 64, 7);
+    struct mg_session *first = begun(path, 0, flags), *second = begun(path, 1, flags);
+    struct mg_held a, b;
+    IS(mg_take(first, "db", MG_EX, 0, &a), MG_OK);
+    IS(mg_set_rest(second, notes, NULL), MG_OK);
+    for (size_t i = 0; i < sizeof wanted / sizeof wanted[0]; i++) {
+        if (wanted[i].bound > 0)
+            IS(mg_set_interval(second, wanted[i].bound), MG_OK);
+        pauses.count = 0;
+        IS(mg_take(second, "db", MG_EX, -1, &b), MG_STOPPED);
+        for (int k = 0; k < 4; k++)
+            IS(pauses.lengths[k], wanted[i].lengths[k]);
+    }
+    IS(mg_give(first, a.lock, NULL), MG_OK);
+    IS(locks_of(path), 0);
+    mg_end(first);
+    mg_end(second);
+}
+
 static void takes_db(const char *path) {
     static struct mg_held held;
     IS(mg_take(begun(path, 0, 0), "db", MG_EX, 0, &held), MG_OK);
@@ -666,6 +702,8 @@ int main(int argc, char **argv) {
     bad_arguments();
     taken_and_given("alone", 0);
     taken_and_given("sharing", MG_SHARE);
+    paced("paced", 0);
+    paced("paced_sharing", MG_SHARE);
     left_over();
     purged();
     full();

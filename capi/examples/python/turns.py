@@ -3,14 +3,12 @@ one another.
 
     turns.py LIBRARY FOLDER      an empty folder
 """
-import os
 import sys
 
-from midgegalena import EX, NL, PR, Refused, Session, load
+from midgegalena import EX, NL, PR, Refused, Session, format_images
 
 library, folder = sys.argv[1:]
-status = load(library).mg_format(os.fsencode(folder), 3, 64, 7, None)
-assert status == 0, status
+format_images(folder, disks=3, slots=64, cluster=7, library=library)
 
 with Session(folder, host=0, library=library) as first, Session(folder, host=1, library=library) as second:
     with first.lock("db"):

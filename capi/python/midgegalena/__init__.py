@@ -6,6 +6,8 @@
 
 Such a session has the host number to itself. Programs that share one, with each other and with mg-lock, use share=True.
 """
+from __future__ import annotations
+
 import ctypes
 import math
 import os
@@ -13,12 +15,23 @@ import sys
 import time
 from contextlib import contextmanager, suppress
 from ctypes import CFUNCTYPE, POINTER, Structure, byref, c_char_p, c_int, c_int32, c_size_t, c_uint, c_uint8, c_uint32, c_uint64, c_void_p
+from types import TracebackType
+from typing import Any, Iterator, Optional, Tuple, Union
+
+__all__ = [
+    "ALL", "CR", "CW", "EX", "IN_DOUBT", "KEEP", "LOG_FULL", "NL", "NO_MAJORITY", "NO_SUCH_LOCK", "OK", "PR", "PW", "SHARE", "TIMED_OUT",
+    "Held", "InDoubt", "Lost", "Refused", "Session", "format_images", "load", "milliseconds",
+]
 
 NL, CR, CW, PR, PW, EX = range(6)
-OK, TIMED_OUT, IN_DOUBT, NO_MAJORITY, NO_SUCH_LOCK = 0, -2, -6, 7, 12
+OK, TIMED_OUT, IN_DOUBT, NO_MAJORITY, LOG_FULL, NO_SUCH_LOCK = 0, -2, -6, 7, 9, 12
 KEEP, SHARE, ALL = 1, 2, 1
 VALID = 1
 LONGEST = 2**31 - 1  # milliseconds
+
+Folder = Union[str, bytes, "os.PathLike[str]", "os.PathLike[bytes]"]
+# name, number, client, mode that is held, and mode that is wanted, -1 for none
+LockOfTable = Tuple[str, int, int, int, int]
 
 
 class Value(Structure):
@@ -45,7 +58,7 @@ class HostView(Structure):
 Rest = CFUNCTYPE(c_int, c_void_p, c_int)
 
 
-def load(path=None):
+def load(path: Optional[str] = None) -> ctypes.CDLL:
     """The library, with what its calls take and return."""
     lib = ctypes.CDLL(path or os.environ.get("MIDGEGALENA", "libmidgegalena.so.0"))
     lib.mg_name.restype = lib.mg_strerror.restype = c_char_p
@@ -56,7 +69,8 @@ def load(path=None):
     lib.mg_give.argtypes = [c_void_p, c_uint, c_char_p]
     lib.mg_check.argtypes = [c_void_p, c_uint]
     lib.mg_purge_dead.argtypes = lib.mg_recover.argtypes = [c_void_p, c_uint, POINTER(c_uint)]
-    lib.mg_stay.argtypes = [c_void_p]
+    lib.mg_stay.argtypes, lib.mg_stay.restype = [c_void_p], c_uint
+    lib.mg_set_interval.argtypes = [c_void_p, c_int]
     lib.mg_set_rest.argtypes = [c_void_p, Rest, c_void_p]
     lib.mg_host_of.argtypes = [c_void_p, POINTER(c_void_p)]
     lib.mg_look.argtypes = [c_void_p, POINTER(c_uint64)]
@@ -68,7 +82,7 @@ def load(path=None):
 class Refused(Exception):
     """A call was refused; `status` is its number, as in docs/REFUSALS.md. `lock` is the lock's, 0 where there is none."""
 
-    def __init__(self, lib, status, lock=0):
+    def __init__(self, lib: ctypes.CDLL, status: int, lock: int = 0) -> None:
         super().__init__(lib.mg_strerror(status).decode())
         self.status, self.lock = status, lock
 
@@ -81,7 +95,15 @@ class InDoubt(Refused):
     """It is not known whether the lock stays in the table. The session's next call releases it, or give(why.lock) does."""
 
 
-def milliseconds(timeout):
+def format_images(folder: Folder, disks: int = 3, slots: int = 4096, cluster: int = 1, library: Optional[str] = None) -> None:
+    """Makes the images of a folder that is there and has none. Give each folder another cluster number."""
+    lib = load(library)
+    status = lib.mg_format(os.fsencode(folder), disks, slots, cluster, None)
+    if status != OK:
+        raise Refused(lib, status)
+
+
+def milliseconds(timeout: Optional[float]) -> int:
     """A timeout as the library counts it: below 0 for no end, 0 only where it is 0."""
     if timeout is None:
         return -1
@@ -97,18 +119,20 @@ class Held:
     """A lock that is held, with the value of its name. Of those that hold EX in turn each has a greater slot than the one before it,
     as long as the cluster is the same."""
 
-    def __init__(self, view):
-        self.lock, self.slot, self.cluster = view.lock, view.slot, view.cluster
+    def __init__(self, view: HeldView) -> None:
+        self.lock: int = view.lock
+        self.slot: int = view.slot
+        self.cluster: int = view.cluster
         self.value, self.valid = bytes(view.value.bytes), bool(view.value.flags & VALID)
-        self._leaves = None
+        self._leaves: Optional[bytes] = None
 
     @property
-    def leaves(self):
+    def leaves(self) -> Optional[bytes]:
         """16 bytes to keep with the name at the end, for PW and EX."""
         return self._leaves
 
     @leaves.setter
-    def leaves(self, value):
+    def leaves(self, value: Union[bytes, bytearray, memoryview, None]) -> None:
         kept = None if value is None else memoryview(value).tobytes()
         if kept is not None and len(kept) != 16:
             raise ValueError("a value has 16 bytes")
@@ -118,28 +142,41 @@ class Held:
 class Session:
     """Takes locks and gives them back. For one thread at a time.
 
-    It begins by releasing what a former run of its host number left; with `keep` a lock takes that over, by name and mode."""
+    It begins by releasing what a former run of its host number left; with `keep` a lock takes that over, by name and mode. While it waits
+    it looks, 1 ms after its first look, then twice as long after each, and at most `interval` milliseconds."""
 
-    def __init__(self, folder, host, share=False, keep=False, library=None):
-        self.lib, self.handle, self.why = load(library), c_void_p(), None
+    def __init__(
+        self, folder: Folder, host: int, share: bool = False, keep: bool = False, interval: int = 5, library: Optional[str] = None
+    ) -> None:
+        self.lib, self.handle = load(library), c_void_p()
+        self.why: Optional[BaseException] = None
         # What could not be given back, with the bytes that it leaves.
-        self.left = {}
+        self.left: dict[int, Optional[bytes]] = {}
         self._check(self.lib.mg_begin(os.fsencode(folder), host, SHARE * share | KEEP * keep, byref(self.handle), None))
         # Kept as long as the library may call it.
         self.rest = Rest(self._rest)
         self._check(self.lib.mg_set_rest(self.handle, self.rest, None))
+        try:
+            self.set_interval(interval)
+        except BaseException:
+            self.close()
+            raise
 
-    def __enter__(self):
+    def __enter__(self) -> Session:
         return self
 
-    def __exit__(self, *why):
+    def __exit__(self, kind: Optional[type[BaseException]], why: Optional[BaseException], trace: Optional[TracebackType]) -> None:
         self.close()
 
-    def close(self):
+    def close(self) -> None:
         self.lib.mg_end(self.handle)
         self.handle = c_void_p()
 
-    def _rest(self, _, milliseconds):
+    def set_interval(self, interval: int) -> None:
+        """The longest pause between two looks of a wait, 1 to 60,000 milliseconds."""
+        self._check(self.lib.mg_set_interval(self.handle, interval))
+
+    def _rest(self, _: Any, milliseconds: int) -> bool:
         """A pause of a wait. What is raised within it, as by Ctrl-C, ends the wait."""
         try:
             if self.why is None:
@@ -149,11 +186,11 @@ class Session:
         return self.why is not None
 
     @contextmanager
-    def _caught(self):
+    def _caught(self) -> Iterator[None]:
         """What is raised as a pause begins cannot be caught there. Python hands it to a hook."""
         hook, self.why = sys.unraisablehook, None
 
-        def keep(told):
+        def keep(told: sys.UnraisableHookArgs) -> None:
             if told.object == self._rest:
                 self.why = told.exc_value
             else:
@@ -165,12 +202,12 @@ class Session:
         finally:
             sys.unraisablehook = hook
 
-    def _check(self, status, lock=0):
+    def _check(self, status: int, lock: int = 0) -> None:
         if status != OK:
             raise {NO_SUCH_LOCK: Lost, IN_DOUBT: InDoubt}.get(status, Refused)(self.lib, status, lock)
 
     @contextmanager
-    def lock(self, name, mode=EX, timeout=None):
+    def lock(self, name: str, mode: int = EX, timeout: Optional[float] = None) -> Iterator[Held]:
         """Holds a lock on a name, and gives a Held. With a timeout, in seconds, it raises TimeoutError where it was not granted by
         then; a timeout of 0 does not wait at all, and without one it waits without an end. If the lock was taken away meanwhile it raises
         Lost at the end. What could not be given back is given back first, which may wait a minute."""
@@ -194,7 +231,7 @@ class Session:
             if view.lock and status == OK:
                 self.give(view.lock, held.leaves if held else None)
 
-    def give(self, lock, leaves=None):
+    def give(self, lock: int, leaves: Optional[bytes] = None) -> None:
         """Gives a lock back. Where that fails it is still the session's, and is given again with the bytes of the first time: by this, or
         by the next lock()."""
         leaves = self.left.setdefault(lock, leaves)
@@ -203,44 +240,44 @@ class Session:
             del self.left[lock]
         self._check(status, lock)
 
-    def is_held(self, held):
+    def is_held(self, held: Held) -> bool:
         """Whether nobody has taken the lock away, as far as a look tells."""
-        status = self.lib.mg_check(self.handle, held.lock)
+        status: int = self.lib.mg_check(self.handle, held.lock)
         if status not in (OK, NO_SUCH_LOCK):
             self._check(status, held.lock)
         return status == OK
 
-    def _look(self):
+    def _look(self) -> c_void_p:
         """A handle that has just looked."""
         host = c_void_p()
         self._check(self.lib.mg_host_of(self.handle, byref(host)))
         self._check(self.lib.mg_look(host, None))
         return host
 
-    def log(self):
+    def log(self) -> tuple[int, int]:
         """How many slots the log has, and how many of them hold commands."""
         view = HostView()
         self._check(self.lib.mg_host_facts(self._look(), byref(view)))
         return view.slots, view.learned
 
-    def locks(self):
+    def locks(self) -> list[LockOfTable]:
         """All locks: name, number, client, mode that is held, and mode that is wanted, -1 for none."""
         views, count = (LockView * 256)(), c_size_t()
         self._check(self.lib.mg_locks(self._look(), views, 256, byref(count)))
         return [(v.name.decode(), v.lock, v.client, v.held, v.wanted) for v in views[: min(count.value, 256)]]
 
-    def purge_dead(self, host):
+    def purge_dead(self, host: int) -> int:
         """Takes away all locks of a host whose processes are gone, and tells how many."""
         count = c_uint()
         self._check(self.lib.mg_purge_dead(self.handle, host, byref(count)))
         return count.value
 
-    def recover(self, all_of_them=False):
+    def recover(self, all_of_them: bool = False) -> int:
         """Releases what processes of this host number that are gone have left, and tells how many locks."""
         count = c_uint()
         self._check(self.lib.mg_recover(self.handle, ALL * all_of_them, byref(count)))
         return count.value
 
-    def stay(self):
+    def stay(self) -> int:
         """How many of these could not be released, when that was tried last."""
-        return self.lib.mg_stay(self.handle)
+        return int(self.lib.mg_stay(self.handle))
