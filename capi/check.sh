@@ -1,5 +1,5 @@
 #!/usr/bin/env bash
-# Builds the library, and tries it from C, C++, Python and Rust: the header alone, each call, each bad argument, each refused allocation, a host
+# Builds the library, and tries it from C, C++, Python, Rust and Go: the header alone, each call, each bad argument, each refused allocation, a host
 # that dies, several at once, and the same folder by the program dlm. Under valgrind, and with the sanitizers of gcc, where they are there.
 # Where there is no C compiler it says so, and ends well.
 set -euo pipefail
@@ -363,7 +363,7 @@ else
     left_out "Python: there is none"
 fi
 
-# From Rust: run twice, left early, killed, refused, purged, and with a full log.
+# From Rust and Go: run twice, left early, killed, refused, purged, and with a full log.
 says() { echo "# $1"; }
 shows() { # COMMAND..: prints the command, what it prints, and its status unless that is 0
     echo "\$ $*"
@@ -410,10 +410,11 @@ guards() {
     says "the log is full when it returns early"
     formats 1
     shows ./guard images 0 < .
+    says "with looks at most 50 ms apart, and 0"
+    formats 64
+    for interval in 50 0; do shows ./guard images 0 $interval < /dev/null; done
 }
-if command -v rustc > /dev/null && rustc --version > /dev/null 2>&1; then
-    tried "rust, built" rustc --edition 2021 -D warnings -L "$PREFIX/lib" "$here/examples/rust/guard.rs" -o "$work/guard"
-    tried "purges, built" cc -std=c99 $common -x c - $flags -o "$work/purges" << 'END'
+tried "purges, built" cc -std=c99 $common -x c - $flags -o "$work/purges" << 'END'
 #include <midgegalena.h>
 int main(void) {
     struct mg_host *host;
@@ -421,11 +422,23 @@ int main(void) {
     return mg_open("images", 1, &host, NULL) != MG_OK || mg_purge(host, 1, 1, 0, &answer) != MG_OK || answer.purged != 1;
 }
 END
+if command -v rustc > /dev/null && rustc --version > /dev/null 2>&1; then
+    tried "rust, built" rustc --edition 2021 -D warnings -L "$PREFIX/lib" "$here/examples/rust/guard.rs" -o "$work/guard"
     tried "rust" in_folder guards
     cp -- "$work/out.txt" "$work/said.txt"
     tried "what rust says" diff "$work/said.txt" "$here/examples/rust/guard.out"
 else
     left_out "Rust: there is no compiler"
+fi
+in_go() { (cd -- "$here/examples/go" && GOCACHE=$work/go GOPROXY=off GOFLAGS=-buildvcs=false go "$@"); }
+if command -v go > /dev/null && command -v pkg-config > /dev/null; then
+    tried "go, vet" in_go vet
+    tried "go, built" in_go build -o "$work/guard"
+    tried "go" in_folder guards
+    cp -- "$work/out.txt" "$work/said.txt"
+    tried "what go says" diff "$work/said.txt" "$here/examples/go/guard.out"
+else
+    left_out "Go: there is no compiler, or no pkg-config"
 fi
 
 # Eight hosts at once count under one lock. CONTEND: rounds of each host, up to 250 a folder, and folders; "250 25" are 100,000 commands.

@@ -1,8 +1,9 @@
 //! A lock as a guard, which is given back where it goes out of scope. Over the sessions of libmidgegalena (mg_session.h).
 //!
 //!     rustc --edition 2021 -L PREFIX/lib guard.rs
-//!     guard FOLDER HOST      takes db, waits for a line or the end of standard input, and gives db back
+//!     guard FOLDER HOST [INTERVAL]      takes db, waits for a line or the end of standard input, and gives db back
 //!
+//! While it waits for db it looks, at most INTERVAL milliseconds apart.
 //! The images are made once before, as by `dlm format FOLDER`.
 use std::cell::RefCell;
 use std::env;
@@ -42,6 +43,7 @@ unsafe extern "C" {
     fn mg_end(session: *mut c_void);
     fn mg_take(session: *mut c_void, name: *const c_char, mode: c_int, timeout: c_int, held: *mut View) -> c_int;
     fn mg_give(session: *mut c_void, lock: c_uint, value: *const c_void) -> c_int;
+    fn mg_set_interval(session: *mut c_void, milliseconds: c_int) -> c_int;
     fn mg_strerror(status: c_int) -> *const c_char;
 }
 
@@ -130,6 +132,13 @@ impl Session {
         Ok(Session { handle, left: RefCell::default() })
     }
 
+    /// The longest pause between two looks of a wait, which is 5 ms at first.
+    fn set_interval(&self, longest: Duration) -> Result<(), Error> {
+        let longest = c_int::try_from(longest.as_millis()).unwrap_or(c_int::MAX);
+        // SAFETY: the session is not ended.
+        Error::check(unsafe { mg_set_interval(self.handle, longest) })
+    }
+
     /// Takes a lock on a name. With `None` it waits without an end, and with a timeout of zero it does not wait. What could not be given
     /// back is given back first, which may wait a minute once more.
     fn take(&self, name: &str, mode: Mode, timeout: Option<Duration>) -> Result<Held<'_>, Error> {
@@ -197,26 +206,33 @@ fn work(db: &Held) -> io::Result<()> {
     Ok(())
 }
 
-fn run(folder: &Path, host: u32) -> Result<(), Box<dyn std::error::Error>> {
+fn run(folder: &Path, host: u32, interval: Option<Duration>) -> Result<(), Box<dyn std::error::Error>> {
     let session = Session::begin(folder, host)?;
+    if let Some(longest) = interval {
+        session.set_interval(longest)?;
+    }
     let db = session.take("db", Mode::Exclusive, Some(Duration::from_secs(1)))?;
     work(&db)?; // where this fails, or panics, the drop gives db back
     db.give()?;
     Ok(())
 }
 
-fn arguments() -> Option<(PathBuf, u32)> {
+fn arguments() -> Option<(PathBuf, u32, Option<Duration>)> {
     let mut words = env::args_os().skip(1);
     let (folder, host) = (words.next()?, words.next()?.to_str()?.parse().ok()?);
-    words.next().is_none().then(|| (folder.into(), host))
+    let interval = match words.next() {
+        None => None,
+        Some(word) => Some(Duration::from_millis(word.to_str()?.parse().ok()?)),
+    };
+    words.next().is_none().then(|| (folder.into(), host, interval))
 }
 
 fn main() -> ExitCode {
-    let Some((folder, host)) = arguments() else {
-        eprintln!("guard FOLDER HOST");
+    let Some((folder, host, interval)) = arguments() else {
+        eprintln!("guard FOLDER HOST [INTERVAL]");
         return ExitCode::from(2);
     };
-    match run(&folder, host) {
+    match run(&folder, host, interval) {
         Ok(()) => ExitCode::SUCCESS,
         Err(why) => {
             eprintln!("guard: {why}");
