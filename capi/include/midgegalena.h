@@ -153,7 +153,7 @@ int mg_machine_of(const char *folder, unsigned host, char *into, size_t size);
 void mg_close(struct mg_host *host);
 
 /* How often an operation may be outrun before it ends as MG_OUTRUN: 1 to 255, 8 at first. A command waits before each further
- * try, for a random time that grows. */
+ * try, for a random time in proportion to how long the last one took, which grows. */
 int mg_set_tries(struct mg_host *host, unsigned tries);
 
 /* ---- commands ----

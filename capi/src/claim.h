@@ -86,6 +86,9 @@ int32_t dlm_c_settle_left(struct claim *claim, struct cleanup *cleanup);
 
 /* By a host: of midgegalena.c. Commands of others are marked until it is time, in milliseconds of CLOCK_MONOTONIC. A lock 0 is none: all are passed, or
  * the purge is to be submitted. `ours` has MG_LOCKS numbers. */
+int64_t microseconds(void);
+void sleep_for(int64_t length);
+int64_t pause_after(const struct mg_host *host, unsigned outrun);
 int learn_all(struct mg_host *host, int64_t until);
 int sign_name(struct mg_host *host, unsigned number, uint32_t lock, char *into, size_t room);
 int claim_submits(struct claim *claim, struct mg_host *host);

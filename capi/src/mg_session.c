@@ -79,11 +79,7 @@ struct mg_session {
 
 /* ---- time ---- */
 
-static int64_t milliseconds(void) {
-    struct timespec now = {0, 0};
-    (void)clock_gettime(CLOCK_MONOTONIC, &now);
-    return (int64_t)now.tv_sec * 1000 + now.tv_nsec / 1000000;
-}
+static int64_t milliseconds(void) { return microseconds() / 1000; }
 
 static unsigned any_below(unsigned bound) {
     uint32_t part;
@@ -95,7 +91,6 @@ static unsigned any_below(unsigned bound) {
 /* MG_OK after so long, or at `until`; MG_TIMED_OUT where that is past. A wait that may be stopped pauses as the caller wants it. */
 static int pause_for(struct mg_session *session, int64_t length, int64_t until, bool stops) {
     int64_t left = until - milliseconds();
-    struct timespec time;
     if (left <= 0)
         return MG_TIMED_OUT;
     if (length > left)
@@ -107,10 +102,7 @@ static int pause_for(struct mg_session *session, int64_t length, int64_t until, 
                 return MG_STOPPED;
         return session->rest(session->with, (int)length) == 0 ? MG_OK : MG_STOPPED;
     }
-    time.tv_sec = (time_t)(length / 1000);
-    time.tv_nsec = (long)(length % 1000) * 1000000;
-    while (nanosleep(&time, &time) != 0 && errno == EINTR)
-        ;
+    sleep_for(length * 1000);
     return MG_OK;
 }
 
@@ -450,6 +442,13 @@ static void rest(struct mg_session *session, struct entry *entry, const struct w
         (void)dlm_c_hear_alone(&entry->claim, HAS_RESTED, 0);
 }
 
+/* Waits after being outrun so often in a row. Callers pause by whole milliseconds, so what is left of one is slept here. */
+static void yield(struct mg_session *session, struct entry *entry, struct mg_host *host, const struct work *work, unsigned outrun) {
+    int64_t length = pause_after(host, outrun > 0 ? outrun - 1 : 0);
+    sleep_for(length % 1000);
+    rest(session, entry, work, length / 1000);
+}
+
 /* Opens the folder under the host number. With MG_SHARE it waits for its turn, but shortly: whoever waits for a lock has to look meanwhile. */
 static int open_in_turn(struct mg_session *session, struct entry *entry, const struct work *work) {
     int64_t until = milliseconds() + LONGEST_PAUSE;
@@ -551,7 +550,7 @@ static void operate(struct mg_session *session, struct entry *entry, struct work
             }
             rest(session, entry, work, order->amount);
             break;
-        case TO_YIELD: rest(session, entry, work, 1 + any_below(16u << (order->amount < 7 ? order->amount : 7))); break;
+        case TO_YIELD: yield(session, entry, host, work, order->amount); break;
         default: conclude(session, entry, host, work); return;
         }
     }
@@ -800,6 +799,7 @@ int mg_check(struct mg_session *session, unsigned lock) {
 static int purge(struct mg_session *session, unsigned victim, unsigned *purged) {
     struct cleanup locks = locks_of(session, victim, ALL_LOCKS);
     int64_t until = milliseconds() + PATIENCE;
+    unsigned outrun = 0;
     for (;;) {
         uint32_t lock;
         bool is_purged;
@@ -816,8 +816,10 @@ static int purge(struct mg_session *session, unsigned victim, unsigned *purged) 
         }
         status = submit_purge(session->host, &locks, purged);
         /* Another command of this number came first, or another host's ballot was greater. */
-        if (status != MG_OK && status != MG_STALE && (status != MG_OUTRUN || pause_for(session, 1 + any_below(16), until, false) != MG_OK))
+        if (status != MG_OK && status != MG_STALE && (status != MG_OUTRUN || milliseconds() >= until))
             return status;
+        if (status == MG_OUTRUN)
+            sleep_for(pause_after(session->host, outrun++));
     }
 }
 

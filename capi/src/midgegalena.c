@@ -294,6 +294,7 @@ struct mg_host {
     struct due_call call;
     struct written written;
     struct row row;
+    int64_t took;         /* the last attempt, in microseconds */
     int faults[MG_DISKS]; /* MG_OK, or why the image is not used, or that a call on it failed */
 };
 
@@ -763,37 +764,61 @@ int mg_format_shared(const char *folder, unsigned disks, unsigned slots, uint64_
 
 /* ---- waiting ---- */
 
-static int64_t milliseconds(void) {
+int64_t microseconds(void) {
     struct timespec now = {0, 0};
     (void)clock_gettime(CLOCK_MONOTONIC, &now);
-    return (int64_t)now.tv_sec * 1000 + now.tv_nsec / 1000000;
+    return (int64_t)now.tv_sec * 1000000 + now.tv_nsec / 1000;
 }
 
-static void sleep_for(int64_t microseconds) {
+static int64_t milliseconds(void) { return microseconds() / 1000; }
+
+void sleep_for(int64_t length) {
     struct timespec left;
-    left.tv_sec = (time_t)(microseconds / 1000000);
-    left.tv_nsec = (long)(microseconds % 1000000) * 1000;
+    left.tv_sec = (time_t)(length / 1000000);
+    left.tv_nsec = (long)(length % 1000000) * 1000;
     while (nanosleep(&left, &left) != 0 && errno == EINTR)
         ;
 }
 
-/* Waits for a random time, which grows with the tries that were outrun before: as pause of crates/dlm_images. Where the system
- * has no random numbers it waits as long as it ever does after so many. */
-static void pause_after(unsigned outrun) {
-    uint64_t longest = (uint64_t)(16 << (outrun < 7 ? outrun : 7)) * 1000;
+enum { SHORTEST_BOUND = 20, LONGEST_BOUND = 2048000 }; /* microseconds */
+
+/* How long to wait after being outrun, in microseconds: for a random time. Its bound is as long as the attempt took, so it fits memory and slow
+ * disks, and doubles with the tries that were outrun before. Where the system has no random numbers the pause is as long as it ever is after
+ * so many. */
+int64_t pause_after(const struct mg_host *host, unsigned outrun) {
+    uint64_t took = (uint64_t)(host->took < LONGEST_BOUND ? host->took : LONGEST_BOUND);
+    uint64_t bound = took << (outrun < 7 ? outrun : 7);
     uint32_t part;
     if (getrandom(&part, sizeof part, 0) != (ssize_t)sizeof part)
         part = UINT32_MAX;
-    sleep_for((int64_t)((longest * part) >> 32));
+    if (bound < SHORTEST_BOUND)
+        bound = SHORTEST_BOUND;
+    return (int64_t)(((bound < LONGEST_BOUND ? bound : LONGEST_BOUND) * part) >> 32);
 }
 
 /* ---- commands ---- */
 
 static const struct mg_answer NO_ANSWER = {-1, MG_NO_REPLY, 0, MG_NONE, MG_NONE};
 
-/* One submission, which ends where it is outrun. */
+static uint64_t learned_by(struct mg_host *host) {
+    struct mg_host_view view;
+    memset(&view, 0, sizeof view);
+    (void)dlm_c_host(&host->handle, &view);
+    return view.learned;
+}
+
+/* A submission that was begun, and ends where it is outrun. It may have learned commands of others first. So its last attempt is taken to be as
+ * long as it was on average for a slot. */
+static int carry_out_once(struct mg_host *host, int32_t begun, struct answer *answer) {
+    uint64_t learned = learned_by(host);
+    int64_t from = microseconds();
+    int status = carry_out(host, begun, answer);
+    host->took = (microseconds() - from) / (int64_t)(1 + learned_by(host) - learned);
+    return status;
+}
+
 static int submit_once(struct mg_host *host, const struct request *request, const char *name, struct answer *answer) {
-    return carry_out(host, dlm_c_submit(&host->handle, request, (const uint8_t *)name, strlen(name), 1), answer);
+    return carry_out_once(host, dlm_c_submit(&host->handle, request, (const uint8_t *)name, strlen(name), 1), answer);
 }
 
 static int submit(struct mg_host *host, const struct request *request, const char *name, struct mg_answer *into) {
@@ -807,7 +832,7 @@ static int submit(struct mg_host *host, const struct request *request, const cha
         return MG_ONLY_LOOKS;
     status = submit_once(host, request, name, &answer);
     for (unsigned outrun = 0; status == MG_OUTRUN && outrun + 1 < host->tries; outrun++) {
-        pause_after(outrun);
+        sleep_for(pause_after(host, outrun));
         status = submit_once(host, request, name, &answer);
     }
     if (into) {
@@ -914,7 +939,7 @@ static int mark_slot(struct mg_host *host, int32_t slot, int status) {
  * that fails then is given up by the host, too. */
 int claim_submits(struct claim *claim, struct mg_host *host) {
     struct answer answer;
-    int status = carry_out(host, dlm_c_submit_order(claim, &host->handle), &answer);
+    int status = carry_out_once(host, dlm_c_submit_order(claim, &host->handle), &answer);
     claim_hears(claim, host, HAS_REPLIED, 0, false);
     return mark_slot(host, answer.slot, status);
 }
@@ -941,7 +966,7 @@ int next_purge(struct mg_host *host, const struct cleanup *cleanup, uint32_t *lo
 
 int submit_purge(struct mg_host *host, const struct cleanup *cleanup, unsigned *purged) {
     struct answer answer;
-    int status = carry_out(host, dlm_c_submit_purge(&host->handle, cleanup), &answer);
+    int status = carry_out_once(host, dlm_c_submit_purge(&host->handle, cleanup), &answer);
     *purged += answer.purged;
     (void)mark_slot(host, answer.slot, status);
     return status;
@@ -986,13 +1011,6 @@ int mg_refresh(struct mg_host *host, uint64_t *learned) {
     if (learned)
         *learned = answer.count;
     return status;
-}
-
-static uint64_t learned_by(struct mg_host *host) {
-    struct mg_host_view view;
-    memset(&view, 0, sizeof view);
-    (void)dlm_c_host(&host->handle, &view);
-    return view.learned;
 }
 
 /* Learns all that was acknowledged, and marks what it has learned so, until it is time. */
