@@ -20,8 +20,9 @@ pub use header::{
     is_device_header,
 };
 pub use law::{
-    headers_come_back, names_come_back, new_devices_show, places_are_apart, reads_show, reads_that_agree,
-    rows_are_moments, rows_come_back, writes_of_sectors, writes_raise, writes_show,
+    headers_come_back, names_come_back, new_devices_show, places_are_apart, reads_show,
+    reads_that_agree, rows_are_moments, rows_come_back, writes_of_sectors, writes_raise,
+    writes_show,
 };
 pub use name::{MachineName, NAME_LENGTH, NAMED_LENGTH, name_in, put_name};
 pub use owner::{Owner, owner_of};
