@@ -1,0 +1,10 @@
+pub mod OneLog
+pub mod Over
+pub mod Owning
+pub mod Reading
+pub mod Restarting
+pub mod Sectors
+pub mod Seeing
+pub mod Serving
+pub mod Steps
+pub mod Writing
