@@ -1,3 +1,4 @@
+pub mod Making
 pub mod OneLog
 pub mod Over
 pub mod Owning

@@ -1,4 +1,5 @@
 pub mod Device
+pub mod Made
 pub mod OneLog
 pub mod OverDevices
 pub mod Owning

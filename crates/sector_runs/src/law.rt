@@ -1,4 +1,5 @@
 // What hosts on several machines make together over devices of sectors, if each sector is read and written at one moment.
+ghost use Rattle.sector_runs.specs.Made.{CallsCanBeServed};
 ghost use Rattle.sector_runs.specs.OneLog.{DevicesHaveOneLog};
 ghost use Rattle.sector_runs.specs.OverDevices.{DevicesMakeItAtOnce, DevicesServe};
 ghost use Rattle.sector_runs.specs.Owning.{HostsWriteTheirOwn};
@@ -19,6 +20,8 @@ pub fn touches_are_steps()
     ensures serves { SectorsServe }
     // A device that was formatted shows an image that holds nothing.
     ensures blank { BlankDevicesShow }
+    // And a device can serve so any call of a host, with the answer of that disk.
+    ensures can { CallsCanBeServed }
     // Sectors are numbered as they follow one another on the device.
     ensures numbers { SectorsFollow }
 {}

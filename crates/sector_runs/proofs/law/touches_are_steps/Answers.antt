@@ -1,3 +1,4 @@
+use Rattle.sector_runs.proofs.Making.{calls_can_be_served}
 use Rattle.sector_runs.proofs.Steps.{blank_devices_show, keeps_are_syncs, puts_are_writes, restarts_lose_power, rows_are_reads, sectors_follow, sectors_serve, tries_are_torn}
 use Rattle.sector_runs.proofs.law.touches_are_steps.Goals as goal
 
@@ -24,3 +25,6 @@ returns-clause-blank c = blank_devices_show
 
 pub returns-clause-numbers : goal.returns-clause-numbers
 returns-clause-numbers c = sectors_follow
+
+pub returns-clause-can : goal.returns-clause-can
+returns-clause-can c = calls_can_be_served
