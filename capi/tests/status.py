@@ -11,7 +11,6 @@ import shutil
 import signal
 import subprocess
 import sys
-import threading
 import time
 
 mg_lock, dlm, work = map(os.path.abspath, sys.argv[1:])
@@ -194,31 +193,35 @@ def facts():
     return found
 
 
+# Takes a number again and again until its input ends, and tells how often it was refused.
+TAKES = """
+import fcntl, os, select, sys
+refused = 0
+print("begun", flush=True)
+while not select.select([sys.stdin], [], [], 0)[0]:
+    file = os.open(sys.argv[1], os.O_RDWR)
+    try:
+        fcntl.flock(file, fcntl.LOCK_EX | fcntl.LOCK_NB)
+    except BlockingIOError:
+        refused += 1
+    os.close(file)
+print(refused)
+"""
+
+
 def only_looks():
     folder()
     submit(0, "enqueue 1 1 1 EX db")
     holder = begin(1, "other")
     expect(until(lambda: len(told()["locks"]) == 2), "one holds")
     before = facts()
-    path, ends, refused = os.path.join(images, "host0.lock"), threading.Event(), []
-
-    def takes():
-        """Somebody who takes the number again and again is never refused."""
-        while not ends.is_set():
-            file = os.open(path, os.O_RDWR)
-            try:
-                fcntl.flock(file, fcntl.LOCK_EX | fcntl.LOCK_NB)
-            except BlockingIOError:
-                refused.append(path)
-            os.close(file)
-
-    thread = threading.Thread(target=takes)
-    thread.start()
+    # Of a thread of this process the children that are being started would have the file, too.
+    taker = subprocess.Popen([sys.executable, "-c", TAKES, os.path.join(images, "host0.lock")], stdin=subprocess.PIPE, stdout=subprocess.PIPE, text=True)
+    expect(taker.stdout.readline() == "begun\n", "somebody takes the number")
     for _ in range(30):
         run("--status", "--json", images)
-    ends.set()
-    thread.join()
-    expect(not refused, "a host was kept from its number")
+    refused = int(taker.communicate("")[0])
+    expect(refused == 0, f"a host was kept from its number {refused} times")
     expect(facts() == before, "something in the folder was changed")
     os.killpg(holder.pid, signal.SIGTERM)
     holder.wait(20)
