@@ -3,10 +3,11 @@
 
     wrong.py                what is due, and why; and whether each edit of wrong/ and of must-fail/ can still be applied
     wrong.py try CRATE..    has the checker try all of wrong/ in these crates (`all`: in each), and records in wrong/tried that it refused each
+    wrong.py note CRATE..   records the same of what `rt ci` or `rt must-fail` printed on standard input, over a copy of these very crates
     wrong.py put            puts a copy of each edit that is due into must-fail/, where `rt ci` tries it
     wrong.py back           takes these copies out again
 
-A crate is due where its src/, specs/, proofs/ or wrong/ differ from what wrong/tried says was tried. In turn, one crate in eight is due each day,
+A crate is due where its src/, specs/, proofs/ or wrong/ differ from what wrong/tried says was tried. In turn, one crate in twelve is due each day,
 for a change of the crates below it could let a wrong body through. With WRONG=all in the environment each crate is due.
 """
 import datetime
@@ -19,7 +20,7 @@ import sys
 import tempfile
 
 TOP = os.path.dirname(os.path.dirname(os.path.realpath(__file__)))
-TURNS = 8
+TURNS = 12
 
 
 def edits_of(crate, part="wrong"):
@@ -172,6 +173,10 @@ def copy_with(names, to):
             shutil.copyfile(f"{TOP}/crates/{crate}/wrong/{edit}", f"{to}/crates/{crate}/must-fail/{edit}")
 
 
+def refused_by(line):
+    return re.findall(r"^rt: must-fail (\w+/\S+\.edit): refused, as it must be", line)
+
+
 def attempt(names):
     """Tries all of wrong/ in these crates, and records those of which each was refused. Of any other the record goes."""
     sums = {it: sum_of(it) for it in names}
@@ -180,11 +185,14 @@ def attempt(names):
         copy_with(names, room)
         with subprocess.Popen(["rt", "ci"], cwd=room, stdin=subprocess.DEVNULL, stdout=subprocess.PIPE, text=True, errors="replace") as ran:
             for line in ran.stdout:
-                at = re.match(r"rt: must-fail (\w+/\S+\.edit): refused, as it must be", line)
-                if at:
-                    refused.add(at[1])
+                refused.update(refused_by(line))
                 if re.match(r"rt: |\d+ passed", line):
                     print(line, end="", flush=True)
+    return record(names, sums, refused)
+
+
+def record(names, sums, refused):
+    """Records the crates whose edits were all refused, and whose files have these sums still. Of any other the record goes."""
     version = subprocess.run(["rt", "version"], stdout=subprocess.PIPE, text=True, check=True).stdout.strip()
     missed = False
     for crate in names:
@@ -203,12 +211,14 @@ def attempt(names):
 
 def main():
     verb, names = (sys.argv[1:] or [""])[0], sys.argv[2:]
-    if verb == "try" and names:
+    if verb in ("try", "note") and names:
         names = crates() if names == ["all"] else names
         unknown = sorted(set(names) - set(crates()))
         if unknown:
             sys.exit(f"wrong.py: there is no wrong/ in {' '.join(unknown)}")
-        return attempt(names)
+        if verb == "try":
+            return attempt(names)
+        return record(names, {it: sum_of(it) for it in names}, {it for line in sys.stdin for it in refused_by(line)})
     if verb not in ("", "put", "back") or names:
         sys.exit(__doc__)
     if verb == "back":

@@ -99,8 +99,16 @@ expect "one was let through, and its crate has no record" d
 ends 0 "it is refused again" "$wrong" try d
 expect "all were tried again"
 
-# Each crate is in turn on one of eight days.
-days=$(for WRONG_DAY in 0 1 2 3 4 5 6 7; do "$wrong"; done | sed -n 's/: .*: in turn$//p' | sort | tr '\n' ' ')
+# What a run of the kit printed of both edits is recorded, and of one alone is not.
+rm -- "$work/crates/e/wrong/tried"
+printf 'rt: must-fail e/%s.edit: refused, as it must be: a reason\n' first second > "$work/told_by_rt"
+ends 1 "one of two was printed" "$wrong" note e < <(head -n 1 "$work/told_by_rt")
+expect "one of two is not enough" e
+ends 0 "both were printed" "$wrong" note e < "$work/told_by_rt"
+expect "what was printed is recorded"
+
+# Each crate is in turn on one of twelve days.
+days=$(for WRONG_DAY in {0..11}; do "$wrong"; done | sed -n 's/: .*: in turn$//p' | sort | tr '\n' ' ')
 ends 0 "each is in turn once: $days" test "$days" = "a b c d e f g h i "
 tried=$((tried + 1))
 [[ $(WRONG=all "$wrong" | grep -c ': WRONG=all$') -eq 9 ]] || { echo "WRONG=all leaves a crate out"; failed=$((failed + 1)); }
