@@ -27,7 +27,8 @@ is_lt_nat a b = elim (nat_lt a b) as (λ t. is_lt (cond t Less (cond (a == b) Eq
   ]
 ]
 
-filter_none : {X : Type 0} (P : X → Bool) (xs : List X) → length (filter P xs) ≡ 0 → filter (λ x. not (P x)) xs ≡ xs
+-- to leave out what nothing passes changes nothing
+pub filter_none : {X : Type 0} (P : X → Bool) (xs : List X) → length (filter P xs) ≡ 0 → filter (λ x. not (P x)) xs ≡ xs
 filter_none P [] none = refl
 filter_none P (x ∷ xs) none =
     elim (P x) as (λ t. length (cond t (x ∷ filter P xs) (filter P xs)) ≡ 0 → cond (not t) (x ∷ filter (λ y. not (P y)) xs) (filter (λ y. not (P y)) xs) ≡ x ∷ xs) [

@@ -1,5 +1,5 @@
 -- Names as numbers that rise as the names do.
-use Rattle.std.proofs.Common.{◌≡◌, ◌≤◌, ◌<◌, ◌+◌, ◌*◌, ◌^◌, ℕ, zero, suc, true, false, cond, ◌==◌, ◌&&◌, nat_le, nat_lt, List, [], ◌∷◌, length, get_or, refl, sym, ap, ◌∙◌, inl, inr, arith}
+use Rattle.std.proofs.Common.{◌≡◌, ◌≤◌, ◌<◌, ◌+◌, ◌*◌, ◌/◌, ◌^◌, ℕ, zero, suc, true, false, cond, ◌==◌, ◌&&◌, nat_le, nat_lt, List, [], ◌∷◌, length, get_or, refl, sym, ap, ◌∙◌, inl, inr, arith}
 use Rattle.std.specs.List.{list_all}
 use Rattle.std.specs.Ordering.{is_lt, nat_cmp, ordering_then}
 use Rattle.std.specs.Cmp.Lexicographic.{slice_cmp}
@@ -180,3 +180,19 @@ before_by_key name rank r own named few =
     sym (is_lt_nat (lock_key r) (key_of name rank 0))
     ∙ ap is_lt (key_cmp r.name name (rank_of r.state) rank number 0 own.named named (rank_small r.state) few (number_small r.state r.lock own.number) (omega arith))
     ∙ last_is_never_less (slice_cmp nat_cmp r.name name) (nat_cmp (rank_of r.state) rank) (nat_cmp number 0) (is_lt_nat number 0 ∙ le-ltb number 0 (omega arith))
+
+-- a key begins with the number of the name
+pub name_of_key : (r : LockRecord) → HasKey r → lock_key r / 2 ^ 18 ≡ spelled 15 r.name
+name_of_key r own = omega (arith, rank_small r.state, number_small r.state r.lock own.number)
+
+pub name_small : (name : List ℕ) → IsName name → spelled 15 name < 2 ^ 107
+name_small name named =
+    let digits = spelled_small 15 name (name_parts name named).1 in
+    omega (arith, digits)
+
+-- names of one number are the same
+pub alike_spelled : (a b : List ℕ) → IsName a → IsName b → spelled 15 a ≡ spelled 15 b → slice_cmp nat_cmp a b ≡ Equal
+alike_spelled a b this that same =
+    let these = name_parts a this in
+    let those = name_parts b that in
+    sym (spelled_cmp 15 a b these.0 those.0 these.1 those.1) ∙ equal (spelled 15 a) (spelled 15 b) same

@@ -1,5 +1,5 @@
--- Locks at places that they keep, the order in which they stand, and their numbers by place.
-use Rattle.std.specs.Prelude.{◌≡◌, ℕ, ◌+◌, ◌≤◌, ◌==◌, nat_le, cond, List, [], map, filter, length, slice_index, slice_index_or}
+-- Locks at places that they keep, the order in which they stand, and their numbers and hosts by place.
+use Rattle.std.specs.Prelude.{◌≡◌, ℕ, ◌+◌, ◌≤◌, ◌==◌, nat_le, Bool, cond, List, [], map, filter, length, slice_index, slice_index_or}
 use Rattle.lock_modes.specs.declared.mode.Mode.TheVariants.{Null}
 use Rattle.lock_table.specs.declared.record.LockRecord.{LockRecord}
 use Rattle.lock_command.specs.declared.state.LockState.TheVariants.{Waiting}
@@ -33,3 +33,11 @@ pub record IsShelved (records : List LockRecord) (order free : List ℕ) : Type 
 pub record IsNumbered (records : List LockRecord) (order numbers : List ℕ) : Type 0 where
   pub there : (place : ℕ) → 1 ≤ times place order → slice_index numbers place ≡ (at_place records place).lock
   pub elsewhere : (place : ℕ) → times place order ≡ 0 → slice_index numbers place ≡ 0
+
+-- beside each place of the order stands the host of its lock
+pub record IsHosted (records : List LockRecord) (order hosts : List ℕ) : Type 0 where
+  pub found : (place : ℕ) → 1 ≤ times place order → slice_index hosts place ≡ (at_place records place).host
+
+-- the lock at a place was enqueued through a host, by what stands beside the place
+abbrev pub is_through_host : List ℕ → ℕ → ℕ → Bool
+is_through_host hosts host place = slice_index hosts place == host

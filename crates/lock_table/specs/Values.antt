@@ -1,4 +1,4 @@
--- What commands do to the values of names. Values never decide what is granted, so nothing here says what is.
+-- Of the headline. What commands do to the values of names. Values never decide what is granted, so nothing here says what is.
 use Rattle.std.specs.Prelude.{ℕ, Bool, true, false, ◌&&◌, List, Option, Some, None, replicate, if◌then◌else◌}
 use Rattle.std.specs.List.{list_any}
 use Rattle.lock_modes.specs.declared.mode.Mode.{Mode}

@@ -1,5 +1,5 @@
-ghost use Rattle.std.specs.Prelude.{◌≡◌, ◌+◌, ◌<◌, ◌≤◌, ℕ, IfOk, IfSome, IsSome, IsTrue, [], length, filter, insert, remove, set, slice_index, slice_index_or, cond, nat_lt, not, true, false};
-ghost use Rattle.std.specs.List.{slice_get};
+ghost use Rattle.std.specs.Prelude.{◌≡◌, ◌+◌, ◌-◌, ◌<◌, ◌≤◌, ℕ, IfOk, IfSome, IsSome, IsTrue, [], length, filter, insert, remove, set, slice_index, slice_index_or, cond, nat_lt, not, true, false};
+ghost use Rattle.std.specs.List.{slice_get, AllWithin};
 ghost use Rattle.std.specs.List.Sorted.{IsSorted, IsPartitionPoint};
 ghost use Rattle.lock_table.specs.declared.record.LockRecord.{LockRecord};
 ghost use Rattle.lock_table.specs.Locks.{is_through};
@@ -7,6 +7,7 @@ ghost use Rattle.lock_table.specs.Indexed.{number_cmp};
 ghost use Rattle.lock_table.specs.Locks.{is_lock, lock_in, without, put, IsDistinct};
 
 use crate::by_printed_order::take_place;
+use crate::hosts::Hosts;
 use crate::locks::LOCKS;
 use crate::narrowing::{lower, passed_of_three};
 use crate::record::LockRecord;
@@ -30,19 +31,21 @@ pub struct ByLockNumber {
     /// For the low byte of a lock number the place of the lock with that byte that was put in, replaced or found last. No contract speaks
     /// of it: the number at the place tells whether it is right.
     hints: [u8; 256],
+    /// The hosts that the locks were enqueued through, by place.
+    hosts: Hosts,
 }
 
 impl Model for ByLockNumber {
     ghost use Rattle.std.specs.Prelude.{List, ◌≡◌, ◌≤◌, vec_len, vec_capacity};
     ghost use Rattle.lock_table.specs.declared.locks.TheConstants.{LOCKS};
     ghost use Rattle.lock_table.specs.declared.record.LockRecord.{LockRecord};
-    ghost use Rattle.lock_table.specs.Shelved.{IsShelved, IsNumbered, at_places};
+    ghost use Rattle.lock_table.specs.Shelved.{IsShelved, IsNumbered, IsHosted, at_places};
 
     ghost Value = { List LockRecord };
 
     ghost view = { λ numbers. at_places numbers.records.items numbers.order.items };
 
-    ghost invariant = { λ numbers. IsShelved numbers.records.items numbers.order.items numbers.free.items × (vec_len numbers.records ≤ LOCKS) × (LOCKS ≤ vec_capacity numbers.records) × (LOCKS ≤ vec_capacity numbers.order) × (LOCKS ≤ vec_capacity numbers.free) × (vec_len numbers.lock_numbers ≡ LOCKS) × IsNumbered numbers.records.items numbers.order.items numbers.lock_numbers.items };
+    ghost invariant = { λ numbers. IsShelved numbers.records.items numbers.order.items numbers.free.items × (vec_len numbers.records ≤ LOCKS) × (LOCKS ≤ vec_capacity numbers.records) × (LOCKS ≤ vec_capacity numbers.order) × (LOCKS ≤ vec_capacity numbers.free) × (vec_len numbers.lock_numbers ≡ LOCKS) × IsNumbered numbers.records.items numbers.order.items numbers.lock_numbers.items × IsHosted numbers.records.items numbers.order.items numbers.hosts };
 }
 
 impl ByLockNumber {
@@ -56,6 +59,7 @@ impl ByLockNumber {
             free: Vec::with_capacity(alloc, LOCKS)?,
             lock_numbers: Vec::from_elem(alloc, 0, LOCKS)?,
             hints: [0; 256],
+            hosts: Hosts::new(),
         })
     }
 
@@ -101,7 +105,9 @@ impl ByLockNumber {
         ensures { self.new ≡ insert self.old at new }
     {
         let lock = new.lock;
+        let host = new.host;
         let place = take_place(&mut self.records, &mut self.free, new);
+        self.hosts.set(usize::from(place), host);
         self.lock_numbers[usize::from(place)] = lock.get();
         self.hints[low_byte(lock)] = place;
         let _ = self.order.insert(at, place);
@@ -113,8 +119,10 @@ impl ByLockNumber {
         ensures { self.new ≡ set self.old at new }
     {
         let lock = new.lock;
+        let host = new.host;
         let place = usize::from(self.order[at]);
         self.records[place] = new;
+        self.hosts.set(place, host);
         self.lock_numbers[place] = lock.get();
         self.hints[low_byte(lock)] = self.order[at];
     }
@@ -136,6 +144,7 @@ impl ByLockNumber {
             return false;
         };
         self.records[place] = *new;
+        self.hosts.set(place, new.host);
         true
     }
 
@@ -146,6 +155,16 @@ impl ByLockNumber {
     {
         let byte = low_byte(self.get(at).lock);
         self.hints[byte] = self.order[at];
+    }
+
+    /// Where the last record ends of a lock that was enqueued through a host, of those in front of a place. It is 0 if there is none.
+    fn through_end(&self, to: usize, host: HostNumber) -> usize
+        requires { to ≤ length self.now }
+        ensures bound { result ≤ to }
+        ensures others { AllWithin (λ r. is_through host r ≡ false) self.now result to }
+        ensures last { 0 < result → (d : LockRecord) → is_through host (slice_index_or self.now (result - 1) d) ≡ true }
+    {
+        self.hosts.through_end(&self.order, to, host)
     }
 
     /// Takes a record out.
@@ -308,11 +327,9 @@ pub fn take_away(numbers: &mut ByLockNumber, lock: LockNumber, near: usize)
 pub fn keep_others(numbers: &mut ByLockNumber, host: HostNumber)
     ensures items { numbers.new ≡ filter (λ r. not (is_through host r)) numbers.old }
 {
-    let mut at = numbers.len();
-    while at > 0 {
-        at -= 1;
-        if numbers.get(at).host == host {
-            numbers.remove(at);
-        }
+    let mut end = numbers.through_end(numbers.len(), host);
+    while end > 0 {
+        numbers.remove(end - 1);
+        end = numbers.through_end(end - 1, host);
     }
 }

@@ -1,18 +1,20 @@
-ghost use Rattle.std.specs.Prelude.{◌≡◌, ◌+◌, ◌<◌, ◌≤◌, ◌==◌, ◌^◌, ℕ, [], IfOk, IsTrue, cond, false, nat_lt, length, insert, remove, set, slice_index_or, vec_len, vec_capacity};
+ghost use Rattle.std.specs.Prelude.{◌≡◌, ◌+◌, ◌-◌, ◌<◌, ◌≤◌, ◌==◌, ◌^◌, ℕ, [], IfOk, IsTrue, cond, true, false, nat_lt, length, insert, remove, set, slice_index_or, vec_len, vec_capacity};
 ghost use Rattle.std.specs.List.{list_any, slice_get, AllWithin};
 ghost use Rattle.lock_table.specs.declared.record.LockRecord.{LockRecord};
 ghost use Rattle.lock_table.specs.Carrying.{has_locks};
+ghost use Rattle.lock_table.specs.Locks.{is_through};
 ghost use Rattle.lock_table.specs.State.{holds_against};
 ghost use Rattle.lock_table.specs.Values.{is_writer};
 ghost use Rattle.lock_table.specs.Keys.{lock_key, HasKey};
 ghost use Rattle.lock_table.specs.Shelved.{at_place, idle, times};
 
 use crate::bits::{WRITERS, bits_against};
+use crate::hosts::Hosts;
 use crate::keys::SpelledName;
 use crate::locks::LOCKS;
 use crate::record::LockRecord;
 use crate::state::held_bit;
-use lock_command::ClientNumber;
+use lock_command::{ClientNumber, HostNumber};
 use lock_modes::Mode;
 use std::alloc::{AllocError, Global};
 use std::marker::Model;
@@ -33,6 +35,8 @@ pub struct ByPrintedOrder {
     held: Vec<u8>,
     /// The sort keys of the locks, by place.
     keys: Vec<u128>,
+    /// The hosts that the locks were enqueued through, by place.
+    hosts: Hosts,
 }
 
 impl Model for ByPrintedOrder {
@@ -41,13 +45,13 @@ impl Model for ByPrintedOrder {
     ghost use Rattle.lock_table.specs.Keys.{IsKeyed};
     ghost use Rattle.lock_table.specs.declared.locks.TheConstants.{LOCKS};
     ghost use Rattle.lock_table.specs.declared.record.LockRecord.{LockRecord};
-    ghost use Rattle.lock_table.specs.Shelved.{IsShelved, at_places};
+    ghost use Rattle.lock_table.specs.Shelved.{IsShelved, IsHosted, at_places};
 
     ghost Value = { List LockRecord };
 
     ghost view = { λ places. at_places places.records.items places.order.items };
 
-    ghost invariant = { λ places. IsShelved places.records.items places.order.items places.free.items × (vec_len places.records ≤ LOCKS) × (LOCKS ≤ vec_capacity places.records) × (LOCKS ≤ vec_capacity places.order) × (LOCKS ≤ vec_capacity places.free) × (LOCKS ≤ vec_capacity places.held) × (places.held.items ≡ held_bits (at_places places.records.items places.order.items)) × (vec_len places.keys ≡ LOCKS) × IsKeyed places.records.items places.order.items places.keys.items };
+    ghost invariant = { λ places. IsShelved places.records.items places.order.items places.free.items × (vec_len places.records ≤ LOCKS) × (LOCKS ≤ vec_capacity places.records) × (LOCKS ≤ vec_capacity places.order) × (LOCKS ≤ vec_capacity places.free) × (LOCKS ≤ vec_capacity places.held) × (places.held.items ≡ held_bits (at_places places.records.items places.order.items)) × (vec_len places.keys ≡ LOCKS) × IsKeyed places.records.items places.order.items places.keys.items × IsHosted places.records.items places.order.items places.hosts };
 }
 
 impl ByPrintedOrder {
@@ -61,6 +65,7 @@ impl ByPrintedOrder {
             free: Vec::with_capacity(alloc, LOCKS)?,
             held: Vec::with_capacity(alloc, LOCKS)?,
             keys: Vec::from_elem(alloc, 0, LOCKS)?,
+            hosts: Hosts::new(),
         })
     }
 
@@ -90,6 +95,15 @@ impl ByPrintedOrder {
         } else {
             None
         }
+    }
+
+    /// The name of the lock at this index. Its number is read from the sort key.
+    pub fn name(&self, at: usize) -> SpelledName
+        requires { at < length self.now }
+        ensures { (d : LockRecord) → result ≡ (slice_index_or self.now at d).name }
+    {
+        let place = usize::from(self.order[at]);
+        SpelledName::of_key(self.records[place].name, self.keys[place])
     }
 
     /// Returns 1 if a lock has a lower key, else 0. The difference of the keys tells it, without a branch.
@@ -155,6 +169,16 @@ impl ByPrintedOrder {
         any
     }
 
+    /// Where the last lock ends that was enqueued through a host, of those in front of a place. It is 0 if there is none.
+    pub fn through_end(&self, to: usize, host: HostNumber) -> usize
+        requires { to ≤ length self.now }
+        ensures bound { result ≤ to }
+        ensures others { AllWithin (λ r. is_through host r ≡ false) self.now result to }
+        ensures last { 0 < result → (d : LockRecord) → is_through host (slice_index_or self.now (result - 1) d) ≡ true }
+    {
+        self.hosts.through_end(&self.order, to, host)
+    }
+
     /// Lists the locks.
     pub fn list(&self, into: &mut Vec<LockRecord>)
         requires empty { into.old.items ≡ [] }
@@ -177,6 +201,7 @@ impl ByPrintedOrder {
         let key = new.key(name);
         let place = take_place(&mut self.records, &mut self.free, new);
         self.keys[usize::from(place)] = key;
+        self.hosts.set(usize::from(place), new.host);
         let _ = self.order.insert(at, place);
         let _ = self.held.insert(at, held_bit(&new.state));
     }
@@ -190,6 +215,7 @@ impl ByPrintedOrder {
     {
         let place = usize::from(self.order[at]);
         self.records[place] = new;
+        self.hosts.set(place, new.host);
         self.held[at] = held_bit(&new.state);
     }
 

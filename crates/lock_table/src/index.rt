@@ -1,6 +1,8 @@
-ghost use Rattle.std.specs.Prelude.{◌≡◌, ◌+◌, ◌<◌, ◌≤◌, ◌↔◌, [], IfOk, IfSome, IsTrue, Some, None, filter, length, not};
+ghost use Rattle.std.specs.Prelude.{◌≡◌, ◌+◌, ◌<◌, ◌≤◌, ◌↔◌, [], ℕ, List, IfOk, IfSome, IsTrue, Some, None, filter, length, not, vec_capacity};
 ghost use Rattle.std.specs.List.Sorted.{IsSorted};
-ghost use Rattle.lock_table.specs.Locks.{is_through};
+ghost use Rattle.std.specs.List.{list_any};
+ghost use Rattle.lock_command.specs.Name.{same_name};
+ghost use Rattle.lock_table.specs.Locks.{is_on, is_through};
 ghost use Rattle.lock_table.specs.Locks.{lock_in, without, put, has_queue, head_of, admits, in_state, settled, settled_all, IsDistinct};
 ghost use Rattle.lock_table.specs.Indexed.{IsGrantedEnd, IsGrantedGroup};
 ghost use Rattle.lock_table.specs.Picture.{printed_cmp};
@@ -13,8 +15,8 @@ use crate::locks::LOCKS;
 use crate::printed::GrantedGroup;
 use crate::record::LockRecord;
 use crate::state::goal;
-use crate::{by_lock_number, printed};
-use lock_command::{HostNumber, LockName, LockNumber, LockState};
+use crate::{by_lock_number, printed, purge};
+use lock_command::{HostNumber, LockNumber, LockState};
 use lock_modes::Mode;
 use std::alloc::{AllocError, Global};
 use std::cell::Cell;
@@ -168,13 +170,22 @@ impl Index {
         printed::take_out(&mut self.printed, &own, name, group)
     }
 
-    /// Takes away the locks that were enqueued through a host.
-    pub fn take_through(&mut self, host: HostNumber)
+    /// Takes away the locks that were enqueued through a host, lists their names, and counts them.
+    pub fn take_through(&mut self, host: HostNumber, names: &mut Vec<SpelledName>) -> u16
+        requires room { LOCKS ≤ vec_capacity names.old }
+        requires empty { names.old.items ≡ [] }
         ensures left { self.new ≡ filter (λ r. not (is_through host r)) self.old }
+        ensures count { result ≡ length (filter (is_through host) self.old) }
+        ensures names { (name : List ℕ) → list_any (λ n. same_name n name) names.new.items ≡ list_any (is_on name) (filter (is_through host) self.old) }
+        ensures room { vec_capacity names.old ≤ vec_capacity names.new }
         ensures printed { in_order printed_cmp self.new ≡ self.new }
+        ensures distinct { IsDistinct self.old }
     {
-        by_lock_number::keep_others(&mut self.numbers, host);
-        printed::take_through(&mut self.printed, host);
+        let count = purge::take_through(&mut self.printed, host, names);
+        if count > 0 {
+            by_lock_number::keep_others(&mut self.numbers, host);
+        }
+        count
     }
 
     /// Grants locks of the name in their turn, until one cannot be granted.
@@ -200,13 +211,13 @@ impl Index {
     }
 
     /// Settles each of the names in turn.
-    pub fn settle_all(&mut self, names: &[LockName])
+    pub fn settle_all(&mut self, names: &[SpelledName])
         requires printed { in_order printed_cmp self.old ≡ self.old }
         requires distinct { IsDistinct self.old }
         ensures { self.new ≡ in_order printed_cmp (settled_all self.old names.now) }
     {
         for name in names {
-            self.settle(&SpelledName::new(*name));
+            self.settle(name);
         }
     }
 }

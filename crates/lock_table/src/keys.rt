@@ -1,4 +1,4 @@
-ghost use Rattle.std.specs.Prelude.{◌≡◌, ◌+◌, ◌*◌, ◌<◌, ◌^◌, slice_index};
+ghost use Rattle.std.specs.Prelude.{◌≡◌, ◌+◌, ◌*◌, ◌/◌, ◌<◌, ◌^◌, IsTrue, slice_index};
 ghost use Rattle.lock_command.specs.Name.{IsName};
 ghost use Rattle.lock_table.specs.Keys.{spelled, key_of};
 
@@ -42,6 +42,26 @@ impl SpelledName {
             number: spelled(name.as_bytes()),
             near_by_number,
         }
+    }
+
+    /// The name of a lock with this sort key, which begins with the name's number.
+    pub fn of_key(name: LockName, key: u128) -> Self
+        requires named { IsName name }
+        requires key { key / 2 ^ 18 ≡ spelled 15 name }
+        ensures { result ≡ name }
+    {
+        SpelledName {
+            name,
+            number: key / 262_144,
+            near_by_number: usize::MAX,
+        }
+    }
+
+    /// Whether it is the same name: no two names have one number.
+    pub fn is_same(&self, other: &SpelledName) -> bool
+        ensures { IsTrue result → self.now ≡ other.now }
+    {
+        self.number == other.number
     }
 
     pub fn name(&self) -> LockName

@@ -6,6 +6,7 @@ mod by_lock_number;
 mod by_printed_order;
 mod carry_over;
 mod clients;
+mod hosts;
 mod index;
 mod indexed_table;
 mod keys;

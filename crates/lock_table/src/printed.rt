@@ -1,7 +1,6 @@
-ghost use Rattle.std.specs.Prelude.{◌≡◌, ◌+◌, ◌-◌, ◌*◌, ◌/◌, ◌<◌, ◌≤◌, ◌^◌, Some, None, length, filter, find, drop, insert, remove, slice_index_or, not, nat_lt, true, false};
+ghost use Rattle.std.specs.Prelude.{◌≡◌, ◌+◌, ◌-◌, ◌*◌, ◌/◌, ◌<◌, ◌≤◌, ◌^◌, Some, None, length, find, drop, insert, remove, slice_index_or, nat_lt, true, false};
 ghost use Rattle.std.specs.List.{AllWithin, list_any};
 ghost use Rattle.std.specs.List.Sorted.{IsSorted, IsPartitionPoint};
-ghost use Rattle.lock_table.specs.Locks.{is_through};
 ghost use Rattle.lock_table.specs.Indexed.{stands_before_rank, IsGrantedEnd, IsGrantedGroup};
 ghost use Rattle.lock_table.specs.State.{is_queued};
 ghost use Rattle.lock_table.specs.Narrowed.{IsNarrowed};
@@ -17,7 +16,7 @@ use crate::locks::LOCKS;
 use crate::narrowing::passed_of_three;
 use crate::record::LockRecord;
 use crate::state::is_granted;
-use lock_command::{HostNumber, LockName, LockNumber};
+use lock_command::{LockName, LockNumber};
 use lock_modes::Mode;
 
 /// Where the granted locks of a name stand: from one place to before another.
@@ -346,17 +345,4 @@ pub fn restate(
     }
     let left = take_out(printed, own, name, group);
     put_in(printed, new, name, left)
-}
-
-/// Takes out the locks that were enqueued through a host.
-pub fn take_through(printed: &mut ByPrintedOrder, host: HostNumber)
-    ensures items { printed.new ≡ filter (λ r. not (is_through host r)) printed.old }
-{
-    let mut at = printed.len();
-    while at > 0 {
-        at -= 1;
-        if printed.get(at).host == host {
-            printed.remove(at);
-        }
-    }
 }

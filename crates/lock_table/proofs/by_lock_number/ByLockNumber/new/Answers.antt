@@ -1,4 +1,5 @@
 use Rattle.std.proofs.Common.{arith}
+use Rattle.lock_table.proofs.HostedPlaces.{hosted_none}
 use Rattle.lock_table.proofs.NumberedPlaces.{numbered_none}
 use Rattle.lock_table.proofs.Places.{shelved_none}
 use Rattle.lock_table.proofs.by_lock_number.ByLockNumber.new.Goals as goal
@@ -12,4 +13,5 @@ invariant_of-result c = (
   omega (arith, c.in_ok-with_capacity-3.ensures.capacity),
   c.in_ok-from_elem.ensures.len,
   numbered_none c.in_ok-with_capacity.field-0.items c.in_ok-with_capacity-2.field-0.items c.in_ok-from_elem.field-0.items 256 c.in_ok-with_capacity-2.ensures.items (c.in_ok-from_elem.ensures.items_if_clones_equal (λ y same. same)),
+  hosted_none c.in_ok-with_capacity.field-0.items c.in_ok-with_capacity-2.field-0.items _ c.in_ok-with_capacity-2.ensures.items,
 )

@@ -1,5 +1,6 @@
 use Rattle.std.proofs.Common.{◌≡◌, [], ◌∷◌, ◌++◌, remove, set, subst, List, ℕ, sym, ap, ◌∙◌, arith, rules}
-use Rattle.lock_table.specs.Shelved.{at_place, at_places, IsShelved, IsNumbered}
+use Rattle.lock_table.proofs.HostedPlaces.{hosted_remove}
+use Rattle.lock_table.specs.Shelved.{at_place, at_places, IsShelved, IsNumbered, IsHosted}
 use Rattle.lock_table.proofs.NumberedPlaces.{numbered_remove}
 use Rattle.lock_table.proofs.Places.{inside_order, shelved_remove, map-remove}
 use Rattle.lock_table.proofs.by_lock_number.ByLockNumber.remove.Goals as goal
@@ -20,6 +21,7 @@ invariant_of-self c =
       subst (λ (l : List ℕ). IsNumbered c.self.inside.records.items l (set c.self.inside.lock_numbers.items c.from.result 0)) (sym c.remove-place.ensures.items)
           (numbered_remove c.self.inside.records.items order c.self.inside.free.items c.self.inside.lock_numbers.items c.self.invariant.0 c.self.invariant.6 c.args.at c.remove-place.result c.from.result inside
           (c.from.ensures ∙ c.remove-place.ensures.value) (omega (arith, c.from.ensures, c.self.invariant.5, c.remove-place.type_inv))),
+      subst (λ (l : List ℕ). IsHosted c.self.inside.records.items l c.self.inside.hosts) (sym c.remove-place.ensures.items) (hosted_remove c.self.inside.records.items order c.self.inside.free.items c.self.inside.hosts c.self.invariant.0 c.self.invariant.7 c.args.at c.remove-place.result inside),
     )
 
 pub returns : goal.returns

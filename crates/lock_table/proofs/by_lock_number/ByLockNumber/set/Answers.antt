@@ -1,5 +1,7 @@
 use Rattle.std.proofs.Common.{◌≤◌, ◌<◌, ℕ, length, set, ap, ◌∙◌, arith}
-use Rattle.lock_table.specs.Shelved.{times}
+use Rattle.lock_table.specs.Shelved.{no_lock, times}
+use Rattle.std.proofs.lemmas.List.{get_or-set_same, get_or-set_other}
+use Rattle.lock_table.proofs.HostedPlaces.{hosted_set}
 use Rattle.lock_table.proofs.NumberedPlaces.{numbered_set}
 use Rattle.lock_table.proofs.Places.{inside_order, listed_place, place_inside, shelved_set, shown_set}
 use Rattle.lock_table.proofs.by_lock_number.ByLockNumber.set.Goals as goal
@@ -27,6 +29,8 @@ invariant_of-self c =
       omega (arith, c.self.invariant.5),
       numbered_set records order free c.self.inside.lock_numbers.items c.self.invariant.0 c.self.invariant.6 c.from-place.result c.get.result c.args.new there
           (omega (arith, there, c.self.invariant.1, c.self.invariant.5)) own c.get.ensures.value,
+      hosted_set records order free c.self.inside.hosts c.self.invariant.0 c.self.invariant.7 (set records c.from-place.result c.args.new) c.set.new.self c.from-place.result c.args.new
+          (get_or-set_same records c.from-place.result c.args.new no_lock there) c.set.ensures.own c.set.ensures.others (λ p other. get_or-set_other records c.from-place.result p c.args.new no_lock other),
     )
 
 pub returns : goal.returns

@@ -4,7 +4,8 @@ use Rattle.lock_table.specs.declared.record.LockRecord.{LockRecord}
 use Rattle.lock_table.specs.Bits.{held_bit, held_bits}
 use Rattle.lock_table.specs.Keys.{IsKeyed}
 use Rattle.lock_table.proofs.PlacedKeys.{keyed_remove}
-use Rattle.lock_table.specs.Shelved.{at_place, at_places, IsShelved}
+use Rattle.lock_table.proofs.HostedPlaces.{hosted_remove}
+use Rattle.lock_table.specs.Shelved.{at_place, at_places, IsShelved, IsHosted}
 use Rattle.lock_table.proofs.Places.{inside_order, shelved_remove, map-remove}
 use Rattle.lock_table.proofs.by_printed_order.ByPrintedOrder.remove.Goals as goal
 
@@ -27,6 +28,7 @@ invariant_of-self c =
           ∙ ap held_bits (sym (map-remove (at_place c.self.inside.records.items) order c.args.at) ∙ ap (at_places c.self.inside.records.items) (sym c.remove-place.ensures.items)),
       omega arith,
       subst (λ (l : List ℕ). IsKeyed c.self.inside.records.items l c.self.inside.keys.items) (sym c.remove-place.ensures.items) (keyed_remove c.self.inside.records.items c.self.inside.order.items c.self.inside.free.items c.self.inside.keys.items c.self.invariant.0 c.self.invariant.8 c.args.at c.remove-place.result inside),
+      subst (λ (l : List ℕ). IsHosted c.self.inside.records.items l c.self.inside.hosts) (sym c.remove-place.ensures.items) (hosted_remove c.self.inside.records.items c.self.inside.order.items c.self.inside.free.items c.self.inside.hosts c.self.invariant.0 c.self.invariant.9 c.args.at c.remove-place.result inside),
     )
 
 pub returns-clause-locks : goal.returns-clause-locks

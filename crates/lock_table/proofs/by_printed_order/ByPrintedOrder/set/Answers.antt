@@ -4,6 +4,8 @@ use Rattle.lock_table.specs.declared.record.LockRecord.{LockRecord}
 use Rattle.lock_table.specs.Bits.{held_bit, held_bits}
 use Rattle.lock_table.specs.Keys.{lock_key}
 use Rattle.lock_table.specs.Shelved.{no_lock, at_place, at_places}
+use Rattle.std.proofs.lemmas.List.{get_or-set_same, get_or-set_other}
+use Rattle.lock_table.proofs.HostedPlaces.{hosted_set}
 use Rattle.lock_table.proofs.PlacedKeys.{keyed_set, shown_there}
 use Rattle.lock_table.proofs.Places.{inside_order, place_inside, shelved_set, shown_set}
 use Rattle.lock_table.proofs.by_printed_order.ByPrintedOrder.set.Goals as goal
@@ -37,6 +39,8 @@ invariant_of-self c =
           ∙ ap held_bits (sym (shown_set records order free c.self.invariant.0 c.args.at c.from-place.result c.index.result.now c.args.new inside place)),
       omega (arith, c.self.invariant.7),
       keyed_set records order free c.self.inside.keys.items c.self.invariant.0 c.self.invariant.8 c.from-place.result c.args.new there alike c.requires.fits,
+      hosted_set records order free c.self.inside.hosts c.self.invariant.0 c.self.invariant.9 (set records c.from-place.result c.args.new) c.set.new.self c.from-place.result c.args.new
+          (get_or-set_same records c.from-place.result c.args.new no_lock there) c.set.ensures.own c.set.ensures.others (λ p other. get_or-set_other records c.from-place.result p c.args.new no_lock other),
     )
 
 pub returns : goal.returns

@@ -10,7 +10,7 @@ pub loop-name-preserved : goal.loop-name-preserved
 loop-name-preserved c =
     let now = c.loop-name.self in
     let name = c.name-item.result in
-    let next : c.settle.new.self ≡ shown (settled now name) = c.settle.ensures ∙ ap (λ n. shown (settled now n)) c.new.ensures in
+    let next : c.settle.new.self ≡ shown (settled now name) = c.settle.ensures in
     record {
       same = ap (λ l. shown (settled_all l (drop (c.loop-name.name-index + 1) c.args.names.now))) next
           ∙ all_settled_next now c.args.names.now c.loop-name.name-index name c.loop-name.invariant.distinct c.loop-name-test.true c.name-item.is

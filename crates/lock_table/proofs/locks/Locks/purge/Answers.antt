@@ -1,8 +1,8 @@
 use Rattle.std.proofs.Common.{◌≡◌, ℕ, not, List, map, sym, ap, subst, ◌∙◌}
-use Rattle.std.specs.List.{filter, list_any}
+use Rattle.std.specs.List.{filter}
 use Rattle.lock_table.specs.declared.record.LockRecord.{LockRecord}
 use Rattle.lock_table.specs.Locks.{is_through}
-use Rattle.lock_table.specs.Locks.{is_on, settled_all, IsDistinct}
+use Rattle.lock_table.specs.Locks.{settled_all, IsDistinct}
 use Rattle.lock_table.proofs.Numbered.{IsDistinct-filter}
 use Rattle.lock_table.proofs.Behave.{any-names}
 use Rattle.lock_table.proofs.Settled.{is_among}
@@ -11,8 +11,8 @@ use Rattle.lock_table.proofs.locks.Locks.purge.Goals as goal
 
 pub settle_all-requires-clause-distinct : goal.settle_all-requires-clause-distinct
 settle_all-requires-clause-distinct c =
-    subst (λ (l : List LockRecord). IsDistinct l) (sym c.take_through.ensures.left)
-    (IsDistinct-filter (λ r. not (is_through c.args.host r)) c.self.inside.index c.printed.ensures.distinct)
+    subst (λ (l : List LockRecord). IsDistinct l) (sym c.take_through-count.ensures.left)
+    (IsDistinct-filter (λ r. not (is_through c.args.host r)) c.self.inside.index c.take_through-count.ensures.distinct)
 
 pub returns-clause-locks : goal.returns-clause-locks
 returns-clause-locks c =
@@ -20,10 +20,10 @@ returns-clause-locks c =
     let host = c.args.host in
     let left = filter (λ r. not (is_through host r)) now in
     let gone = filter (is_through host) now in
-    let distinct = IsDistinct-filter (λ r. not (is_through host r)) now c.printed.ensures.distinct in
-    let among : (name : List ℕ) → is_among c.touch-count.new.names.items name ≡ is_among (map (λ (r : LockRecord). r.name) gone) name = λ name.
-    c.touch-count.ensures.names name ∙ ap (λ l. list_any (is_on name) (filter (is_through host) l)) c.printed.ensures.locks ∙ sym (any-names name gone) in
+    let distinct = IsDistinct-filter (λ r. not (is_through host r)) now c.take_through-count.ensures.distinct in
+    let among : (name : List ℕ) → is_among c.take_through-count.new.names.items name ≡ is_among (map (λ (r : LockRecord). r.name) gone) name = λ name.
+    c.take_through-count.ensures.names name ∙ sym (any-names name gone) in
     c.settle_all.ensures
-    ∙ (λ i. shown (settled_all (c.take_through.ensures.left i) (c.deref.ensures.value i)))
-    ∙ shown-settled_same c.touch-count.new.names.items (map (λ (r : LockRecord). r.name) gone) left distinct among
+    ∙ (λ i. shown (settled_all (c.take_through-count.ensures.left i) (c.deref.ensures.value i)))
+    ∙ shown-settled_same c.take_through-count.new.names.items (map (λ (r : LockRecord). r.name) gone) left distinct among
     ∙ ap (λ l. shown (settled_all (filter (λ r. not (is_through host r)) l) (map (λ (r : LockRecord). r.name) (filter (is_through host) l)))) c.self.view_is
