@@ -37,6 +37,12 @@ struct mg_session;
  * releases what processes with MG_SHARE left that are gone. A call learns the whole log anew, so this is for short programs. */
 #define MG_SHARE 2u
 
+/* With any of these: mg_take returns as soon as its command is acknowledged, and before that is marked, a third of its syncs earlier. Call mg_mark_taken
+ * once the work under the lock has begun. The session's next call marks it, too, and so does mg_end. Until then looks of all hosts stop at the command,
+ * and with MG_SHARE the session keeps the host number. If the process is killed before, it is a command without a mark as any other: waits pass it
+ * after two to four seconds. */
+#define MG_LATE 4u
+
 /* Opens the folder for a host number, learns all, and releases what former runs of this host number left. Without MG_SHARE the
  * number is the session's own until mg_end, and MG_HOST_IN_USE says that another process has it, or on devices that several machines
  * use another machine: then errno is EREMOTE, and no call waits for it. At MG_OK `*out` is a session,
@@ -80,6 +86,10 @@ int mg_take(struct mg_session *session, const char *name, int mode, int timeout,
  * the log; call again with the same value, for another one is MG_BAD_ARGUMENT by then. After any other number the lock is still
  * the session's: call again. It waits up to a minute for disks, for a full log to be renewed, and with MG_SHARE for the number. */
 int mg_give(struct mg_session *session, unsigned lock, const void *value);
+
+/* With MG_LATE: marks what mg_take has left without a mark. MG_OK also where there is nothing to mark. Else why it was not marked: the lock is held all the
+ * same. */
+int mg_mark_taken(struct mg_session *session);
 
 /* Looks whether a lock that was taken is still there: MG_OK, or MG_NO_SUCH_LOCK after a purge. Where the folder's link has moved it
  * looks in the folder to which that leads. As each look it sees nothing behind a command that has no mark, until somebody recovers:

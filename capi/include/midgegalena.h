@@ -26,9 +26,9 @@ extern "C" {
 
 /* The library's numbers: an increase of the first breaks programs, an increase of the second adds to what there is. */
 #define MG_VERSION_MAJOR 0
-#define MG_VERSION_MINOR 5
+#define MG_VERSION_MINOR 6
 
-/* "0.5", of the library that is linked. */
+/* "0.6", of the library that is linked. */
 const char *mg_version(void);
 
 /* ---- limits ---- */
@@ -156,13 +156,23 @@ void mg_close(struct mg_host *host);
  * try, for a random time in proportion to how long the last one took, which grows. */
 int mg_set_tries(struct mg_host *host, unsigned tries);
 
+/* Whether a command may return before it is marked, 0 at first. With anything else mg_enqueue and mg_status return as soon as the command is
+ * acknowledged, on three disks after 21 syncs and not after 33. The mark is made by mg_mark_now, by the next call that works on the images, or by
+ * mg_close. Commands that somebody may wait for are marked at once: conversions, releases, cancels and purges. Until a command is marked looks of all
+ * hosts stop at it, and whoever submits has to carry it through once more: so call mg_mark_now as soon as there is time. If the process is killed
+ * before, it is a command without a mark as any other. */
+int mg_set_late_marks(struct mg_host *host, int late);
+
+/* Marks the command that is to be marked, if one is. Else MG_OK. Where it fails the command is in the log all the same. */
+int mg_mark_now(struct mg_host *host);
+
 /* ---- commands ----
  *
  * `client` is 0 to 255, and owns its locks. `request` is 1 to 2^62, and rises from one command of a client to its next: the
  * same number again is answered as it was, and is not carried out twice; a lower one is MG_STALE. `lock` is 1 to 65,535, and
  * is free for mg_enqueue. Clients from 240 on and locks from 1,536 on are for mg_session.h and mg-lock. `answer` may be NULL.
  *
- * A command that is acknowledged is marked then, so that others learn it by mg_look. A mark that fails is not told.
+ * A command that is acknowledged is marked then (but see mg_set_late_marks), so that others learn it by mg_look. A mark that fails is not told.
  *
  * A full log refuses each command with MG_LOG_FULL, and ends mg_wait so for a lock that waits. Nothing was changed, and nothing
  * in this folder changes any more: the host knows all of it, and goes on showing it. mg_open, mg_look, mg_refresh and mg_mark end

@@ -84,14 +84,15 @@ void dlm_c_forget(struct claim *claim);
 void dlm_c_pass_left(struct cleanup *cleanup, uint32_t lock);
 int32_t dlm_c_settle_left(struct claim *claim, struct cleanup *cleanup);
 
-/* By a host: of midgegalena.c. Commands of others are marked until it is time, in milliseconds of CLOCK_MONOTONIC. A lock 0 is none: all are passed, or
- * the purge is to be submitted. `ours` has MG_LOCKS numbers. */
+/* By a host: of midgegalena.c. Commands of others are marked until it is time, in milliseconds of CLOCK_MONOTONIC. The host's own is marked at once where
+ * somebody may wait for it, else perhaps later. A lock 0 is none: all are passed, or the purge is to be submitted. `ours` has MG_LOCKS numbers. */
 int64_t microseconds(void);
 void sleep_for(int64_t length);
 int64_t pause_after(const struct mg_host *host, unsigned outrun);
 int learn_all(struct mg_host *host, int64_t until);
 int sign_name(struct mg_host *host, unsigned number, uint32_t lock, char *into, size_t room);
-int claim_submits(struct claim *claim, struct mg_host *host);
+int claim_submits(struct claim *claim, struct mg_host *host, bool is_waited_for);
+bool is_unmarked(const struct mg_host *host);
 void claim_hears(struct claim *claim, struct mg_host *host, enum event event, int status, bool left_over);
 int next_left(struct mg_host *host, const struct cleanup *cleanup, const uint32_t *ours, struct mg_lock_view *into);
 int next_purge(struct mg_host *host, const struct cleanup *cleanup, uint32_t *lock, bool *is_purged);

@@ -152,6 +152,8 @@ static int open_once(struct mg_session *session, int *disk) {
     session->is_worn = false;
     status = mg_open(session->at, session->number, &session->host, disk);
     if (status == MG_OK)
+        (void)mg_set_late_marks(session->host, (session->flags & MG_LATE) != 0);
+    if (status == MG_OK)
         status = is_shared(session) ? mg_look(session->host, NULL) : learn_all(session->host, milliseconds() + LONGEST_PAUSE);
     if (status != MG_OK) {
         mg_close(session->host);
@@ -171,6 +173,7 @@ static int mark_all(struct mg_host *host, int64_t until) {
 
 /* The same, and with MG_SHARE it waits for its turn, unless the number is another machine's. */
 static int begin_talk(struct mg_session *session, int64_t until, int *disk) {
+    (void)mg_mark_taken(session);
     for (;;) {
         int status = open_once(session, disk);
         bool may_pass = status == MG_OUTRUN || (status == MG_HOST_IN_USE && is_shared(session) && errno != EREMOTE);
@@ -380,6 +383,7 @@ struct work {
     int64_t until;
     bool stops;
     bool is_part; /* of another operation, whose talk goes on */
+    bool is_take; /* it may be marked later, and its talk ends then */
     struct due_order end;
     unsigned released;
     uint32_t slots_left;
@@ -517,7 +521,7 @@ static void conclude(struct mg_session *session, struct entry *entry, struct mg_
         work->slots_left = (uint32_t)(facts.slots - facts.learned);
     if (host && work->end.outcome == IS_HELD)
         (void)mg_value(host, entry->lock, &work->value);
-    if (!work->is_part)
+    if (!work->is_part && !(work->is_take && work->end.outcome == IS_HELD && session->host && is_unmarked(session->host)))
         end_talk(session);
 }
 
@@ -526,6 +530,8 @@ static void operate(struct mg_session *session, struct entry *entry, struct work
     struct mg_host *host = work->is_part ? session->host : NULL;
     struct due_order *order = &work->end;
     bool is_over = false;
+    if (!work->is_part)
+        (void)mg_mark_taken(session);
     for (;;) {
         if (!is_over && milliseconds() >= end_of(entry, work)) {
             dlm_c_stop(&entry->claim, false);
@@ -542,7 +548,7 @@ static void operate(struct mg_session *session, struct entry *entry, struct work
         case TO_TIDY: host = tidy(session, entry, work); break;
         case TO_TAKE_SIGN: take_sign_for(session, entry, host, order->lock); break;
         case TO_DROP_SIGN: drop_sign(session, entry, host, order); break;
-        case TO_SUBMIT: wear(session, claim_submits(&entry->claim, host)); break;
+        case TO_SUBMIT: wear(session, claim_submits(&entry->claim, host, order->amount == 1)); break;
         case TO_REST:
             if (!work->is_part) {
                 end_talk(session);
@@ -742,6 +748,7 @@ int mg_take(struct mg_session *session, const char *name, int mode, int timeout,
     memset(&work, 0, sizeof work);
     work.until = timeout < 0 ? INT64_MAX : milliseconds() + (timeout == 0 ? LITTLE_PATIENCE : timeout);
     work.stops = true;
+    work.is_take = true;
     entry = entry_for(session, name, mode);
     if (!entry)
         return MG_TABLE_FULL;
@@ -769,6 +776,18 @@ int mg_take(struct mg_session *session, const char *name, int mode, int timeout,
         free_entry(entry);
         return work.end.status == MG_OUTRUN ? MG_TIMED_OUT : work.end.status;
     }
+}
+
+int mg_mark_taken(struct mg_session *session) {
+    int status;
+    if (!session)
+        return MG_BAD_ARGUMENT;
+    if ((session->flags & MG_LATE) == 0 || !session->host)
+        return MG_OK;
+    status = mg_mark_now(session->host);
+    wear(session, status);
+    end_talk(session);
+    return status;
 }
 
 /* ---- check ---- */
@@ -930,7 +949,7 @@ int mg_begin(const char *folder, unsigned host, unsigned flags, struct mg_sessio
         *disk = -1;
     if (out)
         *out = NULL;
-    if (!folder || !out || host >= MG_HOSTS || flags > MG_SHARE)
+    if (!folder || !out || host >= MG_HOSTS || (flags & ~MG_LATE) > MG_SHARE)
         return MG_BAD_ARGUMENT;
     session = calloc(1, sizeof *session);
     if (!session)

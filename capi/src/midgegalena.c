@@ -110,6 +110,7 @@ enum { NOTHING_DUE = -5 };
 
 int32_t dlm_c_header(uint32_t disks, uint32_t slots, uint64_t cluster, uint32_t disk, struct header *into);
 bool dlm_c_is_formatted(const struct header *header);
+bool dlm_c_is_waited_for(const struct request *request);
 int32_t dlm_c_open(const struct images *images, uint32_t number, struct handle *handle, struct opened *told, int32_t *disk);
 void dlm_c_close(struct handle *handle);
 int32_t dlm_c_submit(struct handle *handle, const struct request *request, const uint8_t *name, size_t length, uint32_t tries);
@@ -277,7 +278,7 @@ static char *path_of(const char *folder, const char *name, int number, const cha
 
 /* ---- a host ---- */
 
-enum { FIRST_TRIES = 8 };
+enum { FIRST_TRIES = 8, NONE_DUE = -1 };
 
 /* LOOKS: without a number, so no call of it writes. TAKES: only to make the number this machine's. */
 enum way { WORKS, LOOKS, TAKES };
@@ -295,6 +296,8 @@ struct mg_host {
     struct written written;
     struct row row;
     int64_t took;         /* the last attempt, in microseconds */
+    bool marks_late;
+    int32_t due; /* the slot of a command that is to be marked, or NONE_DUE */
     int faults[MG_DISKS]; /* MG_OK, or why the image is not used, or that a call on it failed */
 };
 
@@ -350,6 +353,14 @@ static int carry_out(struct mg_host *host, int32_t begun, struct answer *answer)
     if (status != NOTHING_DUE)
         return MG_BROKEN;
     return status_of(dlm_c_answer(&host->handle, answer));
+}
+
+/* Marks the command that is to be marked, if one is. It stands in the log whether or not that comes to its end. */
+static int mark_due(struct mg_host *host) {
+    struct answer marked;
+    int32_t slot = host->due;
+    host->due = NONE_DUE;
+    return slot == NONE_DUE ? MG_OK : carry_out(host, dlm_c_mark(&host->handle, (uint32_t)slot), &marked);
 }
 
 /* Notes why images are not used, by what the proved library says of their first bytes. */
@@ -532,6 +543,7 @@ static int open_folder(const char *folder, unsigned number, enum way way, struct
     host->tries = FIRST_TRIES;
     host->only_looks = way == LOOKS;
     host->lock = NO_FILE;
+    host->due = NONE_DUE;
     for (unsigned k = 0; k < MG_DISKS; k++)
         host->files[k] = NO_FILE;
     images = calloc(1, sizeof *images);
@@ -562,8 +574,10 @@ int mg_open(const char *folder, unsigned number, struct mg_host **out, int *disk
 int mg_open_to_look(const char *folder, struct mg_host **out, int *disk) { return open_folder(folder, 0, LOOKS, out, disk); }
 
 void mg_close(struct mg_host *host) {
-    if (host)
-        let_go(host);
+    if (!host)
+        return;
+    (void)mark_due(host);
+    let_go(host);
 }
 
 int mg_take_number(const char *folder, unsigned number, int *disk) {
@@ -601,6 +615,17 @@ int mg_set_tries(struct mg_host *host, unsigned tries) {
     host->tries = tries;
     return MG_OK;
 }
+
+int mg_set_late_marks(struct mg_host *host, int late) {
+    if (!host)
+        return MG_BAD_ARGUMENT;
+    host->marks_late = late != 0;
+    return MG_OK;
+}
+
+int mg_mark_now(struct mg_host *host) { return host ? mark_due(host) : MG_BAD_ARGUMENT; }
+
+bool is_unmarked(const struct mg_host *host) { return host->due != NONE_DUE; }
 
 /* ---- a new folder: as format_folder and lay_out of crates/dlm_images ---- */
 
@@ -817,6 +842,12 @@ static int carry_out_once(struct mg_host *host, int32_t begun, struct answer *an
     return status;
 }
 
+/* Marks a command that is acknowledged, or leaves that to the next call. */
+static int mark_in_time(struct mg_host *host, int32_t slot, bool is_waited_for) {
+    host->due = slot;
+    return host->marks_late && !is_waited_for ? MG_OK : mark_due(host);
+}
+
 static int submit_once(struct mg_host *host, const struct request *request, const char *name, struct answer *answer) {
     return carry_out_once(host, dlm_c_submit(&host->handle, request, (const uint8_t *)name, strlen(name), 1), answer);
 }
@@ -830,6 +861,7 @@ static int submit(struct mg_host *host, const struct request *request, const cha
         return MG_BAD_ARGUMENT;
     if (host->only_looks)
         return MG_ONLY_LOOKS;
+    (void)mark_due(host);
     status = submit_once(host, request, name, &answer);
     for (unsigned outrun = 0; status == MG_OUTRUN && outrun + 1 < host->tries; outrun++) {
         sleep_for(pause_after(host, outrun));
@@ -842,11 +874,8 @@ static int submit(struct mg_host *host, const struct request *request, const cha
         into->held = answer.held;
         into->wanted = answer.wanted;
     }
-    if (answer.slot >= 0) {
-        /* The command stands in the log whether or not that comes to its end. */
-        struct answer marked;
-        (void)carry_out(host, dlm_c_mark(&host->handle, (uint32_t)answer.slot), &marked);
-    }
+    if (answer.slot >= 0)
+        (void)mark_in_time(host, answer.slot, dlm_c_is_waited_for(request));
     return status;
 }
 
@@ -929,19 +958,15 @@ void claim_hears(struct claim *claim, struct mg_host *host, enum event event, in
     (void)dlm_c_hear(claim, &host->handle, event, status, left_over);
 }
 
-/* Marks the slot of a command that stands in the log. Else the status is the command's. */
-static int mark_slot(struct mg_host *host, int32_t slot, int status) {
-    struct answer marked;
-    return slot < 0 ? status : carry_out(host, dlm_c_mark(&host->handle, (uint32_t)slot), &marked);
-}
-
 /* Puts the claim's command into the log, tells the claim what came of that, and then marks it. The status is of the command, or of the mark: an image
  * that fails then is given up by the host, too. */
-int claim_submits(struct claim *claim, struct mg_host *host) {
+int claim_submits(struct claim *claim, struct mg_host *host, bool is_waited_for) {
     struct answer answer;
-    int status = carry_out_once(host, dlm_c_submit_order(claim, &host->handle), &answer);
+    int status;
+    (void)mark_due(host);
+    status = carry_out_once(host, dlm_c_submit_order(claim, &host->handle), &answer);
     claim_hears(claim, host, HAS_REPLIED, 0, false);
-    return mark_slot(host, answer.slot, status);
+    return answer.slot < 0 ? status : mark_in_time(host, answer.slot, is_waited_for);
 }
 
 /* The name of a lock's sign of life, by the set that is open. */
@@ -966,15 +991,19 @@ int next_purge(struct mg_host *host, const struct cleanup *cleanup, uint32_t *lo
 
 int submit_purge(struct mg_host *host, const struct cleanup *cleanup, unsigned *purged) {
     struct answer answer;
-    int status = carry_out_once(host, dlm_c_submit_purge(&host->handle, cleanup), &answer);
+    int status;
+    (void)mark_due(host);
+    status = carry_out_once(host, dlm_c_submit_purge(&host->handle, cleanup), &answer);
     *purged += answer.purged;
-    (void)mark_slot(host, answer.slot, status);
+    if (answer.slot >= 0)
+        (void)mark_in_time(host, answer.slot, true);
     return status;
 }
 
 /* ---- what others did ---- */
 
 static int look(struct mg_host *host, struct answer *answer) {
+    (void)mark_due(host);
     return carry_out(host, dlm_c_look(&host->handle), answer);
 }
 

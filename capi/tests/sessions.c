@@ -101,7 +101,7 @@ static void bad_arguments(void) {
     IS(other == NULL, 1);
     IS(mg_begin(path, 0, 0, NULL, NULL), MG_BAD_ARGUMENT);
     IS(mg_begin(path, 16, 0, &other, NULL), MG_BAD_ARGUMENT);
-    IS(mg_begin(path, 1, 4, &other, NULL), MG_BAD_ARGUMENT);
+    IS(mg_begin(path, 1, 8, &other, NULL), MG_BAD_ARGUMENT);
     IS(mg_begin(path, 1, MG_KEEP | MG_SHARE, &other, NULL), MG_BAD_ARGUMENT);
     IS(mg_begin("", 1, 0, &other, NULL), MG_UNREADABLE);
     IS(mg_begin(path, 0, 0, &other, &disk), MG_HOST_IN_USE);

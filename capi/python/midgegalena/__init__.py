@@ -19,13 +19,13 @@ from types import TracebackType
 from typing import Any, Iterator, Optional, Tuple, Union
 
 __all__ = [
-    "ALL", "CR", "CW", "EX", "IN_DOUBT", "KEEP", "LOG_FULL", "NL", "NO_MAJORITY", "NO_SUCH_LOCK", "OK", "PR", "PW", "SHARE", "TIMED_OUT",
+    "ALL", "CR", "CW", "EX", "IN_DOUBT", "KEEP", "LATE", "LOG_FULL", "NL", "NO_MAJORITY", "NO_SUCH_LOCK", "OK", "PR", "PW", "SHARE", "TIMED_OUT",
     "Held", "InDoubt", "Lost", "Refused", "Session", "format_images", "load", "milliseconds",
 ]
 
 NL, CR, CW, PR, PW, EX = range(6)
 OK, TIMED_OUT, IN_DOUBT, NO_MAJORITY, LOG_FULL, NO_SUCH_LOCK = 0, -2, -6, 7, 9, 12
-KEEP, SHARE, ALL = 1, 2, 1
+KEEP, SHARE, LATE, ALL = 1, 2, 4, 1
 VALID = 1
 LONGEST = 2**31 - 1  # milliseconds
 
@@ -67,6 +67,7 @@ def load(path: Optional[str] = None) -> ctypes.CDLL:
     lib.mg_end.argtypes, lib.mg_end.restype = [c_void_p], None
     lib.mg_take.argtypes = [c_void_p, c_char_p, c_int, c_int, POINTER(HeldView)]
     lib.mg_give.argtypes = [c_void_p, c_uint, c_char_p]
+    lib.mg_mark_taken.argtypes = [c_void_p]
     lib.mg_check.argtypes = [c_void_p, c_uint]
     lib.mg_purge_dead.argtypes = lib.mg_recover.argtypes = [c_void_p, c_uint, POINTER(c_uint)]
     lib.mg_stay.argtypes, lib.mg_stay.restype = [c_void_p], c_uint
@@ -143,16 +144,17 @@ class Session:
     """Takes locks and gives them back. For one thread at a time.
 
     It begins by releasing what a former run of its host number left; with `keep` a lock takes that over, by name and mode. While it waits
-    it looks, 1 ms after its first look, then twice as long after each, and at most `interval` milliseconds."""
+    it looks, 1 ms after its first look, then twice as long after each, and at most `interval` milliseconds. With `late` a lock is there
+    before its command is marked: call mark_taken() once the work under it has begun."""
 
     def __init__(
-        self, folder: Folder, host: int, share: bool = False, keep: bool = False, interval: int = 5, library: Optional[str] = None
+        self, folder: Folder, host: int, share: bool = False, keep: bool = False, interval: int = 5, library: Optional[str] = None, late: bool = False
     ) -> None:
         self.lib, self.handle = load(library), c_void_p()
         self.why: Optional[BaseException] = None
         # What could not be given back, with the bytes that it leaves.
         self.left: dict[int, Optional[bytes]] = {}
-        self._check(self.lib.mg_begin(os.fsencode(folder), host, SHARE * share | KEEP * keep, byref(self.handle), None))
+        self._check(self.lib.mg_begin(os.fsencode(folder), host, SHARE * share | KEEP * keep | LATE * late, byref(self.handle), None))
         # Kept as long as the library may call it.
         self.rest = Rest(self._rest)
         self._check(self.lib.mg_set_rest(self.handle, self.rest, None))
@@ -239,6 +241,10 @@ class Session:
         if status in (OK, NO_SUCH_LOCK):
             del self.left[lock]
         self._check(status, lock)
+
+    def mark_taken(self) -> None:
+        """With `late`: marks what lock() has left without a mark. The session's next call does so, too."""
+        self._check(self.lib.mg_mark_taken(self.handle))
 
     def is_held(self, held: Held) -> bool:
         """Whether nobody has taken the lock away, as far as a look tells."""

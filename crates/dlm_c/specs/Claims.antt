@@ -24,6 +24,7 @@ use Rattle.lock_command.specs.declared.reply.Refusal.TheVariants.{NoSuchLock, St
 use Rattle.dlm_c.specs.declared.claims.ClaimView.{ClaimView}
 use Rattle.dlm_c.specs.declared.due_order.DueOrder.{DueOrder}
 use Rattle.dlm_c.specs.declared.open_host.OpenHost.{OpenHost}
+use Rattle.dlm_c.specs.Marking.{is_waited_for}
 use Rattle.dlm_c.specs.Numbers.{closed, table_number}
 
 -- THE NUMBERS OF WHAT FAILED
@@ -75,7 +76,7 @@ told_order order.Look = of_kind 4
 told_order order.Tidy = of_kind 5
 told_order (order.TakeSign lock) = record (of_kind 6) { lock = lock }
 told_order (order.DropSign sign) = record (of_kind 7) { lock = sign.lock; amount = if sign.removes then 1 else 0 }
-told_order (order.Submit command) = of_kind 8
+told_order (order.Submit command) = record (of_kind 8) { amount = if is_waited_for command.action then 1 else 0 }
 told_order (order.Rest milliseconds) = record (of_kind 9) { amount = milliseconds }
 told_order (order.Yield outrun) = record (of_kind 10) { amount = outrun }
 told_order (order.Done outcome) = ended_as outcome

@@ -7,6 +7,7 @@ pub mod Ends
 pub mod Headers
 pub mod Held
 pub mod Images
+pub mod Marking
 pub mod Numbers
 pub mod Owners
 pub mod Requests

@@ -2,6 +2,7 @@ ghost use Rattle.std.specs.Prelude.{◌≡◌};
 ghost use Rattle.dlm_c.specs.Claims.{ended_as, failure_number, of_kind, told_order, why_number};
 
 use crate::fault::table_number;
+use crate::marking::is_waited_for;
 use session::{Failure, Order, Outcome, Why};
 
 /// What is to be done next for a claim, as C is told it.
@@ -12,7 +13,8 @@ pub struct DueOrder {
     pub kind: u32,
     /// The lock number of the sign of life.
     pub lock: u32,
-    /// To rest, how many milliseconds; to yield, how often the command was outrun; to drop a sign of life, 1 where its file is removed, too.
+    /// To rest, how many milliseconds; to yield, how often the command was outrun; to drop a sign of life, 1 where its file is removed, too; to submit, 1
+    /// where somebody may wait for what the command does, so that it is marked at once.
     pub amount: u32,
     /// Of what is done: 0 held, 1 not held, 2 given, 3 in doubt, 4 failed.
     pub outcome: u32,
@@ -55,7 +57,10 @@ impl DueOrder {
                 amount: u32::from(sign.removes),
                 ..DueOrder::of_kind(7)
             },
-            Order::Submit(_) => DueOrder::of_kind(8),
+            Order::Submit(command) => DueOrder {
+                amount: u32::from(is_waited_for(&command.action)),
+                ..DueOrder::of_kind(8)
+            },
             Order::Rest(milliseconds) => DueOrder {
                 amount: u32::from(*milliseconds),
                 ..DueOrder::of_kind(9)

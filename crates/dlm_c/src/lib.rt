@@ -28,6 +28,7 @@ mod held;
 mod held_claim;
 mod images;
 mod law;
+mod marking;
 mod mode_number;
 mod open_host;
 mod owner;
