@@ -9,14 +9,19 @@ use disk::Disk;
 use host::{HostAnswer, Refusal};
 use lock_command::Command;
 use std::random::RandomSource;
-use std::thread;
-use std::time::{Clock, Duration};
+use std::time::{Clock, Duration, Instant};
+use std::{io, thread};
 
-/// The longest wait after the first try, in milliseconds. After each further one it is twice as long.
-const FIRST_WAIT: u64 = 16;
+/// The bound of a wait, in microseconds, is at least the first and at most the last of these. The one between is that of the first wait where the clock
+/// tells nothing.
+const SHORTEST_BOUND: u64 = 20;
 
-/// Submits as `DiskHost::submit` does, and waits where it was outrun, before it tries again: for a random time, up to one that doubles
-/// from try to try. So hosts that submit at once stop outrunning one another. A host that is not outrun never waits.
+const UNTIMED_BOUND: u64 = 16_000;
+
+const LONGEST_BOUND: u64 = 2_048_000;
+
+/// Submits as `DiskHost::submit` does, and waits where it was outrun, before it tries again: for a random time, up to as long as its attempt took. That
+/// doubles from try to try. So hosts that submit at once stop outrunning one another, in memory as on slow disks. A host that is not outrun never waits.
 pub fn submit_patiently<R: Clock + RandomSource, D: Disk>(
     rt: &R,
     host: &mut DiskHost<D>,
@@ -35,11 +40,17 @@ pub fn submit_patiently<R: Clock + RandomSource, D: Disk>(
 {
     let command = &command;
     for outrun in 0..tries - 1 {
+        let learned = host.learned();
+        let began = Instant::now(rt);
         let ended = submit_once(host, command);
         let Err(Refusal::Outrun) = ended else {
             return ended;
         };
-        pause(rt, outrun);
+        pause(
+            rt,
+            attempt_time(rt, began, host.learned().saturating_sub(learned)),
+            outrun,
+        );
     }
     submit_once(host, command)
 }
@@ -60,12 +71,23 @@ fn submit_once<D: Disk>(
     host.submit(*command, 1)
 }
 
-/// Waits for a random time, which grows with the tries that were outrun before. Where the system has no random numbers it waits as
-/// long as it ever does after so many.
-fn pause<R: Clock + RandomSource>(rt: &R, outrun: u8) {
-    let longest = (FIRST_WAIT << u32::from(outrun.min(7))) * 1_000;
+/// How long the last attempt took, in microseconds: what a slot took on average since then, for so many slots were learned before it.
+fn attempt_time<R: Clock>(rt: &R, began: io::Result<Instant>, learned: u16) -> u64 {
+    micros_since(rt, began).map_or(UNTIMED_BOUND, |spent| spent / (u64::from(learned) + 1))
+}
+
+fn micros_since<R: Clock>(rt: &R, began: io::Result<Instant>) -> Option<u64> {
+    let spent = began.ok()?.elapsed(rt).ok()?;
+    u64::try_from(spent.as_micros()).ok()
+}
+
+/// Waits for a random time. Its bound is as long as the attempt took, and doubles with the tries that were outrun before. Where the system has no random
+/// numbers it waits as long as it ever does after so many.
+fn pause<R: Clock + RandomSource>(rt: &R, took: u64, outrun: u8) {
+    let doubled = took.min(LONGEST_BOUND) << u32::from(outrun.min(7));
+    let bound = doubled.clamp(SHORTEST_BOUND, LONGEST_BOUND);
     let mut bytes = [0xFF; 4];
     let _ = rt.fill_bytes(&mut bytes);
     let part = u64::from(u32::from_le_bytes(bytes));
-    thread::sleep(rt, Duration::from_micros((longest * part) >> 32));
+    thread::sleep(rt, Duration::from_micros((bound * part) >> 32));
 }
