@@ -1,4 +1,4 @@
--- What an attempt hears of its disks, and what follows from the answers of one disk alone.
+-- Of the headline. What an attempt hears of its disks, and what follows from the answers of one disk alone.
 use Rattle.std.specs.Prelude.{ℕ, pred, List, [], ◌∷◌, slice_get, Option, Some, None, option_and_then}
 use Rattle.disk.specs.Disk as device
 use Rattle.torn_block.specs.Layout.{Version, cluster_version}

@@ -1,4 +1,4 @@
--- The device calls of an attempt on one disk, in their order, and the phase that each is of.
+-- Of the headline. The device calls of an attempt on one disk, in their order, and the phase that each is of.
 use Rattle.std.specs.Prelude.{◌++◌, ℕ, List, [], ◌∷◌, map}
 use Rattle.torn_block.specs.declared.write_steps.WriteCall.{WriteCall}
 use Rattle.torn_block.specs.declared.write_steps.WriteCall.TheVariants.{CloseGate, SyncClosed, PutBody, SyncBody, OpenGate, SyncOpened}

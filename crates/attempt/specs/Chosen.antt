@@ -1,4 +1,4 @@
--- When a value is chosen, by what one attempt has heard.
+-- Of the headline. When a value is chosen, by what one attempt has heard.
 use Rattle.std.specs.Prelude.{◌≡◌, ℕ, Bool, true, false, not, List, nat_lt, Option, Some, None}
 use Rattle.torn_block.specs.Layout.{Version}
 use Rattle.paxos_block.specs.layouts.Row.{DecodedBlock}

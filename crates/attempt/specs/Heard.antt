@@ -1,4 +1,4 @@
--- What is heard of disks, call by call: by an attempt, a beat or a marking, which differ in what they read and in the call that is due.
+-- Of the headline. What is heard of disks, call by call: by an attempt, a beat or a marking, which differ in what they read and in the call that is due.
 use Rattle.std.specs.Prelude.{◌≡◌, ◌==◌, ℕ, Bool, true, false, not, List, [], ◌∷◌, ◌++◌, Option, Some, None, if◌then◌else◌}
 use Rattle.std.specs.List.{list_any}
 use Rattle.disk.specs.declared.fault.DiskFault.{DiskFault}

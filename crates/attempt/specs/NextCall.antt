@@ -1,4 +1,4 @@
--- The device call that an attempt makes next, with its boot number and its bytes.
+-- Of the headline. The device call that an attempt makes next, with its boot number and its bytes.
 use Rattle.std.specs.Prelude.{ℕ, false, List, [], length, slice_get, Option, Some, None, option_map}
 use Rattle.disk.specs.Disk as device
 use Rattle.torn_block.specs.Layout.{row_length}

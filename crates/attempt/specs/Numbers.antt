@@ -1,4 +1,4 @@
--- Counting and choosing among the numbers below a bound.
+-- Of the headline. Counting and choosing among the numbers below a bound.
 use Rattle.std.specs.Prelude.{ℕ, zero, suc, ◌+◌, Bool, cond, Option, Some, None}
 
 -- how many of the first n numbers pass

@@ -1,4 +1,4 @@
--- What follows from the rows that an attempt has read: its ballot, its proposal, and whether another host was faster.
+-- Of the headline. What follows from the rows that an attempt has read: its ballot, its proposal, and whether another host was faster.
 use Rattle.std.specs.Prelude.{ℕ, zero, suc, List, max, Option, Some, None}
 use Rattle.std.specs.Option.{option_or}
 use Rattle.torn_block.specs.Layout.{Version}

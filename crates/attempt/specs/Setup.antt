@@ -1,4 +1,4 @@
--- What an attempt begins with.
+-- Of the headline. What an attempt begins with.
 use Rattle.std.specs.Prelude.{ℕ, List, Option}
 use Rattle.torn_block.specs.Layout.{Version}
 

@@ -1,4 +1,4 @@
--- How far an attempt has come: that the phases before are over, and how.
+-- Of the headline. How far an attempt has come: that the phases before are over, and how.
 use Rattle.std.specs.Prelude.{◌≡◌, ℕ, false, List, nat_lt, Some, None}
 use Rattle.paxos_block.specs.declared.ballot.TheConstants.{LAST_BALLOT}
 use Rattle.attempt.specs.Calls.{Phase, Opening, One, Two}

@@ -1,4 +1,4 @@
--- Where an attempt stands: the disk on which a call is due, or its end.
+-- Of the headline. Where an attempt stands: the disk on which a call is due, or its end.
 use Rattle.std.specs.Prelude.{ℕ, Bool, true, List, nat_lt, Option, Some, None, if◌then◌else◌, is_some}
 use Rattle.paxos_block.specs.declared.ballot.TheConstants.{LAST_BALLOT}
 use Rattle.attempt.specs.Calls.{Phase, Opening, One, Two}

@@ -1,4 +1,4 @@
--- Which disk an attempt visits in a phase, and which disks are left.
+-- Of the headline. Which disk an attempt visits in a phase, and which disks are left.
 use Rattle.std.specs.Prelude.{◌*◌, ◌==◌, ◌&&◌, ℕ, Bool, true, not, List, length, nat_lt, nat_le, Option, Some, None}
 use Rattle.torn_block.specs.declared.layout.TheConstants.{LAST_SEQUENCE}
 use Rattle.attempt.specs.Calls.{Phase, start, goal}

@@ -1,4 +1,4 @@
--- What a beat hears of its disks, and what follows from the answers of one disk alone.
+-- Of the headline. What a beat hears of its disks, and what follows from the answers of one disk alone.
 use Rattle.std.specs.Prelude.{ℕ, List, [], slice_get, Option, Some, None, option_and_then, option_map}
 use Rattle.disk.specs.Disk as device
 use Rattle.torn_block.specs.Damage.{block_of}

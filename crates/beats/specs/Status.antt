@@ -1,4 +1,4 @@
--- Where a beat stands: the disk on which a call is due, or its end. And the call that is due.
+-- Of the headline. Where a beat stands: the disk on which a call is due, or its end. And the call that is due.
 use Rattle.std.specs.Prelude.{◌*◌, ◌==◌, ◌&&◌, ◌++◌, ℕ, Bool, not, List, [], ◌∷◌, map, length, nat_lt, nat_le, slice_get, Option, Some, None, option_map, if◌then◌else◌}
 use Rattle.std.specs.List.{range_with_len}
 use Rattle.disk.specs.Disk as device

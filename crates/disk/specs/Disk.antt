@@ -1,4 +1,4 @@
--- A disk that tells its bytes, and its calls: which answer a call may get, and what it leaves.
+-- Of the headline. A disk that tells its bytes, and its calls: which answer a call may get, and what it leaves.
 use Rattle.std.specs.Prelude.{◌≡◌, ◌+◌, ◌-◌, ◌≤◌, ◌^◌, ℕ, Bool, true, false, List, ◌++◌, length, take, drop, replicate, slice_range, slice_index, slice_index_or, min, Result, Ok, Err}
 use Rattle.disk.specs.declared.fault.DiskFault.{DiskFault}
 use Rattle.disk.specs.declared.fault.DiskFault.TheVariants.{Reset, Failed, Gone}

@@ -1,4 +1,4 @@
--- A simulated disk, and exactly what each call of it does.
+-- Of the headline. A simulated disk, and exactly what each call of it does.
 use Rattle.std.specs.Prelude.{if◌then◌else◌, ◌==◌, ◌≡◌, ◌+◌, ◌-◌, ◌<◌, ◌^◌, ℕ, false, List, length, replicate, min, Option, Some, None, Vec}
 use Rattle.std.specs.declared.alloc.Global.{Global}
 use Rattle.disk.specs.declared.fault.DiskFault.{DiskFault}

@@ -1,4 +1,4 @@
--- The copies of a heartbeat block, and the counters of an area.
+-- Of the headline. The copies of a heartbeat block, and the counters of an area.
 use Rattle.std.specs.Prelude.{◌≡◌, ◌==◌, ◌&&◌, ◌<◌, ◌-◌, ℕ, Bool, List, ◌∷◌, map, take, drop, slice_index, replicate, Option, Some, None, if◌then◌else◌}
 use Rattle.std.specs.List.{list_all, list_any, range_with_len}
 use Rattle.torn_block.specs.declared.layout.TheConstants.{VERSION, HOSTS, BODY_LENGTH}

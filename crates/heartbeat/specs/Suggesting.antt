@@ -1,4 +1,4 @@
--- The host that two readings of the heartbeat areas suggest.
+-- Of the headline. The host that two readings of the heartbeat areas suggest.
 use Rattle.std.specs.Prelude.{◌==◌, ◌*◌, ℕ, Bool, false, not, List, length, nat_lt, slice_index, Option, Some}
 use Rattle.std.specs.List.{count_by, find, range_with_len, zip}
 use Rattle.std.specs.Option.{unwrap_or}

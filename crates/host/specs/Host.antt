@@ -1,4 +1,4 @@
--- A host: what follows from its operations and the answers that it has heard since its start.
+-- Of the headline. A host: what follows from its operations and the answers that it has heard since its start.
 use Rattle.std.specs.Prelude.{◌-◌, ◌&&◌, ℕ, Bool, true, false, not, List, [], ◌∷◌, ◌++◌, length, max, nat_lt, nat_le, slice_get, Option, Some, None, is_some, if◌then◌else◌, bytes_eq}
 use Rattle.disk.specs.Disk as device
 use Rattle.torn_block.specs.Layout.{cluster_version}

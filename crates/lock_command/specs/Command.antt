@@ -1,4 +1,4 @@
--- The one spelling of a command: 48 bytes, of each number the highest byte first.
+-- Of the headline. The one spelling of a command: 48 bytes, of each number the highest byte first.
 use Rattle.std.specs.Prelude.{◌≡◌, ℕ, ◌+◌, ◌<◌, ◌≤◌, ◌^◌, Bool, true, false, not, ◌&&◌, List, [], ◌∷◌, ◌++◌, length, replicate, Option, Some, None, is_some, ⊤, if◌then◌else◌}
 use Rattle.byteorder.specs.Endian.{big_bytes}
 use Rattle.lock_modes.specs.declared.mode.Mode.{Mode}

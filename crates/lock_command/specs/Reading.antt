@@ -1,4 +1,4 @@
--- What the fields of 48 bytes read as, each by itself. It says nothing of the bytes that no field of the kind reads.
+-- Of the headline. What the fields of 48 bytes read as, each by itself. It says nothing of the bytes that no field of the kind reads.
 use Rattle.std.specs.Prelude.{ℕ, ◌==◌, ◌^◌, nat_lt, nat_le, Bool, true, false, ◌&&◌, ◌||◌, List, length, take, drop, slice_index, Option, Some, None, if◌then◌else◌, bytes_eq}
 use Rattle.byteorder.specs.Endian.{big_number}
 use Rattle.lock_modes.specs.declared.mode.Mode.{Mode}

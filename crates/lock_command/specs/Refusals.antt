@@ -1,4 +1,4 @@
--- The number and the name of each refusal of the lock table. They are printed, and the number is in the bytes of a client that is carried over.
+-- Of the headline. The number and the name of each refusal of the lock table. They are printed, and the number is in the bytes of a client that is carried over.
 use Rattle.std.specs.Prelude.{ℕ, ◌==◌, List, [], ◌∷◌, codes, Option}
 use Rattle.std.specs.List.{find}
 use Rattle.lock_command.specs.declared.reply.Refusal.{Refusal}

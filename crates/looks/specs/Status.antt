@@ -1,4 +1,4 @@
--- Where a look at a slot stands: the disk on which a call is due, or its end. And the call that is due.
+-- Of the headline. Where a look at a slot stands: the disk on which a call is due, or its end. And the call that is due.
 use Rattle.std.specs.Prelude.{◌*◌, ◌&&◌, ℕ, Bool, not, List, length, nat_lt, nat_le, slice_get, Option, Some, None, option_and_then, is_some, is_none, if◌then◌else◌}
 use Rattle.disk.specs.Disk as device
 use Rattle.torn_block.specs.declared.layout.TheConstants.{ROW_LENGTH}

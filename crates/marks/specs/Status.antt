@@ -1,4 +1,4 @@
--- Where a marking stands: the disk on which a call is due, or its end. And the call that is due.
+-- Of the headline. Where a marking stands: the disk on which a call is due, or its end. And the call that is due.
 use Rattle.std.specs.Prelude.{◌*◌, ◌==◌, ◌&&◌, ◌||◌, ℕ, Bool, true, false, not, List, length, nat_lt, nat_le, slice_get, Option, Some, None, option_map, if◌then◌else◌, bytes_eq}
 use Rattle.disk.specs.Disk as device
 use Rattle.torn_block.specs.declared.layout.TheConstants.{LAST_SEQUENCE, ROW_LENGTH}

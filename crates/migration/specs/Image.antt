@@ -1,4 +1,4 @@
--- A complete image: what a migration of a log makes of each disk.
+-- Of the headline. A complete image: what a migration of a log makes of each disk.
 use Rattle.std.specs.Prelude.{◌≡◌, ◌≢◌, ◌-◌, ◌*◌, ◌<◌, ℕ, true, List, [], ◌∷◌, ◌++◌, Some, length, take, slice_get}
 use Rattle.torn_block.specs.declared.layout.TheConstants.{BLOCK_LENGTH, COPY_LENGTH, HEADER_LENGTH, ROW_LENGTH}
 use Rattle.torn_block.specs.Place.{block_in}

@@ -1,4 +1,4 @@
--- Where the blocks of an image stand, and what a call within one of them leaves of the others, in the cluster's layout.
+-- Of the headline. Where the blocks of an image stand, and what a call within one of them leaves of the others, in the cluster's layout.
 use Rattle.std.specs.Prelude.{ℕ, List}
 use Rattle.disk.specs.Disk.{DiskState, Call}
 use Rattle.torn_block.specs.Layout as layout

@@ -1,4 +1,4 @@
--- A row: a block of each host, when it is damaged, and what it says, in the cluster's layout.
+-- Of the headline. A row: a block of each host, when it is damaged, and what it says, in the cluster's layout.
 use Rattle.std.specs.Prelude.{ℕ, Bool, List, Option}
 use Rattle.torn_block.specs.Layout.{cluster_version}
 use Rattle.paxos_block.specs.layouts.Saying.{Said}

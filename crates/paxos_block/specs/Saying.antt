@@ -1,4 +1,4 @@
--- What a copy of a block says, and how that is spelled, in the cluster's layout.
+-- Of the headline. What a copy of a block says, and how that is spelled, in the cluster's layout.
 use Rattle.std.specs.Prelude.{ℕ, Bool, List, Option}
 use Rattle.torn_block.specs.Layout.{cluster_version}
 use Rattle.paxos_block.specs.layouts.Saying as by

@@ -1,4 +1,4 @@
--- What a row shows of ballots and votes, and the ballot that a host takes above them, in the cluster's layout.
+-- Of the headline. What a row shows of ballots and votes, and the ballot that a host takes above them, in the cluster's layout.
 use Rattle.std.specs.Prelude.{ℕ, List, Option}
 use Rattle.torn_block.specs.Layout.{cluster_version}
 use Rattle.paxos_block.specs.layouts.Saying.{Said}

@@ -1,4 +1,4 @@
--- How large a cluster is.
+-- Of the headline. How large a cluster is.
 use Rattle.std.specs.Prelude.{ℕ}
 
 -- how many disks it has, and how many slots its log

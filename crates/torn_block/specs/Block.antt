@@ -1,4 +1,4 @@
--- What the bytes of a block stand for, in the cluster's layout.
+-- Of the headline. What the bytes of a block stand for, in the cluster's layout.
 use Rattle.std.specs.Prelude.{ℕ, List, Option}
 use Rattle.torn_block.specs.declared.block.Half.{Half}
 use Rattle.torn_block.specs.Layout.{cluster_version}

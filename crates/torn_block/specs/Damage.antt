@@ -1,4 +1,4 @@
--- When a block is damaged, by a rule for what a sound copy is, in the cluster's layout.
+-- Of the headline. When a block is damaged, by a rule for what a sound copy is, in the cluster's layout.
 use Rattle.std.specs.Prelude.{ℕ, List}
 use Rattle.torn_block.specs.Layout.{cluster_version}
 use Rattle.torn_block.specs.layouts.Damage as by

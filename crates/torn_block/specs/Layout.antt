@@ -1,4 +1,4 @@
--- The two layouts of an image, and their lengths.
+-- Of the headline. The two layouts of an image, and their lengths.
 use Rattle.std.specs.Prelude.{◌*◌, ◌-◌, ◌+◌, ℕ}
 use Rattle.torn_block.specs.declared.layout.TheConstants.{HEADER_LENGTH}
 

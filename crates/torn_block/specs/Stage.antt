@@ -1,4 +1,4 @@
--- The six calls that write a block, and what stands on the disk when each is due.
+-- Of the headline. The six calls that write a block, and what stands on the disk when each is due.
 use Rattle.std.specs.Prelude.{◌≡◌, ◌⊎◌, ◌+◌, ◌<◌, ◌^◌, ℕ, true, false, List, [], ◌∷◌, length, drop, Option, Some, None, if◌then◌else◌}
 use Rattle.disk.specs.Disk.{DiskState, Call, Write, Sync}
 use Rattle.disk.specs.Crash.{MayLeave, IsWhole}

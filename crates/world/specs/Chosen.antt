@@ -1,4 +1,4 @@
--- What is chosen for a slot, the log of a list of entries, and what hosts acknowledge and recover.
+-- Of the headline. What is chosen for a slot, the log of a list of entries, and what hosts acknowledge and recover.
 use Rattle.std.specs.Prelude.{◌≡◌, ◌⊎◌, ◌+◌, ◌<◌, ◌≤◌, ℕ, true, List, [], ◌∷◌, length, map, take, slice_get, Some}
 use Rattle.disk.specs.Disk.{Call, Answer}
 use Rattle.attempt.specs.Answers.{Answered, on, heard_as}

@@ -1,4 +1,4 @@
--- The entries of a list, with the bytes that faults left open, and what each makes of its disk and of its host.
+-- Of the headline. The entries of a list, with the bytes that faults left open, and what each makes of its disk and of its host.
 use Rattle.std.specs.Prelude.{◌+◌, ◌==◌, ℕ, Bool, false, List, [], ◌∷◌, length, map, replicate, filter, nat_lt}
 use Rattle.disk.specs.declared.fault.DiskFault.TheVariants.{Reset, Failed, Gone}
 use Rattle.disk.specs.Disk.{DiskState, Call, Attach, Read, Write, Sync, Answer, Fault, written, synced, done_by, lost}

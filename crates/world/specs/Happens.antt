@@ -1,4 +1,4 @@
--- Events, the entry that each brings where it applies, and what the hosts answer.
+-- Of the headline. Events, the entry that each brings where it applies, and what the hosts answer.
 use Rattle.std.specs.Prelude.{◌+◌, ◌^◌, ◌==◌, ◌&&◌, ℕ, Bool, not, List, [], ◌∷◌, ◌++◌, length, nat_lt, Option, Some, None, option_map, option_and_then, if◌then◌else◌}
 use Rattle.disk.specs.declared.fault.DiskFault.{DiskFault}
 use Rattle.disk.specs.declared.fault.DiskFault.TheVariants.{Failed}

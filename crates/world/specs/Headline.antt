@@ -1,4 +1,4 @@
--- One log, whatever happens, and nothing that was acknowledged is lost.
+-- Of the headline. One log, whatever happens, and nothing that was acknowledged is lost.
 use Rattle.std.specs.Prelude.{◌≡◌, ◌+◌, ◌<◌, ◌≤◌, ◌⊎◌, ℕ, List, length, take, map, slice_get, Some}
 use Rattle.lock_command.specs.declared.command.Command.{Command}
 use Rattle.lock_command.specs.Command.{spelling}

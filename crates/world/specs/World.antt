@@ -1,4 +1,4 @@
--- The world after a list of entries, which entry may follow, and what a run is.
+-- Of the headline. The world after a list of entries, which entry may follow, and what a run is.
 use Rattle.std.specs.Prelude.{◌≡◌, ◌<◌, ◌≤◌, ◌^◌, ℕ, false, IsTrue, List, [], ◌∷◌, ◌++◌, length, slice_get, Some}
 use Rattle.disk.specs.Disk.{DiskState, Call, Attach, Read, Write, Sync, Step, Crashes}
 use Rattle.disk.specs.Disk as device

@@ -1,4 +1,4 @@
--- Ballots, the host that each belongs to, and majorities of disks, in each layout.
+-- Of the headline. Ballots, the host that each belongs to, and majorities of disks, in each layout.
 use Rattle.std.specs.Prelude.{◌≡◌, ◌==◌, ◌&&◌, ◌+◌, ◌-◌, ◌/◌, ◌%◌, ◌^◌, ◌<◌, ◌≤◌, ℕ, Bool, true, false, nat_le}
 use Rattle.torn_block.specs.Layout.{Version, hosts_in}
 

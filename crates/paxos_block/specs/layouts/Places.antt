@@ -1,4 +1,4 @@
--- Where the blocks of an image stand, and what a call within one of them leaves of the others, in each layout.
+-- Of the headline. Where the blocks of an image stand, and what a call within one of them leaves of the others, in each layout.
 use Rattle.std.specs.Prelude.{◌≡◌, ◌+◌, ◌*◌, ◌^◌, ◌≤◌, ◌<◌, ℕ, List, length, slice_range}
 use Rattle.disk.specs.Disk.{DiskState, Call, Attach, Read, Write, Sync}
 use Rattle.disk.specs.Crash.{IsWhole, MayLeave}

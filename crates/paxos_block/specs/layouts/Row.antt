@@ -1,4 +1,4 @@
--- A row: a block of each host, when it is damaged, and what it says, in each layout.
+-- Of the headline. A row: a block of each host, when it is damaged, and what it says, in each layout.
 use Rattle.std.specs.Prelude.{◌≡◌, ◌&&◌, ◌*◌, ◌<◌, ◌≤◌, ℕ, Bool, false, List, ◌∷◌, length, map, slice_index_or, Option, Some, None, if◌then◌else◌}
 use Rattle.std.specs.List.{HoldsAt, list_any, range_with_len}
 use Rattle.torn_block.specs.declared.layout.TheConstants.{HOSTS_ROOM, COPY_ROOM}

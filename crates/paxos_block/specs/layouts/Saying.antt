@@ -1,4 +1,4 @@
--- What a copy of a block says, and how that is spelled, in each layout.
+-- Of the headline. What a copy of a block says, and how that is spelled, in each layout.
 use Rattle.std.specs.Prelude.{◌≡◌, ◌==◌, ◌&&◌, ◌≤◌, ◌+◌, ◌-◌, ◌++◌, ℕ, Bool, true, false, List, [], ◌∷◌, length, take, drop, replicate, slice_index, Option, Some, None, is_some, option_map, if◌then◌else◌}
 use Rattle.std.specs.Cmp.Lexicographic.{pointwise}
 use Rattle.std.specs.Prelude.{nat_eq}

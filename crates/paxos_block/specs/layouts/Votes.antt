@@ -1,4 +1,4 @@
--- What a row shows of ballots and votes, and the ballot that a host takes above them, in each layout.
+-- Of the headline. What a row shows of ballots and votes, and the ballot that a host takes above them, in each layout.
 use Rattle.std.specs.Prelude.{◌+◌, ◌-◌, ◌*◌, ◌/◌, ◌==◌, ℕ, zero, suc, List, max, nat_lt, Option, None, if◌then◌else◌}
 use Rattle.std.specs.Option.{option_or}
 use Rattle.torn_block.specs.Layout.{Version, hosts_in}

@@ -1,4 +1,4 @@
--- What the bytes of a block stand for, in each layout.
+-- Of the headline. What the bytes of a block stand for, in each layout.
 use Rattle.std.specs.Prelude.{◌+◌, ◌==◌, ◌++◌, ℕ, Bool, true, false, List, take, drop, slice_index, nat_lt, Option, Some, None, if◌then◌else◌}
 use Rattle.std.specs.Option.{option_map}
 use Rattle.byteorder.specs.Endian.{big_number, big_bytes}

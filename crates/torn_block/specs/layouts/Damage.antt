@@ -1,4 +1,4 @@
--- When a block is damaged, by a rule for what a sound copy is, in each layout.
+-- Of the headline. When a block is damaged, by a rule for what a sound copy is, in each layout.
 use Rattle.std.specs.Prelude.{◌≡◌, ◌≢◌, ◌⊎◌, ◌==◌, ◌&&◌, ◌||◌, ◌≤◌, ◌<◌, ◌*◌, ◌^◌, ℕ, Bool, true, not, nat_le, List}
 use Rattle.torn_block.specs.declared.block.Half.{Half}
 use Rattle.torn_block.specs.declared.block.Half.TheVariants.{First, Second}

@@ -1,4 +1,4 @@
--- A block at its place among the bytes of a disk, in each layout.
+-- Of the headline. A block at its place among the bytes of a disk, in each layout.
 use Rattle.std.specs.Prelude.{◌+◌, ℕ, List, slice_range}
 use Rattle.torn_block.specs.Layout.{Version, block_length, copy_length}
 use Rattle.torn_block.specs.declared.block.Half.{Half}
