@@ -27,6 +27,7 @@ PEERS = ('sanlock', 'etcd', 'redis', 'postgres', 'flock')
 PACKAGES = ('sanlock', 'etcd-server', 'redis-server', 'postgresql-[0-9]*', 'util-linux')
 TITLES = {
     'session': 'take and release, one open session',
+    'contend': 'eight clients take and release one lock: the time over the turns of all',
     'fresh': 'take and release, fresh processes, quiet',
     'busy': 'take and release, fresh processes, all processors busy',
     'growth': 'one fresh process, by the commands in the log',
@@ -39,7 +40,7 @@ NOWHERE = {
     'PostgreSQL, takeover': 'no case is built: psql runs no command under a lock',
 }
 ENDS = (signal.SIGINT, signal.SIGTERM, signal.SIGHUP)
-SLOTS, TURNS, AREA, LIMIT = 4096, 2000, 1 << 20, 120
+SLOTS, TURNS, CLIENTS, AREA, LIMIT = 4096, 2000, 8, 1 << 20, 120
 
 
 class LeftOut(Exception):
@@ -334,6 +335,23 @@ class Stages:
             if kind in self.peers:
                 kinds[who] = lambda kind=kind, most=most: turns(kind, self.peers[kind], most)
         self.in_turn('session', kinds)
+
+    def contend(self):
+        def turns(kind, target, **more):
+            return [int(said([SESSION, 'contend', kind, target, str(CLIENTS), str(TURNS // CLIENTS), str(self.args.seconds)], **more))]
+
+        kinds = {
+            'this, a session each, 3 disks': lambda: turns('session', self.images(3)),
+            'this, two commands, 3 disks': lambda: turns('commands', self.images(3)),
+        }
+        if 'sanlock' in self.peers:
+            kinds['sanlock'] = lambda: turns('sanlock', self.leases, **self.san)
+        for members, target in self.etcds.items():
+            kinds[f'etcd, {members}'] = lambda target=target: turns('etcd', target)
+        for who, kind in (('Redis', 'redis'), ('PostgreSQL', 'postgres'), ('`flock`', 'flock')):
+            if kind in self.peers:
+                kinds[who] = lambda kind=kind: turns(kind, self.peers[kind])
+        self.in_turn('contend', kinds)
 
     def fresh(self, stage='fresh'):
         def turns(*commands, **more):

@@ -3,6 +3,9 @@
  *
  *     session time KIND TARGET TURNS SECONDS   holds one session open, takes and releases a lock again and again, and prints the
  *                                              nanoseconds of each turn, one a line. It ends after TURNS turns or SECONDS seconds
+ *     session contend KIND TARGET CLIENTS TURNS SECONDS
+ *                                              so many processes want one lock, each with a session of its own. Prints the nanoseconds from
+ *                                              their common start to their end, over the turns of all. Each ends as above
  *     session note FILE [hold]                 makes the file; with `hold` it then waits until it is killed
  *
  * KIND is one of the table near the end. TARGET is a folder of images, a file, ADDRESS:PORT, or words for libpq.
@@ -20,7 +23,9 @@
 #include <stdlib.h>
 #include <string.h>
 #include <sys/file.h>
+#include <sys/mman.h>
 #include <sys/socket.h>
+#include <sys/wait.h>
 #include <time.h>
 #include <unistd.h>
 
@@ -32,6 +37,7 @@
 enum { AREA = 1 << 20, LOCK_NUMBERS = 1000 };
 
 static const char *target;
+static unsigned client; /* of those that contend; it is the number of its host, too */
 
 /* Ends the program where something failed. */
 static void expect(bool holds, const char *what, long status) {
@@ -39,6 +45,12 @@ static void expect(bool holds, const char *what, long status) {
         fprintf(stderr, "session: %s: %ld, errno %d\n", what, status, errno);
         exit(1);
     }
+}
+
+/* Between two tries where others have the lock, and nobody can wait. */
+static void pause_shortly(void) {
+    const struct timespec length = {0, 1000000};
+    nanosleep(&length, NULL);
 }
 
 static int64_t nanoseconds(void) {
@@ -56,7 +68,10 @@ static uint64_t request;
 static unsigned lock_number;
 
 static void session_begin(void) {
-    int status = mg_begin(target, 0, 0, &session, NULL);
+    int status;
+    do
+        status = mg_begin(target, client, 0, &session, NULL);
+    while (status == MG_OUTRUN);
     expect(status == MG_OK, "mg_begin", status);
 }
 
@@ -66,27 +81,42 @@ static void session_take(void) {
 }
 
 static void session_give(void) {
-    int status = mg_give(session, held.lock, NULL);
+    int status;
+    do
+        status = mg_give(session, held.lock, NULL);
+    while (status == MG_OUTRUN);
     expect(status == MG_OK, "mg_give", status);
 }
 
 static void commands_begin(void) {
-    int status = mg_open(target, 0, &host, NULL);
+    int status = mg_open(target, client, &host, NULL);
     expect(status == MG_OK, "mg_open", status);
-    status = mg_refresh(host, NULL);
+    do
+        status = mg_refresh(host, NULL);
+    while (status == MG_OUTRUN);
     expect(status == MG_OK, "mg_refresh", status);
 }
 
 static void commands_take(void) {
     struct mg_answer answer = {0};
     int status;
-    lock_number = 1 + (unsigned)(request / 2 % LOCK_NUMBERS);
-    status = mg_enqueue(host, 1, ++request, lock_number, MG_EX, "db", 0, &answer);
-    expect(status == MG_OK && answer.reply == MG_GRANTED, "mg_enqueue", status);
+    lock_number = 1 + client * LOCK_NUMBERS + (unsigned)(request / 2 % LOCK_NUMBERS);
+    request++;
+    do
+        status = mg_enqueue(host, 1 + client, request, lock_number, MG_EX, "db", 0, &answer);
+    while (status == MG_OUTRUN);
+    expect(status == MG_OK, "mg_enqueue", status);
+    if (answer.reply == MG_QUEUED)
+        status = mg_wait(host, lock_number, 5, -1, NULL);
+    expect(status == MG_OK, "mg_wait", status);
 }
 
 static void commands_give(void) {
-    int status = mg_release(host, 1, ++request, lock_number, NULL);
+    int status;
+    request++;
+    do
+        status = mg_release(host, 1 + client, request, lock_number, NULL);
+    while (status == MG_OUTRUN);
     expect(status == MG_OK, "mg_release", status);
 }
 
@@ -118,8 +148,11 @@ static void sanlock_begin(void) {
     lease->disks[0].offset = AREA;
 }
 
+/* -EEXIST: another process of this host has it. */
 static void sanlock_take(void) {
-    int status = sanlock_acquire(registered, -1, 0, 1, &lease, NULL);
+    int status;
+    while ((status = sanlock_acquire(registered, -1, 0, 1, &lease, NULL)) == -EEXIST || status == -EBUSY || status == -EAGAIN)
+        pause_shortly();
     expect(status >= 0, "sanlock_acquire", status);
 }
 
@@ -205,16 +238,22 @@ static void etcd_give(void) {
     ask_etcd("/v3/lock/unlock", body);
 }
 
-static void ask_redis(const char *text, const char *wanted) {
+static bool ask_redis(const char *text, const char *wanted) {
     put(text);
     do
         get_more();
     while (!strstr(got, "\r\n"));
-    expect(strncmp(got, wanted, strlen(wanted)) == 0, got, 0);
+    return strncmp(got, wanted, strlen(wanted)) == 0;
 }
 
-static void redis_take(void) { ask_redis("SET db 1 NX PX 600000\r\n", "+OK"); }
-static void redis_give(void) { ask_redis("DEL db\r\n", ":1"); }
+static void redis_take(void) {
+    while (!ask_redis("SET db 1 NX PX 600000\r\n", "+OK")) {
+        expect(strncmp(got, "$-1", 3) == 0, got, 0);
+        pause_shortly();
+    }
+}
+
+static void redis_give(void) { expect(ask_redis("DEL db\r\n", ":1"), got, 0); }
 
 static PGconn *postgres;
 
@@ -247,26 +286,65 @@ static const struct kind {
     {"postgres", postgres_begin, postgres_take, postgres_give},
 };
 
-static void time_turns(const char *name, long turns, double seconds) {
+static const struct kind *kind_of(const char *name) {
     const struct kind *kind = NULL;
-    int64_t *times = calloc((size_t)turns, sizeof *times), began;
-    long done = 0;
     for (size_t i = 0; i < sizeof KINDS / sizeof KINDS[0]; i++)
         if (strcmp(KINDS[i].name, name) == 0)
             kind = &KINDS[i];
-    expect(kind && times, name, turns);
-    kind->begin();
-    began = nanoseconds();
+    expect(kind, name, 0);
+    return kind;
+}
+
+/* How many turns there were; where `times` is not NULL the nanoseconds of each. */
+static long take_turns(const struct kind *kind, long turns, double seconds, int64_t *times) {
+    int64_t began = nanoseconds();
+    long done = 0;
     while (done < turns && (double)(nanoseconds() - began) < seconds * 1e9) {
         int64_t before = nanoseconds();
         kind->take();
         kind->give();
-        times[done++] = nanoseconds() - before;
+        if (times)
+            times[done] = nanoseconds() - before;
+        done++;
     }
-    for (long i = 0; i < done; i++)
-        printf("%lld\n", (long long)times[i]);
     mg_end(session);
     mg_close(host);
+    return done;
+}
+
+static void time_turns(const char *name, long turns, double seconds) {
+    const struct kind *kind = kind_of(name);
+    int64_t *times = calloc((size_t)turns, sizeof *times);
+    long done;
+    expect(times, name, turns);
+    kind->begin();
+    done = take_turns(kind, turns, seconds, times);
+    for (long i = 0; i < done; i++)
+        printf("%lld\n", (long long)times[i]);
+}
+
+static void contend(const char *name, int clients, long turns, double seconds) {
+    const struct kind *kind = kind_of(name);
+    struct {
+        int ready;
+        long turns;
+        int64_t began, ended;
+    } *all = mmap(NULL, sizeof *all, PROT_READ | PROT_WRITE, MAP_SHARED | MAP_ANONYMOUS, -1, 0);
+    expect(all != MAP_FAILED, "mmap", 0);
+    for (int number = 0; number < clients; number++)
+        if (fork() == 0) {
+            client = (unsigned)number;
+            kind->begin();
+            if (__atomic_add_fetch(&all->ready, 1, __ATOMIC_SEQ_CST) == clients)
+                __atomic_store_n(&all->began, nanoseconds(), __ATOMIC_SEQ_CST);
+            while (__atomic_load_n(&all->began, __ATOMIC_SEQ_CST) == 0)
+                pause_shortly();
+            __atomic_add_fetch(&all->turns, take_turns(kind, turns, seconds, NULL), __ATOMIC_SEQ_CST);
+            _exit(0);
+        }
+    for (int number = 0, status; number < clients; number++)
+        expect(wait(&status) > 0 && status == 0, name, status);
+    printf("%lld\n", (long long)(nanoseconds() - all->began) / (all->turns > 0 ? all->turns : 1));
 }
 
 int main(int argc, char **argv) {
@@ -274,6 +352,9 @@ int main(int argc, char **argv) {
     if (strcmp(word, "time") == 0 && argc == 6 && atol(argv[4]) > 0) {
         target = argv[3];
         time_turns(argv[2], atol(argv[4]), atof(argv[5]));
+    } else if (strcmp(word, "contend") == 0 && argc == 7 && atoi(argv[4]) > 0 && atol(argv[5]) > 0) {
+        target = argv[3];
+        contend(argv[2], atoi(argv[4]), atol(argv[5]), atof(argv[6]));
     } else if (strcmp(word, "note") == 0 && argc >= 3) {
         int made = open(argv[2], O_WRONLY | O_CREAT | O_CLOEXEC, 0600);
         expect(made >= 0, argv[2], made);
