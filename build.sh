@@ -1,4 +1,4 @@
-# To be sourced with `top` set to the root, as `dlm`, `bench.sh` and `release.sh` do: builds a program where it is missing, or where its code or contracts
+# To be sourced with `top` set to the root, as `dlm`, `bench.sh`, `release.sh` and `capi/build.sh` do: builds a program where it is missing, or where its code or contracts
 # changed since its last build began.
 
 # Sets `below` to the libraries of the repository that a crate stands on, lowest first: crates.txt names for each crate those that its own files cite.
@@ -36,8 +36,13 @@ find_sources() {
 # is_newest FILE CRATE: whether there is such a program, and it is newer than the code and the contracts of the crate and of those that it stands on.
 # A file that was deleted is noticed by the time of its folder.
 is_newest() {
+    [[ -x $1 ]] && is_newest_file "$1" "$2"
+}
+
+# The same of a file that is no program.
+is_newest_file() {
     local sources newer
-    [[ -x $1 ]] || return 1
+    [[ -f $1 ]] || return 1
     find_sources "$2"
     newer=$(find "${sources[@]}" -newer "$1" -print -quit) && [[ -z $newer ]]
 }
@@ -96,13 +101,15 @@ build() {
     return $ended
 }
 
-# What is proved has its sum beside it, written by those alone that have just proved it.
+# note_proved CRATE [FILE]: what is proved, the program or this file, has its sum beside it, written by those alone that have just proved it.
 note_proved() {
-    sha256sum < "$top/crates/$1/out/$1" > "$top/crates/$1/out/proved"
+    sha256sum < "$top/crates/$1/out/${2-$1}" > "$top/crates/$1/out/proved"
 }
 
+# is_proved CRATE [FILE]
 is_proved() {
-    [[ -f $top/crates/$1/out/proved && $(sha256sum < "$top/crates/$1/out/$1") == "$(<"$top/crates/$1/out/proved")" ]]
+    local out=$top/crates/$1/out
+    [[ -f $out/proved && -f $out/${2-$1} && $(sha256sum < "$out/${2-$1}") == "$(<"$out/proved")" ]]
 }
 
 # ensure_built CRATE: ends with status 125 where that cannot be done.

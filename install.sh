@@ -1,27 +1,80 @@
 #!/usr/bin/env bash
-# install.sh: puts program, manual page and completions in place, below PREFIX (none given: /usr/local), with DESTDIR in front of it
+# install.sh: puts programs, library, manual pages and completions in place, below PREFIX (none given: /usr/local), with DESTDIR in front of it
 # where one is given, as for a package. install.sh uninstall: takes them out. Both print the files.
-# In a checkout the program is built first, if it has to be. In an archive of release.sh it is there.
-# The library for C goes with it where it is built (capi/build.sh); else that is said on standard error.
+# In a checkout the program is built first, if it has to be. The library for C, with the programs over it, goes with it where it is built
+# (capi/build.sh); else that is said on standard error. capi/install.sh asks for that part alone: install.sh install library.
+# In an archive of release.sh all is there; its pages, its examples and BUILT go to share/doc/midgegalena.
 set -euo pipefail
 
 top=$(dirname -- "$(readlink -f -- "${BASH_SOURCE[0]}")")
-root=${DESTDIR-}${PREFIX:-/usr/local}
-program=bin/dlm
-[[ ! -d $top/crates ]] || program=crates/dlm/out/dlm
+prefix=${PREFIX:-/usr/local}
+root=${DESTDIR-}$prefix
+doc=share/doc/midgegalena
+version=$(<"$top/VERSION")
+is_archive=1 dlm=bin/dlm headers=include libraries=lib programs=bin
+if [[ -d $top/crates ]]; then
+    is_archive=0 dlm=crates/dlm/out/dlm headers=capi/include libraries=capi/out programs=capi/out
+fi
 
-# Calls its first word with each file: from, to, mode.
-each() {
-    "$1" "$program" bin/dlm 755
+# Calls its first word with each file: from, to, mode. Of a link the second word is what it leads to, and the mode is `link`.
+each_of_program() {
+    "$1" "$dlm" bin/dlm 755
     "$1" man/dlm.1 share/man/man1/dlm.1 644
-    "$1" completions/dlm.bash share/bash-completion/completions/dlm 644
-    "$1" completions/_dlm share/zsh/site-functions/_dlm 644
-    "$1" completions/dlm.fish share/fish/vendor_completions.d/dlm.fish 644
+    completions_of "$1" dlm
+}
+
+each_of_library() {
+    local name
+    "$1" "$headers/midgegalena.h" include/midgegalena.h 644
+    "$1" "$headers/mg_session.h" include/mg_session.h 644
+    "$1" "$libraries/libmidgegalena.a" lib/libmidgegalena.a 644
+    "$1" "$libraries/libmidgegalena.so.$version" "lib/libmidgegalena.so.$version" 644
+    "$1" "libmidgegalena.so.$version" "lib/libmidgegalena.so.${version%%.*}" link
+    "$1" "libmidgegalena.so.${version%%.*}" lib/libmidgegalena.so link
+    "$1" "$libraries/midgegalena.pc" lib/pkgconfig/midgegalena.pc 644
+    for name in mg-lock dlm-shared dlm-mount; do
+        "$1" "$programs/$name" "bin/$name" 755
+    done
+    for name in midgegalena.3 mg_session.3 mg-lock.1 dlm-shared.1 dlm-mount.8; do
+        "$1" "man/$name" "share/man/man${name##*.}/$name" 644
+    done
+    completions_of "$1" mg-lock
+    completions_of "$1" dlm-shared
+}
+
+completions_of() {
+    "$1" "completions/$2.bash" "share/bash-completion/completions/$2" 644
+    "$1" "completions/_$2" "share/zsh/site-functions/_$2" 644
+    "$1" "completions/$2.fish" "share/fish/vendor_completions.d/$2.fish" 644
+}
+
+each_of_pages() {
+    local page
+    shopt -s globstar
+    cd -- "$top"
+    for page in README.md CHANGES.md BUILT docs/** examples/** capi/**; do
+        [[ -d $page ]] || "$1" "$page" "$doc/$page" 644
+    done
 }
 
 put() {
-    install -D -m "$3" -- "$top/$1" "$root/$2"
+    if [[ $3 == link ]]; then
+        mkdir -p -- "$(dirname -- "$root/$2")"
+        ln -sfn -- "$1" "$root/$2"
+    else
+        install -D -m "$3" -- "$top/$1" "$root/$2"
+    fi
+    # What a compiler is told of is where the library is now.
+    [[ $2 != *.pc ]] || write_pc "$top/$1" > "$root/$2"
     echo "$root/$2"
+}
+
+write_pc() {
+    local line
+    while IFS= read -r line; do
+        [[ $line != prefix=* ]] || line=prefix=$prefix
+        printf '%s\n' "$line"
+    done < "$1"
 }
 
 take_out() {
@@ -29,35 +82,53 @@ take_out() {
     echo "$root/$2"
 }
 
+# Folders are left where something else is in them.
+take_folders() {
+    local folders=("$root/$doc" "$root/$doc"/**/) at
+    for ((at = ${#folders[@]} - 1; at >= 0; at--)); do
+        [[ ! -d ${folders[at]} ]] || rmdir -- "${folders[at]}" 2> /dev/null || true
+    done
+}
+
 # Once the program is built it refuses an empty script. All else that it says, progress or why it cannot be built, is passed on.
 build() {
-    [[ -d $top/crates ]] || return 0
+    [[ $is_archive -eq 0 ]] || return 0
     "$top/dlm" run /dev/null 2>&1 >/dev/null | sed '/^dlm: 23 BadLine 1$/d' >&2
     [[ ${PIPESTATUS[0]} -eq 1 ]]
 }
 
-# The library's files, in a checkout where they are there.
-library() {
-    [[ -x $top/capi/install.sh ]] || return 0
-    if [[ $1 == uninstall || -f $top/capi/out/libmidgegalena.a ]]; then
-        PREFIX=${PREFIX:-/usr/local} "$top/capi/install.sh" "$1"
-    else
-        echo "install.sh: without the library for C, which capi/build.sh builds" >&2
+install_library() {
+    if [[ $is_archive -eq 0 && ! -f $top/capi/out/made ]]; then
+        echo "install.sh: without the library for C, mg-lock, dlm-shared and dlm-mount, which capi/build.sh builds" >&2
+        return
     fi
+    [[ $is_archive -eq 1 ]] || "$top/capi/build.sh" "$prefix"
+    each_of_library put
 }
 
-case ${1-install} in
+case "${*:-install}" in
     install)
         if ! build; then
             echo "install.sh: ./dlm could not be built" >&2
             exit 1
         fi
-        each put
-        library install
+        each_of_program put
+        install_library
+        [[ $is_archive -eq 0 ]] || each_of_pages put
+        ;;
+    'install library')
+        each_of_library put
         ;;
     uninstall)
-        each take_out
-        library uninstall
+        each_of_program take_out
+        each_of_library take_out
+        if [[ $is_archive -eq 1 ]]; then
+            each_of_pages take_out
+            take_folders
+        fi
+        ;;
+    'uninstall library')
+        each_of_library take_out
         ;;
     *)
         echo "usage: [PREFIX=..] [DESTDIR=..] install.sh [uninstall]" >&2

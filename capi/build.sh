@@ -1,16 +1,27 @@
 #!/usr/bin/env bash
-# Makes libmidgegalena.a, libmidgegalena.so.VERSION, mg-lock, dlm-shared and midgegalena.pc in capi/out, where they are not newer than all that they are made of.
-# Proves crates/dlm_c, and what stands below it, first.
+# Makes libmidgegalena.a, libmidgegalena.so.VERSION, mg-lock, dlm-shared, dlm-mount and midgegalena.pc in capi/out, where they are not newer than all that they
+# are made of. Proves crates/dlm_c, and what stands below it, first, unless what was proved here is still there and newest.
+# In capi/out/made are the sums of what it made, by which release.sh knows these files.
 #   capi/build.sh [PREFIX]     where they will be installed, /usr/local if it is left out
 set -euo pipefail
 here=$(cd -- "$(dirname -- "$(readlink -f -- "${BASH_SOURCE[0]}")")" && pwd)
 top=$(dirname -- "$here")
 prefix=${1:-/usr/local}
 out=$here/out
-version=$(sed -n 's/^#define MG_VERSION_MAJOR //p' "$here/include/midgegalena.h").$(sed -n 's/^#define MG_VERSION_MINOR //p' "$here/include/midgegalena.h")
+version=$(<"$top/VERSION")
 major=${version%%.*}
 cc=${CC:-cc}
+made=(libmidgegalena.a "libmidgegalena.so.$version" mg-lock dlm-shared dlm-mount)
 source "$top/build.sh"
+
+fail() {
+    echo "capi/build.sh: $1" >&2
+    exit 125
+}
+
+# The number of VERSION is the library's own, too: programs are compiled with it.
+in_header=$(sed -n 's/^#define MG_VERSION_M[AI][JN]OR //p' "$here/include/midgegalena.h" | paste -sd .)
+[[ $in_header == "$version" ]] || fail "VERSION is $version, and the header's numbers are $in_header"
 
 write_pc() {
     sed -e "s|@prefix@|$prefix|" -e "s|@version@|$version|" "$here/midgegalena.pc.in" > "$out/midgegalena.pc"
@@ -18,10 +29,24 @@ write_pc() {
 
 # What stands in proofs/ changes nothing that runs.
 is_made() {
-    local sources newer
-    [[ -f $out/libmidgegalena.a && -f $out/libmidgegalena.so.$version && -f $out/mg-lock && -f $out/dlm-shared ]] || return 1
+    local sources newer file
+    is_proved dlm_c libdlm_c.a || return 1
+    for file in "${made[@]}" made; do
+        [[ -f $out/$file ]] || return 1
+    done
     find_sources dlm_c
-    newer=$(find "${sources[@]}" "$here"/{include,src} "$here/build.sh" -newer "$out/libmidgegalena.a" -print -quit) && [[ -z $newer ]]
+    newer=$(find "${sources[@]}" "$here"/{include,src,examples/dlm-mount} "$here/build.sh" "$top/VERSION" -newer "$out/libmidgegalena.a" -print -quit) && [[ -z $newer ]]
+}
+
+# The archive gets the time at which its proof began.
+prove() {
+    local crate=$top/crates/dlm_c
+    ! is_newest_file "$crate/out/libdlm_c.a" dlm_c || ! is_proved dlm_c libdlm_c.a || return 0
+    echo "capi/build.sh: proving and building crates/dlm_c, which takes minutes where nothing was proved before" >&2
+    touch -- "$out/began"
+    (cd -- "$crate" && rt lib < /dev/null) > "$out/build.log" 2>&1 || fail "not built: $out/build.log says why"
+    touch -r "$out/began" -- "$crate/out/libdlm_c.a"
+    note_proved dlm_c libdlm_c.a
 }
 
 mkdir -p -- "$out"
@@ -29,17 +54,10 @@ if is_made; then
     write_pc
     exit
 fi
-if ! command -v rt > /dev/null; then
-    echo "capi/build.sh: to prove and build the library there has to be Rattle's command rt on the path" >&2
-    exit 125
-fi
+command -v rt > /dev/null || fail "to prove and build the library there has to be Rattle's command rt on the path"
 # The kit's C code: its heap, its errno.
 kit=$(dirname -- "$(dirname -- "$(readlink -f -- "$(command -v rt)")")")/c
-echo "capi/build.sh: proving and building crates/dlm_c, which takes minutes where nothing was proved before" >&2
-if ! (cd -- "$top/crates/dlm_c" && rt lib < /dev/null) > "$out/build.log" 2>&1; then
-    echo "capi/build.sh: not built: $out/build.log says why" >&2
-    exit 125
-fi
+prove
 for part in midgegalena mg_session device; do
     "$cc" -std=c99 -O2 -fPIC -Wall -Wextra -pedantic ${CFLAGS:-} -I "$here/include" -c "$here/src/$part.c" -o "$out/$part.o"
 done
@@ -54,6 +72,8 @@ ar rcs "$out/libmidgegalena.a" "$out/whole.o"
 "$cc" -shared -Wl,-soname,"libmidgegalena.so.$major" -Wl,-z,defs,-z,relro,-z,now ${CFLAGS:-} -o "$out/libmidgegalena.so.$version" "$out/whole.o"
 "$cc" -std=c99 -O2 -Wall -Wextra -pedantic ${CFLAGS:-} -I "$here/include" "$here/src/"{mg-lock,status}.c "$out/libmidgegalena.a" -o "$out/mg-lock"
 "$cc" -std=c99 -O2 -Wall -Wextra -pedantic ${CFLAGS:-} -I "$here/include" "$here/src/dlm-shared.c" "$out/devices.o" "$out/libmidgegalena.a" -o "$out/dlm-shared"
+"$cc" -std=gnu11 -O2 -Wall -Wextra ${CFLAGS:-} -I "$here/include" -I "$here/src" "$here/examples/dlm-mount/dlm-mount.c" "$out/devices.o" -o "$out/dlm-mount"
 ln -sf "libmidgegalena.so.$version" "$out/libmidgegalena.so.$major"
 ln -sf "libmidgegalena.so.$major" "$out/libmidgegalena.so"
 write_pc
+(cd -- "$out" && sha256sum -- "${made[@]}" > made)

@@ -75,6 +75,11 @@ tried "sessions, built" cc -std=c99 $common "$here/tests/sessions.c" $flags -o "
 folder
 tried "sessions" "$work/sessions" "$work/images"
 
+# Commands that return before they are marked.
+tried "late, built" cc -std=c99 $common "$here/tests/late.c" $flags -o "$work/late"
+folder
+tried "late" "$work/late" "$work/images"
+
 # Images that are missing, short, of another folder or layout, or unformatted.
 tried "images, built" cc -std=c99 $common "$here/tests/images.c" $flags -o "$work/images_test"
 folder
@@ -201,7 +206,7 @@ END
     fi
 fi
 source=$here/examples/dlm-mount
-tried "dlm-mount, built" cc -std=gnu11 -O2 -Wall -Wextra -Werror -I "$here/src" "$source/dlm-mount.c" "$here/out/devices.o" -o "$work/dlm-mount"
+tried "dlm-mount, built" cc -std=gnu11 -O2 -Wall -Wextra -Werror -I "$here/include" -I "$here/src" "$source/dlm-mount.c" "$here/out/devices.o" -o "$work/dlm-mount"
 
 # A host dies before it has marked its release: a wait ends all the same.
 if command -v rt > /dev/null; then
@@ -467,9 +472,12 @@ tried "names are those of docs/REFUSALS.md" bash -c '! grep -vxFf "$2" "$1"' _ "
 tried "exports" bash -c '! nm -D --defined-only "$1" | grep -v " T mg_"' _ "$PREFIX/lib/libmidgegalena.so"
 tried "manual page" bash -c 'for call in $(nm -D --defined-only "$1" | sed -n "s/.* T //p"); do grep -q "^\.Fn $call\|^\.Fo $call" "$2" "$3" || { echo "$call"; exit 1; }; done' _ "$PREFIX/lib/libmidgegalena.so" "$top/man/midgegalena.3" "$top/man/mg_session.3"
 
+# One number for all, and a help that is whole.
+tried "one version, and the help" "$top/tests/version.sh"
+
 # No formatter has anything to say about the manual pages.
 if command -v groff > /dev/null; then
-    for page in midgegalena.3 mg_session.3 mg-lock.1 dlm-shared.1; do tried "man/$page" bash -c '! groff -ww -mdoc -Tutf8 -z "$1" 2>&1 | grep .' _ "$top/man/$page"; done
+    for page in midgegalena.3 mg_session.3 mg-lock.1 dlm-shared.1 dlm-mount.8; do tried "man/$page" bash -c '! groff -ww -mdoc -Tutf8 -z "$1" 2>&1 | grep .' _ "$top/man/$page"; done
 else
     left_out "manual pages: there is no groff"
 fi
@@ -477,7 +485,7 @@ fi
 # How much C no proof covers: the lines that are neither blank nor comment.
 lines=0
 for part in midgegalena mg_session device; do lines=$((lines + $(awk -f "$here/tests/lines.awk" "$here/src/$part.c"))); done
-for page in README.md docs/LIBRARY.md; do tried "lines of C in $page" grep -q "\b$lines lines of C" "$top/$page"; done
+for page in README.md capi/README.md; do tried "lines of C in $page" grep -q "\b$lines lines of C" "$top/$page"; done
 
 # Memory.
 if command -v valgrind > /dev/null; then
@@ -525,6 +533,8 @@ if command -v valgrind > /dev/null; then
     folder
     tried "valgrind sessions" "${checks_memory[@]}" "$work/sessions" "$work/images"
     folder
+    tried "valgrind late" "${checks_memory[@]}" "$work/late" "$work/images"
+    folder
     in_folder ./format images 64
     for option in -n "-w 1" --recover; do
         given=(images 0 db true)
@@ -541,6 +551,9 @@ if [[ -f $work/sanitizer ]] && command -v rt > /dev/null; then
     sanitized=(-std=c99 $common -fsanitize=address,undefined -fno-sanitize-recover=all "$here/src/"{midgegalena,mg_session,device}.c)
     proved=("$top/crates/dlm_c/out/libdlm_c.a" "$kit/libos_c.a" "$kit/liblibc_c.a")
     tried "sanitized sessions, built" cc "${sanitized[@]}" "$here/tests/sessions.c" "${proved[@]}" -o "$work/sanitized_sessions"
+    tried "sanitized late, built" cc "${sanitized[@]}" "$here/tests/late.c" "${proved[@]}" -o "$work/sanitized_late"
+    folder
+    tried "sanitized late" "$work/sanitized_late" "$work/images"
     folder
     tried "sanitized sessions" "$work/sanitized_sessions" "$work/images"
     tried "sanitized mg-lock, built" cc "${sanitized[@]}" "$here/src/"{mg-lock,status}.c "${proved[@]}" -o "$work/sanitized_mg-lock"

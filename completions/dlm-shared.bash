@@ -6,6 +6,7 @@ _dlm_shared() {
 
     COMPREPLY=()
     case $COMP_CWORD:$task in
+        1:-*) words="--help --version" ;;
         1:*) words="format submit table mark check export take" ;;
         2:format | 2:submit | 2:table | 2:mark | 2:check | 2:export | 2:take | 3:export)
             compopt -o filenames
@@ -24,7 +25,8 @@ _dlm_shared() {
                 8:enqueue | 8:convert) words="NL CR CW PR PW EX" ;;
                 10:enqueue) words="noqueue" ;;
                 9:convert) words="noqueue value" ;;
-                10:convert | 8:release) words="value" ;;
+                10:convert) [[ ${COMP_WORDS[9]} == value ]] || words="value" ;;
+                8:release) words="value" ;;
             esac
             ;;
     esac

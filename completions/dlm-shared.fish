@@ -20,6 +20,8 @@ complete -c dlm-shared -n 'test (count (commandline -opc)) -eq 1' -a mark -d 'ma
 complete -c dlm-shared -n 'test (count (commandline -opc)) -eq 1' -a check -d 'look for damage'
 complete -c dlm-shared -n 'test (count (commandline -opc)) -eq 1' -a export -d 'copy to images'
 complete -c dlm-shared -n 'test (count (commandline -opc)) -eq 1' -a take -d 'make a host number of this machine'
+complete -c dlm-shared -n 'test (count (commandline -opc)) -eq 1' -s h -l help -d 'show the words'
+complete -c dlm-shared -n 'test (count (commandline -opc)) -eq 1' -s V -l version -d 'show the version'
 complete -c dlm-shared -n '__dlm_shared_at 2 format submit table mark check export take' -a '(__fish_complete_directories)'
 complete -c dlm-shared -n '__dlm_shared_at 3 export' -a '(__fish_complete_directories)'
 complete -c dlm-shared -n '__dlm_shared_at 3 format' -a '(seq 1 7)' -d 'disks'
@@ -32,5 +34,5 @@ complete -c dlm-shared -n '__dlm_shared_command_at 7 purge' -a '(seq 0 15)' -d '
 complete -c dlm-shared -n '__dlm_shared_command_at 8 enqueue convert' -a 'NL CR CW PR PW EX' -d 'mode'
 complete -c dlm-shared -n '__dlm_shared_command_at 10 enqueue' -a noqueue
 complete -c dlm-shared -n '__dlm_shared_command_at 9 convert' -a 'noqueue value'
-complete -c dlm-shared -n '__dlm_shared_command_at 10 convert' -a value
+complete -c dlm-shared -n '__dlm_shared_command_at 10 convert; and not contains -- value (commandline -opc)' -a value
 complete -c dlm-shared -n '__dlm_shared_command_at 8 release' -a value

@@ -28,7 +28,8 @@ _dlm() {
                 8:enqueue | 8:convert) words="NL CR CW PR PW EX" ;;
                 10:enqueue) words="noqueue" ;;
                 9:convert) words="noqueue value" ;;
-                10:convert | 8:release) words="value" ;;
+                10:convert) [[ ${COMP_WORDS[9]} == value ]] || words="value" ;;
+                8:release) words="value" ;;
             esac
             ;;
     esac

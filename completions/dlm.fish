@@ -37,5 +37,5 @@ complete -c dlm -n '__dlm_command_at 7 purge' -a '(seq 0 15)' -d 'host'
 complete -c dlm -n '__dlm_command_at 8 enqueue convert' -a 'NL CR CW PR PW EX' -d 'mode'
 complete -c dlm -n '__dlm_command_at 10 enqueue' -a noqueue
 complete -c dlm -n '__dlm_command_at 9 convert' -a 'noqueue value'
-complete -c dlm -n '__dlm_command_at 10 convert' -a value
+complete -c dlm -n '__dlm_command_at 10 convert; and not contains -- value (commandline -opc)' -a value
 complete -c dlm -n '__dlm_command_at 8 release' -a value

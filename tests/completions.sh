@@ -1,7 +1,7 @@
 #!/usr/bin/env bash
 # The completions: lines are typed into an interactive bash, which has read dlm.bash, mg-lock.bash and dlm-shared.bash of completions/, and then the key that puts in all
-# that could stand here (M-*); what the line has come to is compared. Of zsh and fish the files are read, and fish is asked too,
-# where they are installed.
+# that could stand here (M-*); what the line has come to is compared. fish is asked, and lines are typed into an interactive zsh, where they are installed: what it
+# offers is compared, and what it says of a number that it cannot offer.
 set -uo pipefail
 
 source "$(dirname -- "$(readlink -f -- "${BASH_SOURCE[0]}")")/lib.sh"
@@ -62,6 +62,11 @@ expect 'dlm submit images 0 enqueue 1 1 1 EX db n' '<submit> <images> <0> <enque
 expect 'dlm submit images 0 convert 1 2 1 P' '<submit> <images> <0> <convert> <1> <2> <1> <PR> <PW>'
 expect 'dlm submit images 0 convert 1 2 1 PW ' '<submit> <images> <0> <convert> <1> <2> <1> <PW> <noqueue> <value>'
 expect 'dlm submit images 0 convert 1 2 1 PW noqueue ' '<submit> <images> <0> <convert> <1> <2> <1> <PW> <noqueue> <value>'
+expect 'dlm submit images 0 convert 1 2 1 PW value ' '<submit> <images> <0> <convert> <1> <2> <1> <PW> <value>'
+expect 'dlm submit images 0 convert 1 2 1 PW noqueue value ' '<submit> <images> <0> <convert> <1> <2> <1> <PW> <noqueue> <value>'
+expect 'dlm submit images 0 release 1 2 7 value ' '<submit> <images> <0> <release> <1> <2> <7> <value>'
+expect 'dlm-shared submit images 0 convert 1 2 1 PW value ' '<submit> <images> <0> <convert> <1> <2> <1> <PW> <value>'
+expect 'dlm-shared --v' '<--version>'
 expect 'dlm submit images 0 release 1 2 7 ' '<submit> <images> <0> <release> <1> <2> <7> <value>'
 expect 'dlm submit images 0 purge 1 2 ' '<submit> <images> <0> <purge> <1> <2> <0> <1> <2> <3> <4> <5> <6> <7> <8> <9> <10> <11> <12> <13> <14> <15>'
 expect 'dlm submit images 0 release 1 2 7' '<submit> <images> <0> <release> <1> <2> <7>'
@@ -82,7 +87,7 @@ asked() {
     local words
     words=$(fish --no-config -c "source '$top/completions/dlm.fish'; source '$top/completions/mg-lock.fish'; source '$top/completions/dlm-shared.fish'; complete -C '$1'" 2>&1 | cut -f 1 | LC_ALL=C sort | tr '\n' ' ')
     tried=$((tried + 1))
-    if [[ $words != "$2 " ]]; then
+    if [[ $words != "${2:+$2 }" ]]; then
         echo "fish: '$1' offers $words, not $2"
         failed=$((failed + 1))
     fi
@@ -97,14 +102,75 @@ if command -v fish >/dev/null; then
     asked 'dlm-shared take images ' '0 1 10 11 12 13 14 15 2 3 4 5 6 7 8 9'
     asked 'mg-lock -s ' 'images/ more images/'
     asked 'mg-lock -s images ' '0 1 10 11 12 13 14 15 2 3 4 5 6 7 8 9'
+    asked 'dlm submit images 0 convert 1 2 1 PW value ' ''
+    asked 'dlm submit images 0 convert 1 2 1 PW noqueue ' value
     asked 'dlm submit images 0 purge 1 2 ' '0 1 10 11 12 13 14 15 2 3 4 5 6 7 8 9'
 fi
+# shown TYPED TEXT: zsh shows this below the line when the key of completion is pressed. Several are typed into one shell, by zsh's own terminal.
+shown_lines=() shown_texts=()
+shown() {
+    shown_lines+=("$1")
+    shown_texts+=("$2")
+}
+
 if command -v zsh >/dev/null; then
     for file in _dlm _mg-lock _dlm-shared; do
         tried=$((tried + 1))
         zsh -n "$top/completions/$file" || failed=$((failed + 1))
     done
+    hosts='0 1 2 3 4 5 6 7 8 9 10 11 12 13 14 15'
+    shown 'dlm format images 3 ' 'slots, 1 to 4096'
+    shown 'dlm format images 3 64 ' 'cluster, any number, another one for each folder'
+    shown 'dlm submit images ' "host, 0 to 15 $hosts"
+    shown 'dlm submit images 0 enqueue ' 'client, 0 to 239; then request, lock or host'
+    shown 'dlm submit images 0 enqueue 1 ' 'request, above the last one of this client; then lock or host'
+    shown 'dlm submit images 0 enqueue 1 2 ' 'lock, 1 to 1535, one that is in no table; then mode, name'
+    shown 'dlm submit images 0 enqueue 1 2 3 EX ' 'name, 1 to 15 bytes without blanks'
+    shown 'dlm submit images 0 convert 1 2 ' 'lock, 1 to 1535; then mode'
+    shown 'dlm submit images 0 convert 1 2 3 PW ' 'noqueue value'
+    shown 'dlm submit images 0 convert 1 2 3 PW value ' 'value, 32 digits 0 to 9 and a to f'
+    shown 'dlm submit images 0 release 1 2 ' 'lock, 1 to 1535'
+    shown 'dlm submit images 0 release 1 2 3 value ' 'value, 32 digits 0 to 9 and a to f'
+    shown 'dlm submit images 0 purge 1 2 ' "host, 0 to 15, all locks of which end $hosts"
+    shown 'dlm renew images 0 images 3 64 8 ' 'client that is left out'
+    shown 'dlm-shared submit images 0 enqueue ' 'client, 0 to 239; then request, lock or host'
+    shown 'dlm-shared take images ' "host, 0 to 15 $hosts"
+    TERM=xterm timeout 60 zsh -f -s "$top/completions" "${shown_lines[@]}" >"$work/shown" <<'END'
+zmodload zsh/zpty || exit
+# Reads until the shell has printed a word, and keeps all before it.
+read_until() {
+    local text
+    all=
+    until [[ $all == *$1* ]]; do zpty -r -t shell text && all+=$text || sleep 0.02; done
+}
+zpty shell zsh -f -i
+zpty -w shell "PS1='> '; fpath=($1 \$fpath); autoload -U compinit; compinit -D -u; print be''gun"
+shift
+read_until begun
+for line; do
+    # The line is taken back (^U) before the next one is typed.
+    zpty -w -n shell "$line"$'\t\025'
+    zpty -w shell "print ty''ped"
+    read_until typed
+    # What comes after the first clearing of what is below the line, without the terminal's words.
+    all=${${all#*$'\e[J'}#*$'\e[J'}
+    all=${all%%$'\e[A'*}
+    setopt extendedglob
+    all=${all//$'\e'\[[0-9;?]#[a-zA-Z]/}
+    print -r -- ${=${all//[$'\r\n']/ }}
+done
+END
+    for ((i = 0; i < ${#shown_lines[@]}; i++)); do
+        tried=$((tried + 1))
+        told=$(sed -n "$((i + 1))p" "$work/shown")
+        if [[ $told != "${shown_texts[i]}" ]]; then
+            echo "zsh: '${shown_lines[i]}' shows $told, not ${shown_texts[i]}"
+            failed=$((failed + 1))
+        fi
+    done
 fi
 
+command -v fish >/dev/null || echo "left out: completions.sh, fish: it is not installed"
+command -v zsh >/dev/null || echo "left out: completions.sh, zsh: it is not installed"
 echo "completions: $tried tried, $failed differ"
 [[ $failed -eq 0 ]]

@@ -29,6 +29,21 @@ static int usage(void) {
     return WRONG;
 }
 
+static void help(void) {
+    puts("usage: dlm-shared format FOLDER DISKS SLOTS CLUSTER [HOSTS [SECTOR]] [nodsync]\n"
+         "       dlm-shared submit FOLDER HOST COMMAND...\n"
+         "       dlm-shared table FOLDER HOST\n"
+         "       dlm-shared mark FOLDER HOST\n"
+         "       dlm-shared check FOLDER\n"
+         "       dlm-shared export FOLDER INTO\n"
+         "       dlm-shared take FOLDER HOST\n"
+         "Does what dlm does, over devices that several machines use at once. mg-lock --help has the words of COMMAND.\n"
+         "\n"
+         "  -h, --help; -V, --version\n"
+         "\n"
+         "Exit status: 0 done; 1 refused, or a check found something; 2 wrong words, or declined; 127 check found no dlm.");
+}
+
 /* What cannot be done over such devices, and why. */
 static int decline(const char *what, const char *why) {
     fprintf(stderr, "dlm-shared: %s: %s\n", what, why);
@@ -371,5 +386,13 @@ int main(int count, char **words) {
         return decline(task, "a log on shared devices is not renewed: dlm makes images of layout 2, and nothing puts a table onto such devices");
     if (strcmp(task, "migrate") == 0)
         return decline(task, "dlm moves images of the first layout to images of layout 2, and to no shared devices");
+    if (count == 2 && (strcmp(task, "-h") == 0 || strcmp(task, "--help") == 0)) {
+        help();
+        return ended();
+    }
+    if (count == 2 && (strcmp(task, "-V") == 0 || strcmp(task, "--version") == 0)) {
+        printf("dlm-shared of midgegalena %s\n", mg_version());
+        return ended();
+    }
     return usage();
 }

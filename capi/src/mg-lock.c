@@ -233,8 +233,8 @@ static void usage(FILE *where) {
           "  -x, --exclusive        EX, the mode if none is given\n"
           "  -s, --shared           PR\n"
           "  -m, --mode MODE        NL, CR, CW, PR, PW or EX\n"
-          "  -n, --nonblock         do not wait\n"
-          "  -w, --timeout SECONDS  wait no longer, as 2.5\n"
+          "  -n, --nonblock, --nb   do not wait\n"
+          "  -w, --timeout SECONDS  wait no longer, as 2.5; also --wait\n"
           "  -E, --conflict-exit-code N  status where it was not granted (1)\n"
           "  -v, --value            print the value of NAME first\n"
           "  -o, --close            COMMAND does not keep the lock if mg-lock is killed\n"
@@ -250,6 +250,33 @@ static void usage(FILE *where) {
           "Exit status: that of COMMAND, 128 + N if signal N ended it; 1 (-E) not granted; 125 mg-lock failed, or the\n"
           "lock was lost, or may stay; 126, 127 COMMAND cannot be run, was not found.\n",
           where);
+}
+
+/* dlm prints no help: its texts are fixed. */
+static void help_for_dlm(void) {
+    fputs("\n"
+          "The words of dlm, which makes the images and prints no help:\n"
+          "  dlm format FOLDER DISKS SLOTS CLUSTER\n"
+          "  dlm submit FOLDER HOST COMMAND, one of:\n"
+          "      enqueue CLIENT REQUEST LOCK MODE NAME [noqueue]\n"
+          "      convert CLIENT REQUEST LOCK MODE [noqueue] [value VALUE]\n"
+          "      release CLIENT REQUEST LOCK [value VALUE]\n"
+          "      cancel CLIENT REQUEST LOCK\n"
+          "      status CLIENT REQUEST LOCK\n"
+          "      purge CLIENT REQUEST HOST\n"
+          "  dlm table FOLDER HOST\n"
+          "  dlm mark FOLDER HOST\n"
+          "  dlm check FOLDER\n"
+          "  dlm migrate OLD NEW SLOTS\n"
+          "  dlm fill FOLDER HOST\n"
+          "  dlm renew OLD HOST NEW DISKS SLOTS CLUSTER [CLIENT]...\n"
+          "  dlm run SCRIPT\n"
+          "  dlm sweep SCRIPT\n"
+          "  dlm race HOSTS\n"
+          "Disks 1 to 7, slots 1 to 4096, cluster any number. Host 0 to 15; client 0 to 239, and from 240 on of mg-lock;\n"
+          "request 1 to 2^62, each above the client's last, as $(date +%s%N); lock 1 to 1535, and from 1536 on of mg-lock;\n"
+          "name 1 to 15 bytes; value 32 digits, 0 to 9 and a to f.\n",
+          stdout);
 }
 
 static int refuse(const char *what, const char *given) {
@@ -324,7 +351,10 @@ static int read_options(int argc, char **argv) {
         case 'l': asked.verbose = true; break;
         case 'S': asked.shows = true; break;
         case 'J': asked.as_json = true; break;
-        case 'h': usage(stdout); return -1;
+        case 'h':
+            usage(stdout);
+            help_for_dlm();
+            return -1;
         case 'V': printf("mg-lock of midgegalena %s\n", mg_version()); return -1;
         default: usage(stderr); return FAILED;
         }

@@ -119,11 +119,11 @@ def statuses():
 def pages():
     """The commands of the pages, over this folder, with programs that are there. Those of two machines at once are run by tests/machines.sh."""
     folder()
-    docs = os.path.join(os.path.dirname(os.path.abspath(__file__)), "..", "..", "docs")
+    top = os.path.join(os.path.dirname(os.path.abspath(__file__)), "..", "..")
     stands_for = {"images": images, "/var/lib/dlm/current": images, "/var/lib/dlm/shared": images, "./backup": "true", "/usr/local/bin/backup": "true", "/shared/config": __file__}
     tried = 0
-    for page in ("LIBRARY.md", "OPERATIONS.md"):
-        with open(os.path.join(docs, page), encoding="utf-8") as file:
+    for page in ("README.md", "docs/LIBRARY.md", "docs/OPERATIONS.md"):
+        with open(os.path.join(top, page), encoding="utf-8") as file:
             for line in file:
                 if line.startswith("mg-lock ") and " & " not in line:
                     said = run(*(stands_for.get(word, word) for word in shlex.split(line, comments=True)[1:]))

@@ -9,6 +9,8 @@
 #ifndef _GNU_SOURCE
 #define _GNU_SOURCE
 #endif
+#include <midgegalena.h>
+
 #include "device.h"
 
 #include <errno.h>
@@ -20,6 +22,8 @@
 #include <sys/mount.h>
 #include <sys/stat.h>
 #include <unistd.h>
+
+#define USAGE "usage: dlm-mount FOLDER MOUNTPOINT\n       dlm-mount -h | -V"
 
 enum { DISKS = 7, ROOT = 1, FIRST_DISK = 10, FIRST_LOCK = 100, BUFFER = 1 << 20, MOST = 1 << 17 };
 
@@ -226,8 +230,12 @@ static bool read_machine(const char *folder) {
 int main(int count, char **words) {
     static uint8_t buffer[BUFFER] __attribute__((aligned(16)));
     char options[128];
+    if (count == 2 && (strcmp(words[1], "-V") == 0 || strcmp(words[1], "--version") == 0))
+        return printf("dlm-mount of midgegalena %d.%d\n", MG_VERSION_MAJOR, MG_VERSION_MINOR) < 0;
+    if (count == 2 && (strcmp(words[1], "-h") == 0 || strcmp(words[1], "--help") == 0))
+        return puts(USAGE) < 0;
     if (count != 3) {
-        fputs("dlm-mount FOLDER MOUNTPOINT\n", stderr);
+        fputs(USAGE "\n", stderr);
         return 2;
     }
     room = device_room();
