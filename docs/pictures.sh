@@ -1,5 +1,5 @@
 #!/usr/bin/env bash
-# pictures.sh: draws the pictures of docs/PICTURES.md from their examples by crates/timeline, which is built first if it has to be, and
+# pictures.sh: draws the pictures of docs/SCRIPTS.md from their examples by crates/timeline, which is built first if it has to be, and
 # stores what the gate compares: the crate's data/ and stdout. pictures.sh check: tells what of it is not as stored, and builds nothing.
 set -euo pipefail
 
@@ -35,7 +35,7 @@ check() {
     # shellcheck disable=SC2046
     cmp -- <(cat -- $(pictures)) "$crate/stdout" || failed=1
     for picture in $(pictures); do
-        grep -qF "(${picture##*/})" "$docs/PICTURES.md" || { echo "docs/PICTURES.md does not show ${picture##*/}"; failed=1; }
+        grep -qF "(${picture##*/})" "$docs/SCRIPTS.md" || { echo "docs/SCRIPTS.md does not show ${picture##*/}"; failed=1; }
         ! command -v xmllint >/dev/null || xmllint --noout "$picture" || failed=1
     done
     [[ $failed -eq 0 ]] && echo "pictures: $(wc -w <<<"$names"), as crates/timeline draws them by its stored run"

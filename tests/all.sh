@@ -1,6 +1,6 @@
 #!/usr/bin/env bash
 # all.sh: the tests of the program, by the proved one: all scripts of tests/scripts/ and examples/, words, folders, races, faults of files, damaged
-# images, kills, migrations, renewals and hosts at once, and README's own first command twice. `rt ci` is the gate, which proves; it stands beside.
+# images, kills, migrations, renewals and hosts at once, and README's own command over a folder twice. `rt ci` is the gate, which proves; it stands beside.
 # The last line counts the tests, and the status is 1 where one failed.
 set -uo pipefail
 

@@ -1,14 +1,16 @@
 #!/usr/bin/env python3
 """headline.py: what the headline rests on. Follows each name from `Headline`, `HeadlineOfEvents` and `HeadlineOfMigrated` through the `use` lines
-of specs/, and compares the first table of docs/DEFINITIONS.md with what it finds: the files, and the figures above the table. The status is 1 where
-they differ. `headline.py all` prints each definition with its file and its lines."""
+of specs/, and compares the table of docs/PROOFS.md with what it finds: the files, and the figures above the table. The status is 1 where
+they differ, or where a file of the headline does not say in its first line that it is one, or another file does. `headline.py all` prints each definition
+with its file and its lines."""
 
+import glob
 import os
 import re
 import sys
 
 TOP = os.path.dirname(os.path.dirname(os.path.realpath(__file__)))
-PAGE = "docs/DEFINITIONS.md"
+PAGE = "docs/PROOFS.md"
 FIRST = [("world", "Headline", name) for name in ("Headline", "HeadlineOfEvents", "HeadlineOfMigrated")]
 
 HEAD = re.compile(r"(?:abbrev |unfoldable )*(?:pub )?(?:(?:data|record) )?([\w◌]\S*)")
@@ -126,6 +128,15 @@ def table(specs, found):
             yield f"| `{crate}` | {'; '.join(parts)} |"
 
 
+def first_lines(found):
+    """The files whose first line says otherwise than what was found."""
+    wanted = {f"{TOP}/crates/{crate}/specs/{module.replace('.', '/')}.antt" for crate, module, _ in found}
+    for path in sorted(glob.glob(f"{TOP}/crates/*/specs/**/*.antt", recursive=True)):
+        with open(path, encoding="utf-8") as file:
+            if file.readline().startswith("-- Of the headline. ") != (path in wanted):
+                yield f"{os.path.relpath(path, TOP)}: its first line has to {'begin' if path in wanted else 'begin otherwise than'} with `-- Of the headline. `"
+
+
 def main():
     specs = Specs()
     found = reached(specs)
@@ -133,12 +144,15 @@ def main():
     if sys.argv[1:] == ["all"]:
         for crate, module, name in sorted(found):
             print(f"{crate}/specs/{module.replace('.', '/')}.antt: {name}: {sizes[crate, module, name]}")
+    wrong = list(first_lines(found))
+    for line in wrong:
+        print(f"headline.py: {line}")
     figures = f"{len(found)} definitions, {sum(sizes.values()):,} lines without comments, {len({it[:2] for it in found})} files"
     wanted = [f"**{figures}:**", "", "| crate | files of `specs/` |", "|---|---|", *table(specs, found), ""]
     with open(f"{TOP}/{PAGE}", encoding="utf-8") as file:
         if "\n".join(wanted) in file.read():
             print(f"headline.py: {figures}, as {PAGE} says")
-            return 0
+            return 1 if wrong else 0
     print("\n".join(wanted))
     print(f"headline.py: {PAGE} has other lines than these")
     return 1

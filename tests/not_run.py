@@ -12,10 +12,7 @@ PAGES = ("README.md", "docs/TUTORIAL.md", "docs/OPERATIONS.md")
 KNOWN = {
     ("README.md", "(cd crates/dlm && rt try -- run"): "tests/readme.sh, in .ci/run",
     ("README.md", "F=$(mktemp -d) && ./dlm format"): "tests/all.sh, twice",
-    ("README.md", "tests/all.sh"): ".ci/run",
-    ("README.md", "rt ci"): ".ci/run",
-    ("README.md", "PREFIX=$PWD/usr capi/install.sh"): "capi/check.sh does so in a folder of its own",
-    ("README.md", "mkdir from_c"): "capi/check.sh does so in a folder of its own",
+    ("README.md", "mg-lock "): "capi/tests/mg_lock.py, over a folder of its own",
     ("docs/OPERATIONS.md", "ln -s /dev/disk/"): "tests/devices.sh, with loop devices",
     ("docs/OPERATIONS.md", "dlm format images 3 64 7"): "tests/devices.sh, with loop devices",
     ("docs/OPERATIONS.md", "mkdir /var/lib/dlm/shared"): "tests/machines.sh, with loop devices in the place of LUNs",
@@ -23,10 +20,15 @@ KNOWN = {
     ("docs/OPERATIONS.md", "dlm-shared "): "tests/machines.sh, with loop devices in the place of LUNs",
     ("docs/OPERATIONS.md", "mkdir a b && echo"): "tests/machines.sh",
     ("docs/OPERATIONS.md", "for k in 0 1 2; do truncate"): "tests/machines.sh",
-    ("docs/OPERATIONS.md", "rust: let found = find_folder"): "crates/host_tests/src/folders.rt makes such calls",
     ("docs/OPERATIONS.md", "rust: let waits = host.submit"): "crates/host_tests/src/folders.rt makes such calls",
     ("docs/OPERATIONS.md", "mg-lock "): "capi/tests/mg_lock.py, over a folder of its own",
+    ("docs/OPERATIONS.md", "groupadd dlm"): "tests/users.sh, with numbers in the place of a group and its users",
+    ("docs/OPERATIONS.md", "mkdir /var/lib/dlm && chgrp"): "tests/users.sh, below a folder of its own",
+    ("docs/OPERATIONS.md", "(umask 007; "): "tests/users.sh, below a folder of its own",
     ("docs/OPERATIONS.md", "ini: [Unit]"): "nothing: systemd-analyze verify, by hand",
+    ("docs/OPERATIONS.md", "ini: # backup.timer"): "nothing: no service manager is started",
+    ("docs/OPERATIONS.md", "ini: # only.service"): "nothing: no service manager is started",
+    ("docs/OPERATIONS.md", "ini: # dlm-recover.service"): "nothing: no service manager is started",
 }
 # Of these each line is a command; a block in another language is told once, by its first line.
 SHELLS = ("", "sh", "bash")

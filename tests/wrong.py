@@ -7,7 +7,7 @@
     wrong.py put            puts a copy of each edit that is due into must-fail/, where `rt ci` tries it
     wrong.py back           takes these copies out again
 
-A crate is due where its src/, specs/, proofs/ or wrong/ differ from what wrong/tried says was tried. In turn, one crate in twelve is due each day,
+A crate is due where its src/, specs/, proofs/ or wrong/ differ from what wrong/tried says was tried, but for lines that are comments. In turn, one crate in twelve is due each day,
 for a change of the crates below it could let a wrong body through. With WRONG=all in the environment each crate is due.
 """
 import datetime
@@ -47,11 +47,16 @@ def files_of(crate):
     yield from (f"wrong/{name}" for name in edits_of(crate))
 
 
+def checked_text(path, text):
+    """What the checker sees of a file: all lines but those that are comments, and those in which nothing stands."""
+    comment = {".rt": "//", ".antt": "--"}.get(os.path.splitext(path)[1])
+    return [line for line in text.split("\n") if comment is None or line.strip() and not line.lstrip().startswith(comment)]
+
+
 def sum_of(crate):
     found = hashlib.sha256(crate.encode())
     for path in files_of(crate):
-        with open(f"{TOP}/crates/{crate}/{path}", "rb") as it:
-            found.update(repr((path, it.read())).encode())
+        found.update(repr((path, checked_text(path, text_of(f"{TOP}/crates/{crate}/{path}")))).encode())
     return found.hexdigest()
 
 

@@ -73,6 +73,17 @@ for part in src/lib.rt specs/Lib.antt proofs/Lib.antt; do
     echo 'one two' > "$work/crates/b/$part"
     expect "$part is as it was"
 done
+# A comment is nothing that the checker sees; what looks like one of the other kind of file is none.
+printf '// a comment\n\none two\n    /// another\n' > "$work/crates/b/src/lib.rt"
+printf -- '-- a comment\none two\n' | tee -- "$work/crates/b/specs/Lib.antt" > "$work/crates/b/proofs/Lib.antt"
+expect "comments were added"
+printf -- '-- a comment\none two\n' > "$work/crates/b/src/lib.rt"
+expect "a line that is no comment in code" b
+printf '// a comment\none two\n' > "$work/crates/b/specs/Lib.antt"
+echo 'one two' > "$work/crates/b/src/lib.rt"
+expect "a line that is no comment in a definition" b
+echo 'one two' | tee -- "$work/crates/b/"{specs,proofs}/Lib.antt > /dev/null
+expect "without comments it is as it was"
 echo 'one two' > "$work/crates/b/src/more.rt"
 expect "a file was added" b
 rm -- "$work/crates/b/src/more.rt"
