@@ -45,23 +45,6 @@ class Round:
         self.tries = []
         self.typical = 0.005               # how long a process took, lately
 
-    def words(self, rng, loop, number, own):
-        """What a loop submits next: by two client numbers of its own, on three shared names."""
-        client = loop * 2 + rng.randrange(2)
-        kind = rng.random()
-        if own and kind < 0.45:
-            lock = rng.choice(sorted(own))
-            word = rng.choice(["release", "release", "release", "cancel", "status", "convert"])
-            words = [word, str(client if word == "status" else own[lock]), str(number), str(lock)]
-            if word == "convert":
-                words.append(rng.choice(lock_log.MODES))
-            if word == "release":
-                del own[lock]
-            return words
-        lock = loop * 1000 + number
-        own[lock] = client
-        return ["enqueue", str(client), str(number), str(lock), rng.choice(lock_log.MODES), rng.choice(["db", "log", "x"])]
-
     def loop(self, loop):
         host = 0 if self.given.same else self.numbers[loop]
         rng = random.Random(self.random.random() + loop)
@@ -72,7 +55,7 @@ class Round:
                 words = again
             else:
                 number += 1
-                words, tries = self.words(rng, loop, number, own), 0
+                words, tries = lock_log.next_words(rng, loop, number, own), 0
             tries += 1
             command = [self.given.program, "submit", self.folder, str(host), *words]
             start = time.monotonic()

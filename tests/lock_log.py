@@ -36,6 +36,23 @@ def built_shim(folder):
     return shim
 
 
+def next_words(rng, loop, number, own):
+    """What a loop of submissions submits next: by two client numbers of its own, on three shared names. `own` has its locks, with their clients."""
+    client = loop * 2 + rng.randrange(2)
+    if own and rng.random() < 0.45:
+        lock = rng.choice(sorted(own))
+        word = rng.choice(["release", "release", "release", "cancel", "status", "convert"])
+        words = [word, str(client if word == "status" else own[lock]), str(number), str(lock)]
+        if word == "convert":
+            words.append(rng.choice(MODES))
+        if word == "release":
+            del own[lock]
+        return words
+    lock = loop * 1000 + number
+    own[lock] = client
+    return ["enqueue", str(client), str(number), str(lock), rng.choice(MODES), rng.choice(["db", "log", "x"])]
+
+
 # THE BYTES
 
 HOSTS = 16

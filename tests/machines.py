@@ -118,21 +118,6 @@ class Round:
 
     # WHAT HOSTS DO
 
-    def words(self, rng, loop, number, own):
-        client = loop * 2 + rng.randrange(2)
-        if own and rng.random() < 0.45:
-            lock = rng.choice(sorted(own))
-            word = rng.choice(["release", "release", "release", "cancel", "status", "convert"])
-            words = [word, str(client if word == "status" else own[lock]), str(number), str(lock)]
-            if word == "convert":
-                words.append(rng.choice(lock_log.MODES))
-            if word == "release":
-                del own[lock]
-            return words
-        lock = loop * 1000 + number
-        own[lock] = client
-        return ["enqueue", str(client), str(number), str(lock), rng.choice(lock_log.MODES), rng.choice(["db", "log", "x"])]
-
     def loop(self, host):
         rng = random.Random(self.random.random() + host)
         number, own, again = 0, {}, None
@@ -140,7 +125,7 @@ class Round:
             words = again
             if not words:
                 number += 1
-                words = self.words(rng, host, number, own)
+                words = lock_log.next_words(rng, host, number, own)
             start = time.monotonic()
             process = subprocess.Popen([self.given.program, "submit", self.folder_of(host), str(host), *words], stdout=subprocess.PIPE,
                                        stderr=subprocess.PIPE, text=True, env=self.given.env)

@@ -16,41 +16,9 @@ import random
 import shutil
 import subprocess
 import sys
-import tempfile
 import time
 
-TOP = os.path.dirname(os.path.dirname(os.path.realpath(__file__)))
-PROGRAM = os.path.join(TOP, "crates/dlm/out/dlm")
-TESTS = []
-
-
-def test(function):
-    """Adds a test, which runs in an empty folder of its own."""
-    TESTS.append(function)
-    return function
-
-
-class Differs(Exception):
-    """What was wanted, and what came."""
-
-
-def wants(what, got, wanted):
-    if got != wanted:
-        raise Differs(f"{what}: {got!r}, wanted {wanted!r}")
-
-
-def run(text):
-    """The status, the output and what was told, of words parted by single spaces."""
-    ended = subprocess.run([PROGRAM, *text.split(" ")], stdin=subprocess.DEVNULL, capture_output=True, check=False, text=True)
-    return ended.returncode, ended.stdout, ended.stderr
-
-
-def prints(text, printed):
-    wants(f"`{text}`", run(text), (0, printed, ""))
-
-
-def refused(text, told):
-    wants(f"`{text}`", run(text), (1, "", told))
+from folder_tests import PROGRAM, prints, refused, run, run_tests, test, wants
 
 
 # THE FIRST LAYOUT
@@ -571,25 +539,8 @@ def main():
     parser = argparse.ArgumentParser()
     parser.add_argument("--kills", type=int, default=0)
     kills = parser.parse_args().kills
-    if not os.access(PROGRAM, os.X_OK):
-        print("migrate.py: dlm is not built")
-        return 1
-    tests = [(function.__name__, function) for function in TESTS]
-    if kills > 0:
-        tests.append(("kill", lambda: kill(kills)))
-    wrong = 0
-    for name, function in tests:
-        # Not in memory: there a migration is over before it is killed.
-        with tempfile.TemporaryDirectory() as folder:
-            os.chdir(folder)
-            try:
-                function()
-            except Differs as difference:
-                print(f"{name}: {difference}")
-                wrong += 1
-            os.chdir(TOP)
-    print(f"migrate.py: {len(tests)} tests, {wrong} wrong")
-    return 1 if wrong else 0
+    # No folder is in memory: there a migration is over before it is killed.
+    return run_tests(__file__, [("kill", lambda: kill(kills))] if kills > 0 else [])
 
 
 if __name__ == "__main__":

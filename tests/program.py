@@ -10,48 +10,12 @@ import os
 import shutil
 import subprocess
 import sys
-import tempfile
 
-TOP = os.path.dirname(os.path.dirname(os.path.realpath(__file__)))
-PROGRAM = os.path.join(TOP, "crates/dlm/out/dlm")
-TESTS = []
+from folder_tests import PROGRAM, ends, prints, refused, run_tests, test, usage, wants
 
 
-def test(function):
-    """Adds a test, which runs in an empty folder of its own."""
-    TESTS.append(function)
-    return function
-
-
-class Differs(Exception):
-    """What was wanted, and what came."""
-
-
-def wants(what, got, wanted):
-    if got != wanted:
-        raise Differs(f"{what}: {got!r}, wanted {wanted!r}")
-
-
-def run(words, **more):
+def start(words, **more):
     return subprocess.run([PROGRAM, *words], stdin=subprocess.DEVNULL, stderr=subprocess.PIPE, check=False, text=True, **more)
-
-
-def ends(text, status, printed, told):
-    """Words, parted by single spaces, end with this status, print the one text and tell the other."""
-    ended = run(text.split(" "), stdout=subprocess.PIPE)
-    wants(f"`{text}`", (ended.returncode, ended.stdout, ended.stderr), (status, printed, told))
-
-
-def prints(text, printed):
-    ends(text, 0, printed, "")
-
-
-def refused(text, told):
-    ends(text, 1, "", told)
-
-
-def usage(text, told="dlm: usage\n"):
-    ends(text, 2, "", told)
 
 
 def put_byte(path, at, byte):
@@ -283,7 +247,7 @@ def one_process_a_host_number():
 
 @test
 def words_that_are_no_task():
-    wants("no words", run([], stdout=subprocess.PIPE).returncode, 2)
+    wants("no words", start([], stdout=subprocess.PIPE).returncode, 2)
     for text in ("run", "run a b", "RUN a", "help", "-V", "run -h", "run -", "-- run a", "race", "race 0", "race 17", "race 01", "race 1 2"):
         usage(text)
     for text in ("format d 3 16", "format d 0 16 7", "format d 8 16 7", "format d 3 4097 7", "format d 3 16 18446744073709551616",
@@ -293,7 +257,7 @@ def words_that_are_no_task():
         usage(text)
     for text in ("submit no/such 0", "submit no/such 0 release 1 1", "submit no/such 0 release 1 1 1 "):
         usage(text, "dlm: bad command\n")
-    ended = run(["submit", "no/such", "0", "release", "1", "1 1"], stdout=subprocess.PIPE)
+    ended = start(["submit", "no/such", "0", "release", "1", "1 1"], stdout=subprocess.PIPE)
     wants("a word with a space", (ended.returncode, ended.stdout, ended.stderr), (2, "", "dlm: bad command\n"))
     refused("submit no/such 0 release 1 1 1", "dlm: 26 Unreadable disk0\n")
     refused("run no/such/script", "dlm: 26 Unreadable\n")
@@ -417,7 +381,7 @@ def copies_of_beats():
 def races():
     prints("race 1", "host 0 ack 0 Granted\nagree\n")
     # Three lines by rising host, whoever was first, and that they agree.
-    ended = run(["race", "3"], stdout=subprocess.PIPE)
+    ended = start(["race", "3"], stdout=subprocess.PIPE)
     lines = ended.stdout.split("\n")
     wants("race 3", (ended.returncode, ended.stderr, len(lines), lines[3:]), (0, "", 5, ["agree", ""]))
     for host, line in enumerate(lines[:3]):
@@ -429,26 +393,8 @@ def output_that_takes_nothing():
     with open("script", "w", encoding="ascii") as file:
         file.write("cluster 1 4\nstart 0\nsubmit 0 1 enqueue 1 1 10 EX db\nstep 0 17\n")
     with open("/dev/full", "wb") as full:
-        ended = run(["run", "script"], stdout=full)
+        ended = start(["run", "script"], stdout=full)
     wants("a full device", (ended.returncode, ended.stderr), (1, ""))
 
 
-def main():
-    if not os.access(PROGRAM, os.X_OK):
-        print("program.py: dlm is not built")
-        return 1
-    wrong = 0
-    for function in TESTS:
-        with tempfile.TemporaryDirectory() as folder:
-            os.chdir(folder)
-            try:
-                function()
-            except Differs as difference:
-                print(f"{function.__name__}: {difference}")
-                wrong += 1
-            os.chdir(TOP)
-    print(f"program.py: {len(TESTS)} tests, {wrong} wrong")
-    return 1 if wrong else 0
-
-
-sys.exit(main())
+sys.exit(run_tests(__file__))

@@ -28,49 +28,16 @@ import sys
 import tempfile
 import time
 
+import folder_tests
 import lock_log
+from folder_tests import TOP, prints, refused, run, run_tests, test, usage, wants
 
-TOP = os.path.dirname(os.path.dirname(os.path.realpath(__file__)))
-PROGRAM = os.path.join(TOP, "crates/dlm/out/dlm")
+PROGRAM = folder_tests.PROGRAM
 MEMORY = "/dev/shm" if os.access("/dev/shm", os.W_OK) else None
 SLOTS = 16
 CLIENTS = range(1, 5)
 LOCKS = range(1, 6)
 MODES = ["NL", "CR", "CW", "PR", "PW", "EX"]
-TESTS = []
-
-
-def test(function):
-    """Adds a test, which runs in an empty folder of its own."""
-    TESTS.append(function)
-    return function
-
-
-class Differs(Exception):
-    """What was wanted, and what came."""
-
-
-def wants(what, got, wanted):
-    if got != wanted:
-        raise Differs(f"{what}: {got!r}, wanted {wanted!r}")
-
-
-def run(text):
-    """The status, the output and what was told, of words parted by single spaces."""
-    ended = subprocess.run([PROGRAM, *text.split(" ")], stdin=subprocess.DEVNULL, capture_output=True, check=False, text=True)
-    return ended.returncode, ended.stdout, ended.stderr
-
-
-def prints(text, printed):
-    wants(f"`{text}`", run(text), (0, printed, ""))
-
-
-def refused(text, told):
-    wants(f"`{text}`", run(text), (1, "", told))
-
-
-def usage(text):
-    wants(f"`{text}`", run(text), (2, "", "dlm: usage\n"))
 
 
 def bytes_of(path):
@@ -1026,30 +993,16 @@ def main():
     parser.add_argument("--kills", type=int, default=0)
     parser.add_argument("--long", type=int, default=0)
     given = parser.parse_args()
-    PROGRAM = os.path.realpath(given.program)
-    if not os.access(PROGRAM, os.X_OK):
-        print("renew.py: dlm is not built")
-        return 1
+    PROGRAM = folder_tests.PROGRAM = os.path.realpath(given.program)
     seed = random.randrange(1 << 32)
     random.seed(seed)
-    tests = [(function.__name__, function) for function in TESTS]
+    more = []
     if given.kills > 0:
-        tests.append(("kill", lambda: kill(given.kills)))
+        more.append(("kill", lambda: kill(given.kills)))
     if given.long > 0:
-        tests.append(("long", lambda: long(given.long)))
-    wrong = 0
-    for name, function in tests:
-        # Kills are not in memory: there a renewal is over before it is killed.
-        with tempfile.TemporaryDirectory(dir=None if name == "kill" else MEMORY) as folder:
-            os.chdir(folder)
-            try:
-                function()
-            except Differs as difference:
-                print(f"{name}, of seed {seed}: {difference}")
-                wrong += 1
-            os.chdir(TOP)
-    print(f"renew.py: {len(tests)} tests, {wrong} wrong")
-    return 1 if wrong else 0
+        more.append(("long", lambda: long(given.long)))
+    # Kills are not in memory: there a renewal is over before it is killed.
+    return run_tests(__file__, more, lambda name: None if name == "kill" else MEMORY, f", of seed {seed}")
 
 
 if __name__ == "__main__":
