@@ -2,8 +2,7 @@
 use Rattle.std.specs.Prelude.{◌&&◌, not, is_some, nat_lt, if◌then◌else◌}
 use Rattle.slot_log.specs.declared.outcome.Refusal.TheVariants as refusal
 use Rattle.host.specs.declared.answer.HostAnswer.TheVariants.{Looked, Refused}
-use Rattle.std.proofs.Common.{ℕ, ◌*◌, ◌<◌, ◌≤◌, ◌≡◌, Bool, true, false, Option, Some, None, List, [], ◌∷◌, ◌++◌, length, refl, sym, subst, ap, ◌∙◌, inl, inr}
-use Rattle.std.proofs.lemmas.Bool.{eqb-true, cases_Bool}
+use Rattle.std.proofs.Common.{ℕ, ◌*◌, ◌<◌, ◌≤◌, ◌≡◌, Bool, true, false, Option, Some, None, List, [], ◌∷◌, ◌++◌, length, refl, sym, subst, ap, ◌∙◌}
 use Rattle.disk.specs.Disk.{Call, Answer}
 use Rattle.beats.specs.Answers.{Answered, on, heard_as}
 use Rattle.beats.specs.History.{Fits, IsAnswerTo, IsHistory}
@@ -17,13 +16,12 @@ use Rattle.beats.proofs.Histories as histories
 use Rattle.attempt.proofs.Hearing.{history_more}
 use Rattle.beats.proofs.Histories.{fits_too, starts}
 use Rattle.slot_log.specs.Shape.{Shape}
-use Rattle.host.specs.Host.{Operation, Submitting, Recovering, Doing, Memory, Host, Stopped, Running, Marking, Looking, learns, hears_apart, hears_look, look_of, look_by, looking_with, looks_on, takes_marked, with_looking, next_look, hears_from, hears_beside, hears_marking, marking_by, marking_with, marking_of, with_marking, beat_by, beat_of, is_idle, is_idle_in, next_beside, next_marking, next_doing, next_of}
+use Rattle.host.specs.Host.{Operation, Doing, Memory, Running, Marking, Looking, goes_on, starts_beat, starts_marking, learns, hears_apart, hears_look, look_of, look_by, looking_with, looks_on, takes_marked, with_looking, next_look, hears_from, hears_beside, hears_marking, marking_by, marking_with, marking_of, with_marking, beat_by, beat_of, is_idle, is_idle_in, next_beside, next_marking, next_doing, next_of}
 use Rattle.host.proofs.Hosts.{beats-goes_on, beats_heard}
-use Rattle.world.specs.Entry.{Filled, Start, Stop, Submit, Recover, Look, Beat, Mark, Called, Torn, Crashed, Lost, Migrated, is_of, host_step, started, beats, marks, looks, begins_on}
-use Rattle.world.specs.World.{World, world, MayBegin, IsRun}
-use Rattle.world.proofs.Histories.{step_fits, has_call}
-use Rattle.world.proofs.Projections.{host_here, host_there}
-use Rattle.world.proofs.Runs.{by_run}
+use Rattle.world.specs.Entry.{Filled, beats}
+use Rattle.world.specs.World.{world, IsRun}
+use Rattle.world.proofs.Enduring.{On, Endures, endures}
+use Rattle.world.proofs.Histories.{has_call}
 use Rattle.world.proofs.Markings.{marking_call}
 use Rattle.world.proofs.Looking.{look_call}
 
@@ -38,76 +36,68 @@ module _ (c : Shape) (h : ℕ) where
   IsBeating None = Unit {0}
   IsBeating (Some heard) = IsUnderWay (beat_of c h) heard
 
-  abbrev IsHeard : Host → Type 0
-  IsHeard Stopped = Unit {0}
-  IsHeard (Running m) = IsBeating m.beats.heard
+  abbrev IsHeard : Memory → Type 0
+  IsHeard m = IsBeating m.beats.heard
 
   -- so it is where a beat begins
-  begun : (old : Host) → IsHeard (beats old)
-  begun Stopped = tt
-  begun (Running m) = record { history = tt; due = λ some. (0, starts (beat_of c h) some) }
+  begun : (m : Memory) → IsHeard (starts_beat m)
+  begun m = record { history = tt; due = λ some. (0, starts (beat_of c h) some) }
 
   -- or another operation
-  operated : (old : Host) (operation : Operation) (tries : ℕ) → IsHeard old → IsHeard (begins_on c old operation tries)
-  operated Stopped operation tries is = tt
-  operated (Running m) operation tries is = subst (λ (b : _). IsBeating b.heard) (sym (beats-goes_on c m operation tries)) is
+  operated : (m : Memory) (operation : Operation) (tries : ℕ) → IsHeard m → IsHeard (goes_on c m operation tries)
+  operated m operation tries is = subst (λ (b : _). IsBeating b.heard) (sym (beats-goes_on c m operation tries)) is
 
   -- and behind an answer to the call that was due
-  goes : (m : Memory) (heard : List Answered) (st : Status) → status (beat_of c h) (on heard) ≡ st → IsHistory (beat_of c h) heard → IsHeard (Running (beat_by h m heard st))
+  goes : (m : Memory) (heard : List Answered) (st : Status) → status (beat_of c h) (on heard) ≡ st → IsHistory (beat_of c h) heard → IsHeard (beat_by h m heard st)
   goes m heard (Due d) now is = record { history = is; due = λ some. (d, now) }
   goes m heard (Ended (Beaten readings)) now is = tt
   goes m heard (Ended NoMajority) now is = tt
 
   -- a marking leaves beats as they were
-  marking_by_stays : (m : Memory) (t : Marking) (st : mark.Status) → IsBeating m.beats.heard → IsHeard (Running (marking_by m t st))
+  marking_by_stays : (m : Memory) (t : Marking) (st : mark.Status) → IsBeating m.beats.heard → IsHeard (marking_by m t st)
   marking_by_stays m t (mark.Due disk) is = is
   marking_by_stays m t (mark.Ended (mark.Marked count)) is = is
   marking_by_stays m t (mark.Ended mark.NoMajority) is = is
 
-  marking_stays : (m : Memory) (o : Option Marking) (x : attempt.Answered) → IsBeating m.beats.heard → IsHeard (Running (hears_marking c h m o x))
+  marking_stays : (m : Memory) (o : Option Marking) (x : attempt.Answered) → IsBeating m.beats.heard → IsHeard (hears_marking c h m o x)
   marking_stays m None x is = is
   marking_stays m (Some t) x is = marking_by_stays m (marking_with t x) (mark.status (marking_of c h m t.slot) (attempt.on (marking_with t x).heard)) is
 
   -- and so does a look
-  looked_on : (m : Memory) (first : ℕ) → IsBeating m.beats.heard → IsHeard (Running (looks_on c m first))
+  looked_on : (m : Memory) (first : ℕ) → IsBeating m.beats.heard → IsHeard (looks_on c m first)
   looked_on m first is = go (nat_lt (length m.learned) c.slots)
     where
-      go : (b : Bool) → IsHeard (Running (if b then with_looking m (Some (record { first = first; heard = [] })) None else with_looking m None (Some (Looked (length m.learned)))))
+      go : (b : Bool) → IsHeard (if b then with_looking m (Some (record { first = first; heard = [] })) None else with_looking m None (Some (Looked (length m.learned))))
       go true = is
       go false = is
 
-  look_took : (m : Memory) (d : ℕ) (o : Option Command) → IsBeating m.beats.heard → IsHeard (Running (takes_marked c m d o))
+  look_took : (m : Memory) (d : ℕ) (o : Option Command) → IsBeating m.beats.heard → IsHeard (takes_marked c m d o)
   look_took m d None is = is
   look_took m d (Some command) is = looked_on (learns m command) d is
 
-  look_by_stays : (m : Memory) (t : Looking) (st : look.Status) → IsBeating m.beats.heard → IsHeard (Running (look_by c m t st))
+  look_by_stays : (m : Memory) (t : Looking) (st : look.Status) → IsBeating m.beats.heard → IsHeard (look_by c m t st)
   look_by_stays m t (look.Due disk) is = is
   look_by_stays m t (look.Ended (look.Decided disk value)) is = look_took m disk (decoded value) is
   look_by_stays m t (look.Ended look.Unmarked) is = is
   look_by_stays m t (look.Ended look.NoMajority) is = is
 
-  look_stays : (m : Memory) (o : Option Looking) (x : attempt.Answered) → IsBeating m.beats.heard → IsHeard (Running (hears_look c m o x))
+  look_stays : (m : Memory) (o : Option Looking) (x : attempt.Answered) → IsBeating m.beats.heard → IsHeard (hears_look c m o x)
   look_stays m None x is = is
   look_stays m (Some t) x is = look_by_stays m (looking_with t x) (look.status (look_of c m t.first) (attempt.on (looking_with t x).heard)) is
 
-  apart_stays : (m : Memory) (o : Option Marking) (x : attempt.Answered) → IsBeating m.beats.heard → IsHeard (Running (hears_apart c h m o x))
+  apart_stays : (m : Memory) (o : Option Marking) (x : attempt.Answered) → IsBeating m.beats.heard → IsHeard (hears_apart c h m o x)
   apart_stays m None x is = look_stays m m.looking x is
   apart_stays m (Some t) x is = marking_stays m (Some t) x is
 
-  look_begun : (old : Host) → IsHeard old → IsHeard (looks c old)
-  look_begun Stopped is = tt
-  look_begun (Running m) is = looked_on m 0 is
-
-  marking_begun : (old : Host) (slot : ℕ) → IsHeard old → IsHeard (marks old slot)
-  marking_begun Stopped slot is = tt
-  marking_begun (Running m) slot is = go (nat_lt slot (length m.learned))
+  marking_begun : (m : Memory) (slot : ℕ) → IsHeard m → IsHeard (starts_marking m slot)
+  marking_begun m slot is = go (nat_lt slot (length m.learned))
     where
-      go : (b : Bool) → IsHeard (Running (if b then with_marking m (Some (record { slot = slot; heard = [] })) None else with_marking m m.marking (Some (Refused refusal.NotLearned))))
+      go : (b : Bool) → IsHeard (if b then with_marking m (Some (record { slot = slot; heard = [] })) None else with_marking m m.marking (Some (Refused refusal.NotLearned)))
       go true = is
       go false = is
 
   beat_heard : (m : Memory) (o : Option (List Answered)) → m.beats.heard ≡ o → (k : ℕ) (call : Call) (answer : Answer) → next_beside c h m o ≡ Some (k, call) → Fits call (heard_as answer) → IsBeating o
-      → IsHeard (Running (hears_beside c h m o k answer))
+      → IsHeard (hears_beside c h m o k answer)
   beat_heard m None none k call answer next fits is = apart_stays m m.marking (record { disk = k; heard = attempt.heard_as answer }) (subst IsBeating (sym none) tt)
   beat_heard m (Some heard) same k call answer next fits is =
       let s = beat_of c h in
@@ -115,48 +105,28 @@ module _ (c : Shape) (h : ℕ) where
       goes m (heard ++ x ∷ []) (status s (on (heard ++ x ∷ []))) refl
       (history_more (next_call s) heard x is.history (subst (λ (o : Option (ℕ × Call)). IsAnswerTo o x) (sym next) (refl, fits)))
 
-  heard_from : (m : Memory) (o : Option Doing) → m.doing ≡ o → (k : ℕ) (call : Call) (answer : Answer) → next_doing c h m o ≡ Some (k, call) → Fits call (heard_as answer) → IsBeating m.beats.heard → IsHeard (Running (hears_from c h m o k answer))
+  heard_from : (m : Memory) (o : Option Doing) → m.doing ≡ o → (k : ℕ) (call : Call) (answer : Answer) → next_doing c h m o ≡ Some (k, call) → Fits call (heard_as answer) → IsBeating m.beats.heard → IsHeard (hears_from c h m o k answer)
   heard_from m None none k call answer next fits is = beat_heard m m.beats.heard refl k call answer next fits is
   heard_from m (Some t) does k call answer next fits is = subst (λ (b : _). IsBeating b.heard) (sym (beats_heard c h m (Some t) _)) is
 
-  heard_on : (old : Host) (k : ℕ) (call : Call) (answer : Answer) → next_of c h old ≡ Some (k, call) → Fits call (heard_as answer) → IsHeard old → (left : List ℕ) → IsHeard (host_step c h old (Called h k call answer left))
-  heard_on Stopped k call answer next fits is left = tt
-  heard_on (Running m) k call answer next fits is left = heard_from m m.doing refl k call answer next fits is
-
-  start_heard : (old : Host) → IsHeard old → IsHeard (started old)
-  start_heard Stopped is = tt
-  start_heard (Running m) is = is
-
-  -- an entry of the host keeps it so
-  step_heard : (w : World) (e : Filled) → is_of h e ≡ true → MayBegin c w e → IsHeard (w.host h) → IsHeard (host_step c h (w.host h) e)
-  step_heard w (Start g) of m is = start_heard (w.host h) is
-  step_heard w (Stop g) of m is = tt
-  step_heard w (Submit g command tries) of m is = operated (w.host h) (Submitting command) tries is
-  step_heard w (Recover g tries) of m is = operated (w.host h) Recovering tries is
-  step_heard w (Look g) of m is = look_begun (w.host h) is
-  step_heard w (Beat g) of m is = begun (w.host h)
-  step_heard w (Mark g slot) of m is = marking_begun (w.host h) slot is
-  step_heard w (Called g k call answer left) of m is =
-      let next : next_of c h (w.host h) ≡ Some (k, call) = subst (λ (i : ℕ). next_of c i (w.host i) ≡ Some (k, call)) (eqb-true g h of) m.0 in
-      heard_on (w.host h) k call answer next (fits_too call answer (step_fits (w.disk k) _ call answer m.1)) is left
-  step_heard w (Torn g k call left) of m is = tt
-  step_heard w (Crashed k left) of m is = absurd (cc)
-  step_heard w (Lost k) of m is = absurd (cc)
-  step_heard w (Migrated disks log) of m is = absurd (cc)
+  enduring : Endures c h IsHeard
+  enduring =
+      record {
+        at_first = tt;
+        operated = λ m operation tries idle is. operated m operation tries is;
+        looking = λ m idle is. looked_on m 0 is;
+        beating = λ m idle is. begun m;
+        marking = λ m slot idle is. marking_begun m slot is;
+        answered = λ m k call answer next fits is. heard_from m m.doing refl k call answer next (fits_too call answer fits) is;
+      }
 
 -- every beat of a run has heard a history
-run_heard : (c : Shape) (log : List Filled) → IsRun c log → (h : ℕ) → IsHeard c h ((world c log).host h)
-run_heard c log run =
-    by_run c (λ (l : List Filled). (h : ℕ) → IsHeard c h ((world c l).host h)) (λ h. tt)
-    (λ l e may is h. elim (cases_Bool (is_of h e)) [
-      | inl of ↦ subst (IsHeard c h) (sym (host_here c l e h of)) (step_heard c h (world c l) e of may (is h))
-      | inr off ↦ subst (IsHeard c h) (sym (host_there c l e h off)) (is h)
-    ])
-    log run
+run_heard : (c : Shape) (log : List Filled) → IsRun c log → (h : ℕ) → On (IsHeard c h) ((world c log).host h)
+run_heard c log run = endures c (IsHeard c) (enduring c) log run
 
 module _ (c : Shape) (log : List Filled) (h : ℕ) (m : Memory) where
   under_way : (heard : List Answered) → IsRun c log → (world c log).host h ≡ Running m → m.beats.heard ≡ Some heard → IsUnderWay (beat_of c h) heard
-  under_way heard run running beats = subst (IsBeating c h) beats (subst (IsHeard c h) running (run_heard c log run h))
+  under_way heard run running beats = subst (IsBeating c h) beats (subst (On (IsHeard c h)) running (run_heard c log run h))
 
   pub history : (heard : List Answered) → IsRun c log → (world c log).host h ≡ Running m → m.beats.heard ≡ Some heard → IsHistory (beat_of c h) heard
   history heard run running beats = (under_way heard run running beats).history

@@ -1,9 +1,8 @@
 -- In a run each host's attempt has heard a history, and what it ends committed with is chosen.
 use Rattle.std.specs.Prelude.{not, nat_lt, nat_le, is_some, if◌then◌else◌}
 use Rattle.std.proofs.Common.{ℕ, zero, suc, ◌*◌, ◌-◌, ◌<◌, ◌≤◌, ◌≡◌, Bool, true, false, Option, Some, None, List, [], ◌∷◌, ◌++◌, length, take, refl, sym, subst, ap, ◌∙◌, arith}
-use Rattle.std.proofs.lemmas.Bool.{eqb-true, cases_Bool, ltb-false, lt-ltb, le-ltb}
-use Rattle.std.proofs.Common.{inl, inr}
-use Rattle.disk.specs.Disk.{DiskState, Call, Attach, Read, Write, Sync, Answer, Booted, Told, Done, Fault, Step, success_of}
+use Rattle.std.proofs.lemmas.Bool.{ltb-false, lt-ltb, le-ltb}
+use Rattle.disk.specs.Disk.{Call, Answer}
 use Rattle.attempt.specs.Answers.{Answered, Answers, on, heard_as, row_in}
 use Rattle.attempt.specs.Setup.{Setup}
 use Rattle.attempt.specs.Status.{Status, Due, Ended, End, Committed, Decided, Empty, Outrun, NoMajority, BallotsSpent, status, taken}
@@ -30,33 +29,16 @@ use Rattle.lock_command.specs.Reading.{decoded}
 use Rattle.slot_log.specs.Shape.{Shape}
 use Rattle.slot_log.specs.declared.outcome.Refusal.TheVariants as refusal
 use Rattle.host.specs.declared.answer.HostAnswer.TheVariants.{Looked, Refused}
-use Rattle.host.specs.Host.{Operation, Submitting, Recovering, Doing, Looking, Memory, Host, Stopped, Running, setup_of, says, begins, full_answer, goes_on, is_submitted, after_learning, learns, takes, tries_again, ended, by_status, with_heard, with_floor, hears, next_doing, next_of, hears_from, hears_beside, hears_beat, beat_by, beat_of, Marking, marking_by, marking_with, marking_of, hears_marking, with_marking, hears_apart, hears_look, look_of, look_by, looking_with, looks_on, takes_marked, with_looking}
+use Rattle.host.specs.Host.{Operation, Doing, Looking, Memory, Host, Running, starts_marking, setup_of, says, begins, full_answer, goes_on, is_submitted, after_learning, learns, takes, tries_again, ended, by_status, with_heard, with_floor, hears, next_doing, next_of, hears_from, hears_beside, hears_beat, beat_by, beat_of, Marking, marking_by, marking_with, marking_of, hears_marking, with_marking, hears_apart, hears_look, look_of, look_by, looking_with, looks_on, takes_marked, with_looking}
 use Rattle.beats.specs.Answers as beat_answers
 use Rattle.beats.specs.Status as beat
 use Rattle.marks.specs.Status as mark
 use Rattle.looks.specs.Status as look
-use Rattle.world.specs.Entry.{Filled, Start, Stop, Submit, Recover, Look, Beat, Mark, Called, Torn, Crashed, Lost, Migrated, is_of, host_step, started, beats, marks, looks, begins_on}
-use Rattle.world.specs.World.{World, world, MayBegin, IsRun}
-use Rattle.world.proofs.Projections.{host_here, host_there}
+use Rattle.world.specs.Entry.{Filled}
+use Rattle.world.specs.World.{world, IsRun}
+use Rattle.world.proofs.Enduring.{On, Endures, endures, step_fits}
 use Rattle.world.specs.Chosen.{at, Hears, IsChosenAt}
-use Rattle.world.proofs.Runs.{by_run, beginning, each}
-
--- A STEP'S ANSWER FITS ITS CALL
-
-fits_success : (disk : DiskState) (call : Call) → Fits call (heard_as (success_of disk call))
-fits_success disk Attach = tt
-fits_success disk (Read boot at len) = tt
-fits_success disk (Write boot at from) = tt
-fits_success disk (Sync boot) = tt
-
-fits_by : (disk : DiskState) (call : Call) (answer : Answer) → answer ≡ success_of disk call → Fits call (heard_as answer)
-fits_by disk call answer is = subst (λ (a : Answer). Fits call (heard_as a)) (sym is) (fits_success disk call)
-
-pub step_fits : (disk new : DiskState) (call : Call) (answer : Answer) → Step disk call answer new → Fits call (heard_as answer)
-step_fits disk new call (Booted boot) step = fits_by disk call (Booted boot) step.2.0
-step_fits disk new call (Told bytes) step = fits_by disk call (Told bytes) step.2.0
-step_fits disk new call Done step = fits_by disk call Done step.2.0
-step_fits disk new call (Fault fault) step = tt
+use Rattle.world.proofs.Runs.{beginning, each}
 
 -- A CALL IS DUE
 
@@ -112,30 +94,29 @@ module _ (c : Shape) (h : ℕ) where
   IsHeardIn m None = Unit {0}
   IsHeardIn m (Some t) = IsUnderWay (setup_of c h m t.operation) t.heard
 
-  abbrev pub IsHeard : Host → Type 0
-  IsHeard Stopped = Unit {0}
-  IsHeard (Running m) = IsHeardIn m m.doing
+  abbrev IsHeard : Memory → Type 0
+  IsHeard m = IsHeardIn m m.doing
 
-  one_of : (b : Bool) (first other : Memory) → IsHeard (Running first) → IsHeard (Running other) → IsHeard (Running (if b then first else other))
+  one_of : (b : Bool) (first other : Memory) → IsHeard first → IsHeard other → IsHeard (if b then first else other)
   one_of true first other is_first is_other = is_first
   one_of false first other is_first is_other = is_other
 
   -- so it is where an attempt begins, or none is under way
-  begun : (m : Memory) (operation : Operation) (tries : ℕ) → IsHeard (Running (goes_on c m operation tries))
+  begun : (m : Memory) (operation : Operation) (tries : ℕ) → IsHeard (goes_on c m operation tries)
   begun m operation tries = one_of (nat_lt (length m.learned) c.slots) (begins m operation tries) (says m (full_answer operation (length m.learned))) (begins_so (setup_of c h m operation)) tt
 
-  tried : (m : Memory) (operation : Operation) (tries : ℕ) → IsHeard (Running (tries_again m operation tries))
+  tried : (m : Memory) (operation : Operation) (tries : ℕ) → IsHeard (tries_again m operation tries)
   tried m operation tries = one_of (nat_le tries 1) (says m (Refused refusal.Outrun)) (begins m operation (tries - 1)) tt (begins_so (setup_of c h m operation))
 
-  learned : (m : Memory) (t : Doing) (command : Command) (b : Bool) → IsHeard (Running (after_learning c m t command b))
+  learned : (m : Memory) (t : Doing) (command : Command) (b : Bool) → IsHeard (after_learning c m t command b)
   learned m t command true = tt
   learned m t command false = begun (learns m command) t.operation t.tries
 
-  took : (m : Memory) (t : Doing) (ballot : ℕ) (value : List ℕ) (o : Option Command) → IsHeard (Running (takes c m t ballot value o))
+  took : (m : Memory) (t : Doing) (ballot : ℕ) (value : List ℕ) (o : Option Command) → IsHeard (takes c m t ballot value o)
   took m t ballot value None = tt
   took m t ballot value (Some command) = learned m t command (is_submitted t.operation value)
 
-  over : (m : Memory) (t : Doing) (ballot : ℕ) (end : End) → IsHeard (Running (ended c m t ballot end))
+  over : (m : Memory) (t : Doing) (ballot : ℕ) (end : End) → IsHeard (ended c m t ballot end)
   over m t ballot (Committed value) = took m t ballot value (decoded value)
   over m t ballot (Decided value) = took m t ballot value (decoded value)
   over m t ballot Empty = tt
@@ -143,122 +124,89 @@ module _ (c : Shape) (h : ℕ) where
   over m t ballot NoMajority = tt
   over m t ballot BallotsSpent = tt
 
-  goes : (m : Memory) (t : Doing) (ballot : ℕ) (st : Status) → status (setup_of c h m t.operation) (on t.heard) ≡ st → IsHistory (setup_of c h m t.operation) t.heard → IsHeard (Running (by_status c m t ballot st))
+  goes : (m : Memory) (t : Doing) (ballot : ℕ) (st : Status) → status (setup_of c h m t.operation) (on t.heard) ≡ st → IsHistory (setup_of c h m t.operation) t.heard → IsHeard (by_status c m t ballot st)
   goes m t ballot (Due phase disk) now is = record { history = is; due = λ some. due_call (setup_of c h m t.operation) (on t.heard) phase disk now }
   goes m t ballot (Ended end) now is = over m t ballot end
 
   -- a beat has no attempt
-  beat_heard_by : (m : Memory) (heard : List beat_answers.Answered) (st : beat.Status) → IsHeard (Running (beat_by h m heard st))
+  beat_heard_by : (m : Memory) (heard : List beat_answers.Answered) (st : beat.Status) → IsHeard (beat_by h m heard st)
   beat_heard_by m heard (beat.Due disk) = tt
   beat_heard_by m heard (beat.Ended (beat.Beaten readings)) = tt
   beat_heard_by m heard (beat.Ended beat.NoMajority) = tt
 
-  beat_heard : (m : Memory) (o : Option (List beat_answers.Answered)) (x : beat_answers.Answered) → m.doing ≡ None → IsHeard (Running (hears_beat c h m o x))
+  beat_heard : (m : Memory) (o : Option (List beat_answers.Answered)) (x : beat_answers.Answered) → m.doing ≡ None → IsHeard (hears_beat c h m o x)
   beat_heard m None x none = subst (IsHeardIn m) (sym none) tt
   beat_heard m (Some heard) x none = beat_heard_by m (heard ++ x ∷ []) (beat.status (beat_of c h) (beat_answers.on (heard ++ x ∷ [])))
 
   -- nor has a marking
-  marking_heard_by : (m : Memory) (t : Marking) (st : mark.Status) → IsHeard (Running (marking_by m t st))
+  marking_heard_by : (m : Memory) (t : Marking) (st : mark.Status) → IsHeard (marking_by m t st)
   marking_heard_by m t (mark.Due disk) = tt
   marking_heard_by m t (mark.Ended (mark.Marked count)) = tt
   marking_heard_by m t (mark.Ended mark.NoMajority) = tt
 
-  marking_heard : (m : Memory) (o : Option Marking) (x : Answered) → m.doing ≡ None → IsHeard (Running (hears_marking c h m o x))
+  marking_heard : (m : Memory) (o : Option Marking) (x : Answered) → m.doing ≡ None → IsHeard (hears_marking c h m o x)
   marking_heard m None x none = subst (IsHeardIn m) (sym none) tt
   marking_heard m (Some t) x none = marking_heard_by m (marking_with t x) (mark.status (marking_of c h m t.slot) (on (marking_with t x).heard))
 
   -- nor has a look
-  looked_on : (m : Memory) (first : ℕ) → IsHeard (Running (looks_on c m first))
+  looked_on : (m : Memory) (first : ℕ) → IsHeard (looks_on c m first)
   looked_on m first = one_of (nat_lt (length m.learned) c.slots) (with_looking m (Some (record { first = first; heard = [] })) None) (with_looking m None (Some (Looked (length m.learned)))) tt tt
 
-  look_took : (m : Memory) (d : ℕ) (o : Option Command) → IsHeard (Running (takes_marked c m d o))
+  look_took : (m : Memory) (d : ℕ) (o : Option Command) → IsHeard (takes_marked c m d o)
   look_took m d None = tt
   look_took m d (Some command) = looked_on (learns m command) d
 
-  look_heard_by : (m : Memory) (t : Looking) (st : look.Status) → IsHeard (Running (look_by c m t st))
+  look_heard_by : (m : Memory) (t : Looking) (st : look.Status) → IsHeard (look_by c m t st)
   look_heard_by m t (look.Due disk) = tt
   look_heard_by m t (look.Ended (look.Decided disk value)) = look_took m disk (decoded value)
   look_heard_by m t (look.Ended look.Unmarked) = tt
   look_heard_by m t (look.Ended look.NoMajority) = tt
 
-  look_heard : (m : Memory) (o : Option Looking) (x : Answered) → m.doing ≡ None → IsHeard (Running (hears_look c m o x))
+  look_heard : (m : Memory) (o : Option Looking) (x : Answered) → m.doing ≡ None → IsHeard (hears_look c m o x)
   look_heard m None x none = subst (IsHeardIn m) (sym none) tt
   look_heard m (Some t) x none = look_heard_by m (looking_with t x) (look.status (look_of c m t.first) (on (looking_with t x).heard))
 
-  apart_heard : (m : Memory) (o : Option Marking) (x : Answered) → m.doing ≡ None → IsHeard (Running (hears_apart c h m o x))
+  apart_heard : (m : Memory) (o : Option Marking) (x : Answered) → m.doing ≡ None → IsHeard (hears_apart c h m o x)
   apart_heard m None x none = look_heard m m.looking x none
   apart_heard m (Some t) x none = marking_heard m (Some t) x none
 
-  beside_heard : (m : Memory) (o : Option (List beat_answers.Answered)) (d : ℕ) (answer : Answer) → m.doing ≡ None → IsHeard (Running (hears_beside c h m o d answer))
+  beside_heard : (m : Memory) (o : Option (List beat_answers.Answered)) (d : ℕ) (answer : Answer) → m.doing ≡ None → IsHeard (hears_beside c h m o d answer)
   beside_heard m None d answer none = apart_heard m m.marking (record { disk = d; heard = heard_as answer }) none
   beside_heard m (Some heard) d answer none = beat_heard m (Some heard) (record { disk = d; heard = beat_answers.heard_as answer }) none
 
-  marking_begun : (old : Host) (slot : ℕ) → IsHeard (marks old slot)
-  marking_begun Stopped slot = tt
-  marking_begun (Running m) slot = one_of (nat_lt slot (length m.learned)) (with_marking m (Some (record { slot = slot; heard = [] })) None) (with_marking m m.marking (Some (Refused refusal.NotLearned))) tt tt
-
-  look_begun : (old : Host) → IsHeard (looks c old)
-  look_begun Stopped = tt
-  look_begun (Running m) = looked_on m 0
-
-  beat_begun : (old : Host) → IsHeard (beats old)
-  beat_begun Stopped = tt
-  beat_begun (Running m) = tt
+  marking_begun : (m : Memory) (slot : ℕ) → IsHeard (starts_marking m slot)
+  marking_begun m slot = one_of (nat_lt slot (length m.learned)) (with_marking m (Some (record { slot = slot; heard = [] })) None) (with_marking m m.marking (Some (Refused refusal.NotLearned))) tt tt
 
   -- and behind an answer to the call that was due
-  heard_more : (m : Memory) (t : Doing) (x : Answered) → IsUnderWay (setup_of c h m t.operation) t.heard → IsAnswerTo (next_doing c h m (Some t)) x → IsHeard (Running (hears c h m (Some t) x))
+  heard_more : (m : Memory) (t : Doing) (x : Answered) → IsUnderWay (setup_of c h m t.operation) t.heard → IsAnswerTo (next_doing c h m (Some t)) x → IsHeard (hears c h m (Some t) x)
   heard_more m t x is answers =
       let s = setup_of c h m t.operation in
       goes m (with_heard t x) (taken s (on (t.heard ++ x ∷ []))) (status s (on (t.heard ++ x ∷ []))) refl (history_more (next_call s) t.heard x is.history answers)
 
-  heard_from : (m : Memory) (o : Option Doing) → m.doing ≡ o → (k : ℕ) (call : Call) (answer : Answer) → next_doing c h m o ≡ Some (k, call) → Fits call (heard_as answer) → IsHeardIn m o → IsHeard (Running (hears_from c h m o k answer))
+  heard_from : (m : Memory) (o : Option Doing) → m.doing ≡ o → (k : ℕ) (call : Call) (answer : Answer) → next_doing c h m o ≡ Some (k, call) → Fits call (heard_as answer) → IsHeardIn m o → IsHeard (hears_from c h m o k answer)
   heard_from m None none k call answer next fits is = beside_heard m m.beats.heard k answer none
   heard_from m (Some t) does k call answer next fits is =
       heard_more m t (record { disk = k; heard = heard_as answer }) is
       (subst (λ (o : Option (ℕ × Call)). IsAnswerTo o (record { disk = k; heard = heard_as answer })) (sym next) (refl, fits))
 
-  heard_on : (old : Host) (k : ℕ) (call : Call) (answer : Answer) → next_of c h old ≡ Some (k, call) → Fits call (heard_as answer) → IsHeard old → (left : List ℕ) → IsHeard (host_step c h old (Called h k call answer left))
-  heard_on Stopped k call answer next fits is left = tt
-  heard_on (Running m) k call answer next fits is left = heard_from m m.doing refl k call answer next fits is
-
-  operated : (old : Host) (operation : Operation) (tries : ℕ) (e : Filled) → host_step c h old e ≡ begins_on c old operation tries → IsHeard (host_step c h old e)
-  operated Stopped operation tries e is = subst IsHeard (sym is) tt
-  operated (Running m) operation tries e is = subst IsHeard (sym is) (begun m operation tries)
-
-  start_heard : (old : Host) → IsHeard old → IsHeard (started old)
-  start_heard Stopped is = tt
-  start_heard (Running m) is = is
-
-  -- an entry of the host keeps it so
-  step_heard : (w : World) (e : Filled) → is_of h e ≡ true → MayBegin c w e → IsHeard (w.host h) → IsHeard (host_step c h (w.host h) e)
-  step_heard w (Start g) of m is = start_heard (w.host h) is
-  step_heard w (Stop g) of m is = tt
-  step_heard w (Submit g command tries) of m is = operated (w.host h) (Submitting command) tries (Submit g command tries) refl
-  step_heard w (Recover g tries) of m is = operated (w.host h) Recovering tries (Recover g tries) refl
-  step_heard w (Look g) of m is = look_begun (w.host h)
-  step_heard w (Beat g) of m is = beat_begun (w.host h)
-  step_heard w (Mark g slot) of m is = marking_begun (w.host h) slot
-  step_heard w (Called g k call answer left) of m is =
-      let next : next_of c h (w.host h) ≡ Some (k, call) = subst (λ (i : ℕ). next_of c i (w.host i) ≡ Some (k, call)) (eqb-true g h of) m.0 in
-      heard_on (w.host h) k call answer next (step_fits (w.disk k) _ call answer m.1) is left
-  step_heard w (Torn g k call left) of m is = tt
-  step_heard w (Crashed k left) of m is = absurd (cc)
-  step_heard w (Lost k) of m is = absurd (cc)
-  step_heard w (Migrated disks log) of m is = absurd (cc)
+  enduring : Endures c h IsHeard
+  enduring =
+      record {
+        at_first = tt;
+        operated = λ m operation tries idle is. begun m operation tries;
+        looking = λ m idle is. looked_on m 0;
+        beating = λ m idle is. tt;
+        marking = λ m slot idle is. marking_begun m slot;
+        answered = λ m k call answer next fits is. heard_from m m.doing refl k call answer next fits is;
+      }
 
 -- every host of a run has heard histories
-pub run_heard : (c : Shape) (log : List Filled) → IsRun c log → (h : ℕ) → IsHeard c h ((world c log).host h)
-run_heard c log run =
-    by_run c (λ (l : List Filled). (h : ℕ) → IsHeard c h ((world c l).host h)) (λ h. tt)
-    (λ l e may is h. elim (cases_Bool (is_of h e)) [
-      | inl of ↦ subst (IsHeard c h) (sym (host_here c l e h of)) (step_heard c h (world c l) e of may (is h))
-      | inr off ↦ subst (IsHeard c h) (sym (host_there c l e h off)) (is h)
-    ])
-    log run
+run_heard : (c : Shape) (log : List Filled) → IsRun c log → (h : ℕ) → On (IsHeard c h) ((world c log).host h)
+run_heard c log run = endures c (IsHeard c) (enduring c) log run
 
 -- so the attempt under way has heard a history, and has a call to make
 pub busy : (c : Shape) (log : List Filled) (h : ℕ) (m : Memory) (t : Doing) → IsRun c log → (world c log).host h ≡ Running m → m.doing ≡ Some t → IsUnderWay (setup_of c h m t.operation) t.heard
-busy c log h m t run running does = subst (IsHeardIn c h m) does (subst (IsHeard c h) running (run_heard c log run h))
+busy c log h m t run running does = subst (IsHeardIn c h m) does (subst (On (IsHeard c h)) running (run_heard c log run h))
 
 pub history : (c : Shape) (log : List Filled) (h : ℕ) (m : Memory) (t : Doing) → IsRun c log → (world c log).host h ≡ Running m → m.doing ≡ Some t → IsHistory (setup_of c h m t.operation) t.heard
 history c log h m t run running does = (busy c log h m t run running does).history

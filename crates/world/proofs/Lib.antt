@@ -1,3 +1,4 @@
+pub mod Enduring
 pub mod Follow
 pub mod Histories
 pub mod Projections

@@ -1,7 +1,7 @@
 -- In a run each host's look has heard a history, and has a call to make, while nothing else is under way.
 use Rattle.std.specs.Prelude.{◌&&◌, not, is_some, nat_lt, if◌then◌else◌}
-use Rattle.std.proofs.Common.{ℕ, zero, suc, ◌*◌, ◌<◌, ◌≤◌, ◌≡◌, Bool, true, false, Option, Some, None, List, [], ◌∷◌, ◌++◌, length, take, refl, sym, subst, ap, ◌∙◌, inl, inr, arith}
-use Rattle.std.proofs.lemmas.Bool.{eqb-true, cases_Bool, and_parts, le-ltb, lt-leb, ltb-true}
+use Rattle.std.proofs.Common.{ℕ, zero, suc, ◌*◌, ◌<◌, ◌≤◌, ◌≡◌, Bool, true, false, Option, Some, None, List, [], ◌∷◌, ◌++◌, length, take, refl, sym, subst, ap, ◌∙◌, arith}
+use Rattle.std.proofs.lemmas.Bool.{and_parts, le-ltb, lt-leb, ltb-true}
 use Rattle.disk.specs.Disk.{Call, Answer}
 use Rattle.attempt.specs.Answers.{Answered, on, heard_as}
 use Rattle.attempt.specs.History.{Fits, IsAnswerTo}
@@ -20,15 +20,14 @@ use Rattle.lock_command.specs.Reading.{decoded}
 use Rattle.slot_log.specs.Shape.{Shape}
 use Rattle.slot_log.specs.declared.outcome.Refusal.TheVariants as refusal
 use Rattle.host.specs.declared.answer.HostAnswer.TheVariants.{Looked, Refused}
-use Rattle.host.specs.Host.{Operation, Submitting, Recovering, Doing, Marking, Looking, Memory, Host, Stopped, Running, goes_on, learns, hears, hears_from, hears_beside, hears_apart, hears_look, look_by, look_of, looking_with, looks_on, takes_marked, with_looking, marking_by, marking_with, marking_of, with_marking, with_beats, beat_by, beat_of, rests, is_idle_in, idles, next_beside, next_marking, next_look, next_doing, next_of}
-use Rattle.world.specs.Entry.{Filled, Start, Stop, Submit, Recover, Look, Beat, Mark, Called, Torn, Crashed, Lost, Migrated, is_of, host_step, started, beats, marks, looks, begins_on}
-use Rattle.world.specs.World.{World, world, MayBegin, IsRun}
+use Rattle.host.specs.Host.{Operation, Doing, Marking, Looking, Memory, Host, Running, starts_beat, starts_look, starts_marking, is_idle, goes_on, learns, hears, hears_from, hears_beside, hears_apart, hears_look, look_by, look_of, looking_with, looks_on, takes_marked, with_looking, marking_by, marking_with, marking_of, with_marking, beat_by, beat_of, rests, is_idle_in, next_beside, next_marking, next_look, next_doing, next_of}
+use Rattle.world.specs.Entry.{Filled, beats, marks}
+use Rattle.world.specs.World.{world, IsRun}
 use Rattle.world.specs.Chosen.{at}
 use Rattle.world.specs.Looks.{IsLooking, HearsLooking}
 use Rattle.world.proofs.Beside.{looking-goes_on, looking_heard}
-use Rattle.world.proofs.Histories.{step_fits}
-use Rattle.world.proofs.Projections.{host_here, host_there}
-use Rattle.world.proofs.Runs.{by_run, beginning, each}
+use Rattle.world.proofs.Enduring.{On, Endures, endures, step_fits}
+use Rattle.world.proofs.Runs.{beginning, each}
 
 -- IT BEGINS
 
@@ -64,12 +63,11 @@ module _ (c : Shape) (h : ℕ) where
   AreLooking m None = Unit {0}
   AreLooking m (Some t) = IsUnderWay c.slots (look_of c m t.first) t.heard m
 
-  abbrev IsHeard : Host → Type 0
-  IsHeard Stopped = Unit {0}
-  IsHeard (Running m) = AreLooking m m.looking
+  abbrev IsHeard : Memory → Type 0
+  IsHeard m = AreLooking m m.looking
 
   -- where none is under way
-  none_so : (m : Memory) → m.looking ≡ None → IsHeard (Running m)
+  none_so : (m : Memory) → m.looking ≡ None → IsHeard m
   none_so m none = subst (AreLooking m) (sym none) tt
 
   none_some : {A : Type 0} (o : Option A) → not (is_some o) ≡ true → o ≡ None
@@ -94,47 +92,40 @@ module _ (c : Shape) (h : ℕ) where
   idle_is m (Some t) is = absurd (cc)
 
   -- so it is where something else begins
-  operated : (old : Host) (operation : Operation) (tries : ℕ) → idles old ≡ true → IsHeard (begins_on c old operation tries)
-  operated Stopped operation tries idle = tt
-  operated (Running m) operation tries idle = none_so (goes_on c m operation tries) (looking-goes_on c m operation tries ∙ (idle_is m m.doing idle).looks)
+  operated : (m : Memory) (operation : Operation) (tries : ℕ) → is_idle m ≡ true → IsHeard (goes_on c m operation tries)
+  operated m operation tries idle = none_so (goes_on c m operation tries) (looking-goes_on c m operation tries ∙ (idle_is m m.doing idle).looks)
 
-  beaten : (old : Host) → idles old ≡ true → IsHeard (beats old)
-  beaten Stopped idle = tt
-  beaten (Running m) idle = none_so (with_beats m (record { readings = m.beats.readings; heard = Some [] }) None) (idle_is m m.doing idle).looks
-
-  marked : (old : Host) (slot : ℕ) → idles old ≡ true → IsHeard (marks old slot)
-  marked Stopped slot idle = tt
-  marked (Running m) slot idle = go (nat_lt slot (length m.learned))
+  marked : (m : Memory) (slot : ℕ) → is_idle m ≡ true → IsHeard (starts_marking m slot)
+  marked m slot idle = go (nat_lt slot (length m.learned))
     where
-      go : (b : Bool) → IsHeard (Running (if b then with_marking m (Some (record { slot = slot; heard = [] })) None else with_marking m m.marking (Some (Refused refusal.NotLearned))))
+      go : (b : Bool) → IsHeard (if b then with_marking m (Some (record { slot = slot; heard = [] })) None else with_marking m m.marking (Some (Refused refusal.NotLearned)))
       go true = none_so (with_marking m (Some (record { slot = slot; heard = [] })) None) (idle_is m m.doing idle).looks
       go false = none_so (with_marking m m.marking (Some (Refused refusal.NotLearned))) (idle_is m m.doing idle).looks
 
   -- and where the next slot is looked at
-  on_so : (m : Memory) (first : ℕ) → m.beats.heard ≡ None → m.marking ≡ None → (1 ≤ c.disks → first < c.disks) → IsHeard (Running (looks_on c m first))
+  on_so : (m : Memory) (first : ℕ) → m.beats.heard ≡ None → m.marking ≡ None → (1 ≤ c.disks → first < c.disks) → IsHeard (looks_on c m first)
   on_so m first calm unmarked inside = go (nat_lt (length m.learned) c.slots) refl
     where
-      go : (b : Bool) → nat_lt (length m.learned) c.slots ≡ b → IsHeard (Running (if b then with_looking m (Some (record { first = first; heard = [] })) None else with_looking m None (Some (Looked (length m.learned)))))
+      go : (b : Bool) → nat_lt (length m.learned) c.slots ≡ b → IsHeard (if b then with_looking m (Some (record { first = first; heard = [] })) None else with_looking m None (Some (Looked (length m.learned))))
       go true less = record { fits = ltb-true (length m.learned) c.slots less; tries = refl; beats = calm; marks = unmarked; history = tt; first = inside; due = λ some. (first, starts (look_of c m first) some) }
       go false full = tt
 
-  begun : (old : Host) → idles old ≡ true → IsHeard (looks c old)
-  begun Stopped idle = tt
-  begun (Running m) idle = let is = idle_is m m.doing idle in on_so m 0 is.beats is.marks (λ some. some)
+  begun : (m : Memory) → is_idle m ≡ true → IsHeard (starts_look c m)
+  begun m idle = let is = idle_is m m.doing idle in on_so m 0 is.beats is.marks (λ some. some)
 
   -- and behind an answer to the call that was due
-  takes_so : (m : Memory) (d : ℕ) → m.beats.heard ≡ None → m.marking ≡ None → (1 ≤ c.disks → d < c.disks) → (o : Option Command) → IsHeard (Running (takes_marked c m d o))
+  takes_so : (m : Memory) (d : ℕ) → m.beats.heard ≡ None → m.marking ≡ None → (1 ≤ c.disks → d < c.disks) → (o : Option Command) → IsHeard (takes_marked c m d o)
   takes_so m d calm unmarked inside None = tt
   takes_so m d calm unmarked inside (Some command) = on_so (learns m command) d calm unmarked inside
 
-  goes : (m : Memory) (t : Looking) (st : Status) → status (look_of c m t.first) (on t.heard) ≡ st → IsHistory (look_of c m t.first) t.heard → m.beats.heard ≡ None → m.marking ≡ None → (1 ≤ c.disks → t.first < c.disks) → length m.learned < c.slots → IsHeard (Running (look_by c m t st))
+  goes : (m : Memory) (t : Looking) (st : Status) → status (look_of c m t.first) (on t.heard) ≡ st → IsHistory (look_of c m t.first) t.heard → m.beats.heard ≡ None → m.marking ≡ None → (1 ≤ c.disks → t.first < c.disks) → length m.learned < c.slots → IsHeard (look_by c m t st)
   goes m t (Due d) now is calm unmarked first fits = record { fits = fits; tries = refl; beats = calm; marks = unmarked; history = is; first = first; due = λ some. (d, now) }
   goes m t (Ended (Decided d value)) now is calm unmarked first fits = takes_so m d calm unmarked (λ some. (decided_is (look_of c m t.first) (on t.heard) d value now).0) (decoded value)
   goes m t (Ended Unmarked) now is calm unmarked first fits = tt
   goes m t (Ended NoMajority) now is calm unmarked first fits = tt
 
   look_more : (m : Memory) (o : Option Looking) → m.looking ≡ o → (k : ℕ) (call : Call) (answer : Answer) → next_look c m o ≡ Some (k, call) → Fits call (heard_as answer) → AreLooking m o
-      → IsHeard (Running (hears_look c m o (record { disk = k; heard = heard_as answer })))
+      → IsHeard (hears_look c m o (record { disk = k; heard = heard_as answer }))
   look_more m None none k call answer next fits is = absurd (cc)
   look_more m (Some t) same k call answer next fits is =
       let x : Answered = record { disk = k; heard = heard_as answer } in
@@ -159,7 +150,7 @@ module _ (c : Shape) (h : ℕ) where
   beat_stays m heard (beat.Ended beat.NoMajority) = refl
 
   apart : (m : Memory) (o : Option Marking) → m.marking ≡ o → (k : ℕ) (call : Call) (answer : Answer) → next_marking c h m o ≡ Some (k, call) → Fits call (heard_as answer) → AreLooking m m.looking
-      → IsHeard (Running (hears_apart c h m o (record { disk = k; heard = heard_as answer })))
+      → IsHeard (hears_apart c h m o (record { disk = k; heard = heard_as answer }))
   apart m None none k call answer next fits is = look_more m m.looking refl k call answer next fits is
   apart m (Some t) marks k call answer next fits is =
       let x : Answered = record { disk = k; heard = heard_as answer } in
@@ -167,7 +158,7 @@ module _ (c : Shape) (h : ℕ) where
       none_so (marking_by m (marking_with t x) st)
       (marking_stays m (marking_with t x) st ∙ none_beside m m.looking is (λ tries calm none. (let both : Some t ≡ None = sym marks ∙ none in absurd (cc))))
 
-  beside : (m : Memory) (o : Option (List beat_answers.Answered)) → m.beats.heard ≡ o → (k : ℕ) (call : Call) (answer : Answer) → next_beside c h m o ≡ Some (k, call) → Fits call (heard_as answer) → AreLooking m m.looking → IsHeard (Running (hears_beside c h m o k answer))
+  beside : (m : Memory) (o : Option (List beat_answers.Answered)) → m.beats.heard ≡ o → (k : ℕ) (call : Call) (answer : Answer) → next_beside c h m o ≡ Some (k, call) → Fits call (heard_as answer) → AreLooking m m.looking → IsHeard (hears_beside c h m o k answer)
   beside m None calm k call answer next fits is = apart m m.marking refl k call answer next fits is
   beside m (Some heard) beats k call answer next fits is =
       let x : beat_answers.Answered = record { disk = k; heard = beat_answers.heard_as answer } in
@@ -175,54 +166,31 @@ module _ (c : Shape) (h : ℕ) where
       none_so (beat_by h m (heard ++ x ∷ []) st)
       (beat_stays m (heard ++ x ∷ []) st ∙ none_beside m m.looking is (λ tries none marks. (let both : Some heard ≡ None = sym beats ∙ none in absurd (cc))))
 
-  heard_from : (m : Memory) (o : Option Doing) → m.doing ≡ o → (k : ℕ) (call : Call) (answer : Answer) → next_doing c h m o ≡ Some (k, call) → Fits call (heard_as answer) → AreLooking m m.looking → IsHeard (Running (hears_from c h m o k answer))
+  heard_from : (m : Memory) (o : Option Doing) → m.doing ≡ o → (k : ℕ) (call : Call) (answer : Answer) → next_doing c h m o ≡ Some (k, call) → Fits call (heard_as answer) → AreLooking m m.looking → IsHeard (hears_from c h m o k answer)
   heard_from m None none k call answer next fits is = beside m m.beats.heard refl k call answer next fits is
   heard_from m (Some t) does k call answer next fits is =
       let x : Answered = record { disk = k; heard = heard_as answer } in
       none_so (hears c h m (Some t) x)
       (looking_heard c h m (Some t) x ∙ none_beside m m.looking is (λ none calm marks. (let both : Some t ≡ None = sym does ∙ none in absurd (cc))))
 
-  heard_on : (old : Host) (k : ℕ) (call : Call) (answer : Answer) → next_of c h old ≡ Some (k, call) → Fits call (heard_as answer) → IsHeard old → (left : List ℕ) → IsHeard (host_step c h old (Called h k call answer left))
-  heard_on Stopped k call answer next fits is left = tt
-  heard_on (Running m) k call answer next fits is left = heard_from m m.doing refl k call answer next fits is
-
-  start_heard : (old : Host) → IsHeard old → IsHeard (started old)
-  start_heard Stopped is = tt
-  start_heard (Running m) is = is
-
-  idle_here : (w : World) (g : ℕ) → (g ≡ h) → idles (w.host g) ≡ true → idles (w.host h) ≡ true
-  idle_here w g same idle = subst (λ (i : ℕ). idles (w.host i) ≡ true) same idle
-
-  -- an entry of the host keeps it so
-  step_heard : (w : World) (e : Filled) → is_of h e ≡ true → MayBegin c w e → IsHeard (w.host h) → IsHeard (host_step c h (w.host h) e)
-  step_heard w (Start g) of m is = start_heard (w.host h) is
-  step_heard w (Stop g) of m is = tt
-  step_heard w (Submit g command tries) of m is = operated (w.host h) (Submitting command) tries (idle_here w g (eqb-true g h of) m.0)
-  step_heard w (Recover g tries) of m is = operated (w.host h) Recovering tries (idle_here w g (eqb-true g h of) m.0)
-  step_heard w (Look g) of m is = begun (w.host h) (idle_here w g (eqb-true g h of) m)
-  step_heard w (Beat g) of m is = beaten (w.host h) (idle_here w g (eqb-true g h of) m)
-  step_heard w (Mark g slot) of m is = marked (w.host h) slot (idle_here w g (eqb-true g h of) m.0)
-  step_heard w (Called g k call answer left) of m is =
-      let next : next_of c h (w.host h) ≡ Some (k, call) = subst (λ (i : ℕ). next_of c i (w.host i) ≡ Some (k, call)) (eqb-true g h of) m.0 in
-      heard_on (w.host h) k call answer next (step_fits (w.disk k) _ call answer m.1) is left
-  step_heard w (Torn g k call left) of m is = tt
-  step_heard w (Crashed k left) of m is = absurd (cc)
-  step_heard w (Lost k) of m is = absurd (cc)
-  step_heard w (Migrated disks log) of m is = absurd (cc)
+  enduring : Endures c h IsHeard
+  enduring =
+      record {
+        at_first = tt;
+        operated = λ m operation tries idle is. operated m operation tries idle;
+        looking = λ m idle is. begun m idle;
+        beating = λ m idle is. none_so (starts_beat m) (idle_is m m.doing idle).looks;
+        marking = λ m slot idle is. marked m slot idle;
+        answered = λ m k call answer next fits is. heard_from m m.doing refl k call answer next fits is;
+      }
 
 -- every look of a run has heard a history
-run_heard : (c : Shape) (log : List Filled) → IsRun c log → (h : ℕ) → IsHeard c h ((world c log).host h)
-run_heard c log run =
-    by_run c (λ (l : List Filled). (h : ℕ) → IsHeard c h ((world c l).host h)) (λ h. tt)
-    (λ l e may is h. elim (cases_Bool (is_of h e)) [
-      | inl of ↦ subst (IsHeard c h) (sym (host_here c l e h of)) (step_heard c h (world c l) e of may (is h))
-      | inr off ↦ subst (IsHeard c h) (sym (host_there c l e h off)) (is h)
-    ])
-    log run
+run_heard : (c : Shape) (log : List Filled) → IsRun c log → (h : ℕ) → On (IsHeard c h) ((world c log).host h)
+run_heard c log run = endures c (IsHeard c) (enduring c) log run
 
 module _ (c : Shape) (log : List Filled) (h : ℕ) (m : Memory) (t : Looking) (run : IsRun c log) (running : (world c log).host h ≡ Running m) (looks_so : m.looking ≡ Some t) where
   under_way : IsUnderWay c.slots (look_of c m t.first) t.heard m
-  under_way = subst (AreLooking c h m) looks_so (subst (IsHeard c h) running (run_heard c log run h))
+  under_way = subst (AreLooking c h m) looks_so (subst (On (IsHeard c h)) running (run_heard c log run h))
 
   pub history : IsHistory (look_of c m t.first) t.heard
   history = under_way.history

@@ -30,7 +30,7 @@ use Rattle.looks.specs.Status as look
 use Rattle.world.specs.Entry.{Called, disk_step}
 use Rattle.world.specs.Looks.{IsLooking}
 use Rattle.world.specs.World.{World}
-use Rattle.world.proofs.Histories.{step_fits}
+use Rattle.world.proofs.Enduring.{step_fits}
 use Rattle.agreement.specs.State.{put}
 use Rattle.attempt_safety.specs.Registers.{IsNext}
 use Rattle.attempt_safety.proofs.Stages.{putting}

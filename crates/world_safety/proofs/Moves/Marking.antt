@@ -40,7 +40,7 @@ use Rattle.host.specs.declared.answer.HostAnswer.TheVariants.{Recovered, Refused
 use Rattle.host.specs.Host.{Doing, Marking, Memory, Host, Stopped, Running, idles, hears_from, hears_beside, hears_apart, hears_marking, marking_by, marking_with, marking_of, starts_marking, with_marking, spelled}
 use Rattle.world.specs.Entry.{Filled, Mark, Called, Torn, disk_step, host_step, marks}
 use Rattle.world.specs.World.{World}
-use Rattle.world.proofs.Histories.{step_fits}
+use Rattle.world.proofs.Enduring.{step_fits}
 use Rattle.agreement.specs.Log.Move.{Restart}
 use Rattle.attempt_safety.specs.Registers.{IsNext}
 use Rattle.attempt_safety.proofs.Cells.{block_same}

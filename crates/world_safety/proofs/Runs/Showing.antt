@@ -29,7 +29,7 @@ use Rattle.slot_log.specs.Shape.{Shape}
 use Rattle.host.specs.Host.{Doing, Memory, setup_of}
 use Rattle.world.specs.Entry.{Called, disk_step}
 use Rattle.world.specs.World.{World}
-use Rattle.world.proofs.Histories.{step_fits}
+use Rattle.world.proofs.Enduring.{step_fits}
 use Rattle.world_safety.specs.Marks.{IsMarkTrue, AllMarksTrue, ShowsTrueMarks, TellsTrueMarks, AllLearnedKnown, KeepsMarks}
 use Rattle.world_safety.specs.Tied.{Moves}
 use Rattle.world_safety.proofs.Blocks.Owning.{row_told}
