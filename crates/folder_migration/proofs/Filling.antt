@@ -13,7 +13,7 @@ use Rattle.disk.specs.Disk.{Call, Answer}
 use Rattle.lock_command.specs.declared.command.Command.{Command}
 use Rattle.lock_command.specs.Reading.{decoded}
 use Rattle.lock_command.specs.declared.reply.Reply.{Reply}
-use Rattle.lock_table.specs.declared.record.KnownClient.{KnownClient}
+use Rattle.lock_table.specs.declared.known_client.KnownClient.{KnownClient}
 use Rattle.lock_table.specs.Apply.{Plain, is_client}
 use Rattle.lock_table.specs.Carrying.{IsKnownFrom}
 use Rattle.lock_table.specs.Picture.{Shown, IsPictureOf}

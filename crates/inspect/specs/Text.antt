@@ -3,7 +3,7 @@ use Rattle.std.specs.Prelude.{ℕ, Bool, ◌&&◌, List, [], ◌∷◌, ◌++◌
 use Rattle.hex.specs.Hex.{encode_lower}
 use Rattle.lock_modes.specs.declared.mode.Mode.{Mode}
 use Rattle.lock_modes.specs.declared.mode.Mode.TheVariants.{Null, ConcurrentRead, ConcurrentWrite, ProtectedRead, ProtectedWrite, Exclusive}
-use Rattle.lock_table.specs.declared.record.LockRecord.{LockRecord}
+use Rattle.lock_index.specs.declared.record.LockRecord.{LockRecord}
 use Rattle.lock_command.specs.declared.state.LockState.{LockState}
 use Rattle.lock_command.specs.declared.state.LockState.TheVariants.{Granted, Converting, Waiting}
 use Rattle.lock_command.specs.declared.reply.LockValue.{LockValue}

@@ -1,6 +1,6 @@
 ghost use Rattle.std.specs.Prelude.{◌≡◌, ◌||◌, ℕ, false};
-ghost use Rattle.lock_table.specs.State.{is_converting, is_waiting};
-ghost use Rattle.lock_table.specs.declared.record.LockRecord.{LockRecord};
+ghost use Rattle.lock_index.specs.State.{is_converting, is_waiting};
+ghost use Rattle.lock_index.specs.declared.record.LockRecord.{LockRecord};
 ghost use Rattle.inspect.specs.Blocked.{is_held_against, in_one_queue, is_in_the_way, is_blocked_by};
 
 use lock_modes::{Mode, compatible};

@@ -7,25 +7,26 @@ use Rattle.lock_command.specs.Command.{is_carried}
 use Rattle.lock_command.specs.declared.command.Action.{Action}
 use Rattle.lock_command.specs.declared.command.Action.TheVariants.{Enqueue, Convert, Release, Cancel, Status, Purge, QuietPurge, CarryLock, CarryClient}
 use Rattle.lock_table.specs.declared.clients.TheConstants.{CLIENTS}
-use Rattle.lock_table.specs.declared.locks.TheConstants.{LOCKS}
-use Rattle.lock_table.specs.declared.record.LockRecord.{LockRecord}
+use Rattle.lock_index.specs.declared.record.TheConstants.{LOCKS}
+use Rattle.lock_index.specs.declared.record.LockRecord.{LockRecord}
 use Rattle.lock_command.specs.declared.state.LockState.{LockState}
 use Rattle.lock_command.specs.declared.state.LockState.TheVariants.{Granted, Converting, Waiting}
-use Rattle.lock_table.specs.declared.record.KnownClient.{KnownClient}
+use Rattle.lock_table.specs.declared.known_client.KnownClient.{KnownClient}
 use Rattle.lock_command.specs.declared.reply.Refusal.TheVariants as refusal
 use Rattle.lock_command.specs.declared.reply.Answer.{Answer}
 use Rattle.lock_command.specs.declared.reply.Answer.TheVariants as answer
 use Rattle.lock_command.specs.declared.reply.Reply.{Reply}
-use Rattle.lock_table.specs.Values.{Values, zeros, invalid, is_writer, is_downward, given, of_locked, is_granted, is_released, changed, values_after, value_of_lock, asked_value, returned}
-use Rattle.lock_table.specs.Locks.{is_lock, is_on, in_state, lock_in, admits, has_queue, IsDistinct}
+use Rattle.lock_table.specs.Values.{Values, zeros, invalid, is_downward, given, of_locked, is_granted, is_released, changed, values_after, value_of_lock, asked_value, returned}
+use Rattle.lock_index.specs.State.{is_writer}
+use Rattle.lock_index.specs.Locks.{is_lock, is_on, in_state, lock_in, admits, has_queue, IsDistinct, is_through}
 use Rattle.lock_table.specs.Apply.{CommandOutcome, enqueued, converted, released, cancelled, with_own, told, purged, carried, done, Plain, Applied, is_client, kept, keeps_none, kept_after, told_again, replied, carried_out, applied_after, applied, no_locks, table_after}
-use Rattle.lock_table.specs.Locks.{is_through}
-use Rattle.lock_table.specs.Picture.{HasSameLocks, HasSameClients, HasZeros}
-use Rattle.lock_table.proofs.Parts.{find_alike, length_alike, AlikeBy-filter, AlikeBy-append}
-use Rattle.lock_table.proofs.Numbered.{IsDistinct-filter, IsDistinct-put}
-use Rattle.lock_table.proofs.Alike.{same-filter, same-put, same-any, same-lock_in, same-length, same-admits, same-has_queue, same-settled}
-use Rattle.lock_table.proofs.Apart.{IsDistinct-settled, IsDistinct-settled_all}
-use Rattle.lock_table.proofs.Settled.{is_among, same-settled_all}
+use Rattle.lock_index.specs.Printed.{HasSameLocks}
+use Rattle.lock_table.specs.Picture.{HasSameClients, HasZeros}
+use Rattle.lock_index.proofs.Parts.{find_alike, length_alike, AlikeBy-filter, AlikeBy-append}
+use Rattle.lock_index.proofs.Numbered.{IsDistinct-filter, IsDistinct-put}
+use Rattle.lock_index.proofs.Alike.{same-filter, same-put, same-any, same-lock_in, same-length, same-admits, same-has_queue, same-settled}
+use Rattle.lock_index.proofs.Apart.{IsDistinct-settled, IsDistinct-settled_all}
+use Rattle.lock_index.proofs.Settled.{is_among, same-settled_all}
 
 -- the same locks are left, and the same is answered
 record IsSameOutcome (x y : CommandOutcome) : Type 0 where

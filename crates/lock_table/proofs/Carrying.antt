@@ -16,19 +16,20 @@ use Rattle.lock_command.specs.declared.reply.Answer.TheVariants as answer
 use Rattle.lock_command.specs.declared.reply.LockValue.{LockValue}
 use Rattle.lock_command.specs.declared.reply.Refusal.TheVariants as refusal
 use Rattle.lock_table.specs.declared.clients.TheConstants.{CLIENTS}
-use Rattle.lock_table.specs.declared.locks.TheConstants.{LOCKS}
-use Rattle.lock_table.specs.declared.record.LockRecord.{LockRecord}
-use Rattle.lock_table.specs.declared.record.KnownClient.{KnownClient}
-use Rattle.lock_table.specs.State.{goal_of}
-use Rattle.lock_table.specs.Locks.{is_on, option_or, lock_in, put, converts_on, waits_on, head_of, IsDistinct}
+use Rattle.lock_index.specs.declared.record.TheConstants.{LOCKS}
+use Rattle.lock_index.specs.declared.record.LockRecord.{LockRecord}
+use Rattle.lock_table.specs.declared.known_client.KnownClient.{KnownClient}
+use Rattle.lock_index.specs.State.{goal_of}
+use Rattle.lock_index.specs.Locks.{is_on, option_or, lock_in, put, converts_on, waits_on, head_of, IsDistinct}
 use Rattle.lock_table.specs.Values.{Values, zeros, stored, of_locked, values_after}
 use Rattle.lock_table.specs.Apply.{refused, carried, Plain, is_client, carried_out, unchanged, refusing, applied_after, applied, no_locks, table_after}
-use Rattle.lock_table.specs.Picture.{printed_cmp, client_cmp, Shown, HasSameLocks, HasSameClients, HasZeros, values_beside, IsPictureOf}
+use Rattle.lock_index.specs.Printed.{printed_cmp, HasSameLocks}
+use Rattle.lock_table.specs.Picture.{client_cmp, Shown, HasSameClients, HasZeros, values_beside, IsPictureOf}
 use Rattle.lock_table.specs.Carrying.{carried_lock, carried_client, carried_locks, carried_over, stays_known, without_clients, forgetting, table_later, AreOrdinary, IsLogAfter}
-use Rattle.lock_table.proofs.Parts.{first, find_is_first, filter-filter, length_alike, length_parts}
-use Rattle.lock_table.proofs.Numbered.{numbered, numbered-cons, numbered-append, without_absent}
-use Rattle.lock_table.proofs.Alike.{same_back, same_through, same-any, same-lock_in, same-length, same-admits, same-distinct}
-use Rattle.lock_table.proofs.Apart.{name_is}
+use Rattle.lock_index.proofs.Parts.{first, find_is_first, filter-filter, length_alike, length_parts}
+use Rattle.lock_index.proofs.Numbered.{numbered, numbered-cons, numbered-append, without_absent}
+use Rattle.lock_index.proofs.Alike.{same_back, same_through, same-any, same-lock_in, same-length, same-admits, same-distinct}
+use Rattle.lock_index.proofs.Apart.{name_is}
 use Rattle.lock_table.proofs.Behave.{same-applied, distinct-applied, reachable_distinct}
 use Rattle.lock_table.proofs.Quiet.{IsPeaceful, found_numbered, same_name-sym}
 use Rattle.lock_table.proofs.Reachable.{peace_from, no_locks_peace}

@@ -6,17 +6,17 @@ use Rattle.lock_modes.specs.declared.mode.Mode.{Mode}
 use Rattle.lock_modes.specs.declared.mode.Mode.TheVariants.{Null, ConcurrentRead, ConcurrentWrite, ProtectedRead, ProtectedWrite, Exclusive}
 use Rattle.lock_modes.specs.Mode.{conflict, downward}
 use Rattle.lock_command.specs.declared.command.Action.TheVariants.{Convert}
-use Rattle.lock_table.specs.declared.record.LockRecord.{LockRecord}
+use Rattle.lock_index.specs.declared.record.LockRecord.{LockRecord}
 use Rattle.lock_command.specs.declared.state.LockState.{LockState}
 use Rattle.lock_command.specs.declared.state.LockState.TheVariants.{Granted, Converting, Waiting}
 use Rattle.lock_command.specs.declared.reply.Answer.{Answer}
 use Rattle.lock_command.specs.declared.reply.Answer.TheVariants as answer
 use Rattle.lock_command.specs.declared.reply.Refusal.TheVariants as refusal
-use Rattle.lock_table.specs.State.{holds_against}
-use Rattle.lock_table.specs.Locks.{is_on, is_lock, lock_in, stands_against, admits}
+use Rattle.lock_index.specs.State.{holds_against}
+use Rattle.lock_index.specs.Locks.{is_on, is_lock, lock_in, stands_against, admits}
 use Rattle.lock_table.specs.Apply.{CommandOutcome, refused, converted, with_own, done}
 use Rattle.lock_table.specs.Laws.{held_by}
-use Rattle.lock_table.proofs.Parts.{or_false}
+use Rattle.lock_index.proofs.Parts.{or_false}
 use Rattle.lock_table.proofs.Quiet.{IsPeaceful, not_true}
 
 null_is_free : (wanted : Mode) → conflict Null wanted ≡ false

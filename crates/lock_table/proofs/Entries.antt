@@ -6,20 +6,21 @@ use Rattle.lock_command.specs.declared.command.Action.TheVariants.{CarryLock}
 use Rattle.lock_command.specs.declared.reply.Answer.TheVariants as answer
 use Rattle.lock_command.specs.declared.reply.LockValue.{LockValue}
 use Rattle.lock_command.specs.declared.reply.Refusal.TheVariants as refusal
-use Rattle.lock_table.specs.declared.locks.TheConstants.{LOCKS}
-use Rattle.lock_table.specs.declared.record.LockRecord.{LockRecord}
+use Rattle.lock_index.specs.declared.record.TheConstants.{LOCKS}
+use Rattle.lock_index.specs.declared.record.LockRecord.{LockRecord}
 use Rattle.lock_table.specs.declared.values.NamedValue.{NamedValue}
-use Rattle.lock_table.specs.Locks.{is_on, lock_in, without, put, IsDistinct}
+use Rattle.lock_index.specs.Locks.{is_on, lock_in, without, put, IsDistinct}
 use Rattle.lock_table.specs.Values.{Values, is_state, of_locked, stored}
 use Rattle.lock_table.specs.Apply.{CommandOutcome, refused, carried}
-use Rattle.lock_table.specs.Picture.{printed_cmp, HasZeros}
-use Rattle.lock_table.specs.Placed.{in_order}
+use Rattle.lock_index.specs.Printed.{printed_cmp}
+use Rattle.lock_table.specs.Picture.{HasZeros}
+use Rattle.lock_index.specs.Placed.{in_order}
 use Rattle.lock_table.specs.Stored.{is_of, value_in, put_value, IsValued}
-use Rattle.lock_table.proofs.Alike.{same-any, same-length}
-use Rattle.lock_table.proofs.Apart.{same_name-itself}
+use Rattle.lock_index.proofs.Alike.{same-any, same-length}
+use Rattle.lock_index.proofs.Apart.{same_name-itself}
 use Rattle.lock_table.proofs.Behave.{distinct-done, same-of_locked}
 use Rattle.lock_table.proofs.Keeping.{still_locked}
-use Rattle.lock_table.proofs.Pictures.{same_in_order}
+use Rattle.lock_index.proofs.PrintedOrder.{same_in_order}
 use Rattle.lock_table.proofs.Room.{length-put, not_full}
 use Rattle.lock_table.proofs.Stored.{all_locked, locked_values, of_locked_zeros, put_stores, room_for, valued_put}
 

@@ -10,33 +10,25 @@ use Rattle.lock_command.specs.Command.{is_carried}
 use Rattle.lock_command.specs.declared.command.Action.{Action}
 use Rattle.lock_command.specs.declared.command.Action.TheVariants.{Enqueue, Convert, Release, Cancel, Status, Purge, QuietPurge, CarryLock, CarryClient}
 use Rattle.lock_table.specs.declared.clients.TheConstants.{CLIENTS}
-use Rattle.lock_table.specs.declared.locks.TheConstants.{LOCKS}
-use Rattle.lock_table.specs.declared.record.LockRecord.{LockRecord}
+use Rattle.lock_index.specs.declared.record.TheConstants.{LOCKS}
+use Rattle.lock_index.specs.declared.record.LockRecord.{LockRecord}
 use Rattle.lock_command.specs.declared.state.LockState.{LockState}
 use Rattle.lock_command.specs.declared.state.LockState.TheVariants.{Granted, Converting, Waiting}
-use Rattle.lock_table.specs.declared.record.KnownClient.{KnownClient}
-use Rattle.lock_table.specs.State.{is_converting, is_waiting, is_queued, goal_of, holds_against}
-use Rattle.lock_table.specs.Locks.{is_lock, is_on, in_state, option_or, lock_in, without, put, converts_on, waits_on, conversions, head_of, has_queue, stands_against, admits, settled, settled_all, IsDistinct}
+use Rattle.lock_table.specs.declared.known_client.KnownClient.{KnownClient}
+use Rattle.lock_index.specs.State.{is_converting, is_waiting, is_queued, goal_of, holds_against}
+use Rattle.lock_index.specs.Locks.{is_lock, is_on, in_state, option_or, lock_in, without, put, converts_on, waits_on, conversions, head_of, has_queue, stands_against, admits, settled, settled_all, IsDistinct, is_through, IsSettled}
 use Rattle.lock_table.specs.Apply.{CommandOutcome, enqueued, converted, released, cancelled, with_own, told, purged, done, Plain, Applied, is_client, applied_after, applied, no_locks}
-use Rattle.lock_table.specs.Locks.{is_through}
 use Rattle.lock_table.specs.Carrying.{AreOrdinary}
-use Rattle.lock_table.specs.Laws.{IsSettled, IsSettledEverywhere}
-use Rattle.lock_table.proofs.Parts.{first, find_is_first, filter-filter, filter_within, or_false}
-use Rattle.lock_table.proofs.Numbered.{numbered, numbered-filter, without_absent, IsDistinct-filter, IsDistinct-put}
-use Rattle.lock_table.proofs.Turns.{found_first, found_none, filter-put}
+use Rattle.lock_table.specs.Laws.{IsSettledEverywhere}
+use Rattle.lock_index.proofs.Parts.{first, find_is_first, filter-filter, filter_within, or_false}
+use Rattle.lock_index.proofs.Numbered.{numbered, numbered-filter, without_absent, IsDistinct-filter, IsDistinct-put}
+use Rattle.lock_index.proofs.Turns.{found_first, found_none, filter-put}
 use Rattle.lock_table.proofs.Quiet.{find-append}
-use Rattle.lock_table.proofs.Apart.{on, and_first, name_is, same_name-itself, admits-on, on-put_apart, on-without_apart, absent_apart, settled-apart}
-use Rattle.lock_table.proofs.Settled.{settled_is_settled, is_among, settled_all-on}
+use Rattle.lock_index.proofs.Apart.{on, and_first, name_is, same_name-itself, admits-on, on-put_apart, on-without_apart, absent_apart, settled-apart}
+use Rattle.lock_index.proofs.Queued.{head_on_name}
+use Rattle.lock_index.proofs.Settled.{settled_is_settled, is_among, settled_all-on}
 use Rattle.lock_table.proofs.Behave.{any-names, distinct-done}
 use Rattle.lock_table.proofs.Reachable.{either, found_again, first_asked}
-
-found_passes : (P : LockRecord → Bool) (xs : List LockRecord) (r : LockRecord) → find P xs ≡ Some r → P r ≡ true
-found_passes P [] r h = let impossible : ⊥ = cc in absurd impossible
-found_passes P (x ∷ xs) r h =
-    elim (P x) as (λ b. P x ≡ b → cond b (Some x) (find P xs) ≡ Some r → P r ≡ true) [
-      | true ↦ λ e found. let same : x ≡ r = cc in ap P (sym same) ∙ e
-      | false ↦ λ e found. found_passes P xs r found
-    ] refl h
 
 find_within : (P Q : LockRecord → Bool) → ((r : LockRecord) → P r ≡ true → Q r ≡ true) → (xs : List LockRecord) → find P (filter Q xs) ≡ find P xs
 find_within P Q stricter xs = find_is_first P (filter Q xs) ∙ ap first (filter_within P Q stricter xs) ∙ sym (find_is_first P xs)
@@ -44,13 +36,6 @@ find_within P Q stricter xs = find_is_first P (filter Q xs) ∙ ap first (filter
 -- whose turn it is on a name depends on the locks of that name
 head-on : (name : List ℕ) (a : List LockRecord) → head_of (on name a) name ≡ head_of a name
 head-on name a = λ i. option_or (find_within (converts_on name) (is_on name) (λ r h. and_first _ _ h) a i) (find_within (waits_on name) (is_on name) (λ r h. and_first _ _ h) a i)
-
-pub head_on_name : (name : List ℕ) (a : List LockRecord) (r : LockRecord) → head_of a name ≡ Some r → is_on name r ≡ true
-head_on_name name a r turn =
-    elim (find (converts_on name) a) as (λ found. find (converts_on name) a ≡ found → option_or found (find (waits_on name) a) ≡ Some r → is_on name r ≡ true) [
-      | None ↦ λ e h. and_first _ _ (found_passes (waits_on name) a r h)
-      | Some x ↦ λ e h. let same : x ≡ r = cc in and_first _ _ (found_passes (converts_on name) a r (e ∙ ap Some same))
-    ] refl turn
 
 admits_on_own : (name : List ℕ) (a : List LockRecord) (r : LockRecord) (mode : Mode) → is_on name r ≡ true → admits (on name a) r.lock r.name mode ≡ admits a r.lock r.name mode
 admits_on_own name a r mode own = rw (name_is r.name name own) (admits-on name r.lock mode a)

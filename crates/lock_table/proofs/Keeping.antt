@@ -6,25 +6,25 @@ use Rattle.lock_modes.specs.declared.mode.Mode.{Mode}
 use Rattle.lock_command.specs.Name.{same_name}
 use Rattle.lock_command.specs.declared.command.Action.{Action}
 use Rattle.lock_command.specs.declared.command.Action.TheVariants.{Enqueue, Convert, Release, Cancel, Status, Purge, QuietPurge, CarryLock, CarryClient}
-use Rattle.lock_table.specs.declared.locks.TheConstants.{LOCKS}
-use Rattle.lock_table.specs.declared.record.LockRecord.{LockRecord}
+use Rattle.lock_index.specs.declared.record.TheConstants.{LOCKS}
+use Rattle.lock_index.specs.declared.record.LockRecord.{LockRecord}
 use Rattle.lock_command.specs.declared.state.LockState.{LockState}
 use Rattle.lock_command.specs.declared.state.LockState.TheVariants.{Granted, Converting, Waiting}
-use Rattle.lock_table.specs.Locks.{is_on, is_lock, in_state, lock_in, without, put, admits, has_queue, settled, IsDistinct}
+use Rattle.lock_index.specs.Locks.{is_on, is_lock, in_state, lock_in, without, put, admits, has_queue, settled, IsDistinct}
 use Rattle.lock_table.specs.Apply.{carried, CommandOutcome, enqueued, converted, released, cancelled, with_own, told, done}
 use Rattle.lock_table.specs.declared.values.NamedValue.{NamedValue}
-use Rattle.lock_table.specs.Picture.{printed_cmp}
-use Rattle.lock_table.specs.Placed.{in_order}
+use Rattle.lock_index.specs.Printed.{printed_cmp}
+use Rattle.lock_index.specs.Placed.{in_order}
 use Rattle.lock_table.specs.Stored.{is_of, IsValued, asked_lock, may_lose}
-use Rattle.lock_table.proofs.Alike.{same-any}
+use Rattle.lock_index.proofs.Alike.{same-any}
 use Rattle.lock_table.proofs.Behave.{distinct-done}
-use Rattle.lock_table.proofs.Pictures.{same_in_order}
-use Rattle.lock_table.proofs.Parts.{any_within}
-use Rattle.lock_table.proofs.Numbered.{IsDistinct-put, IsDistinct-filter}
-use Rattle.lock_table.proofs.Apart.{on, name_is, on-put_apart, on-without_apart, absent_apart, settled-apart, settled_there, put_there}
+use Rattle.lock_index.proofs.PrintedOrder.{same_in_order}
+use Rattle.lock_index.proofs.Parts.{any_within}
+use Rattle.lock_index.proofs.Numbered.{IsDistinct-put, IsDistinct-filter}
+use Rattle.lock_index.proofs.Apart.{on, name_is, on-put_apart, on-without_apart, absent_apart, settled-apart, settled_there, put_there}
 use Rattle.lock_table.proofs.Heads.{own_on}
 use Rattle.lock_table.proofs.Quiet.{same_name-sym}
-use Rattle.lock_table.proofs.Shown.{without_new}
+use Rattle.lock_index.proofs.Shown.{without_new}
 use Rattle.lock_table.proofs.Reachable.{either, found_again}
 
 -- the name has a lock

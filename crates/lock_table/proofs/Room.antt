@@ -11,14 +11,14 @@ use Rattle.lock_command.specs.declared.command.Action.TheVariants.{Enqueue, Conv
 use Rattle.lock_command.specs.declared.state.LockState.{LockState}
 use Rattle.lock_command.specs.declared.state.LockState.TheVariants.{Granted, Converting, Waiting}
 use Rattle.lock_table.specs.declared.clients.TheConstants.{CLIENTS}
-use Rattle.lock_table.specs.declared.locks.TheConstants.{LOCKS}
-use Rattle.lock_table.specs.declared.record.LockRecord.{LockRecord}
-use Rattle.lock_table.specs.declared.record.KnownClient.{KnownClient}
-use Rattle.lock_table.specs.State.{goal_of}
-use Rattle.lock_table.specs.Locks.{is_lock, is_through, in_state, lock_in, without, put, converts_on, waits_on, conversions, waiting, queue, has_queue, admits, granted, grant_from, settled, settled_all}
+use Rattle.lock_index.specs.declared.record.TheConstants.{LOCKS}
+use Rattle.lock_index.specs.declared.record.LockRecord.{LockRecord}
+use Rattle.lock_table.specs.declared.known_client.KnownClient.{KnownClient}
+use Rattle.lock_index.specs.State.{goal_of}
+use Rattle.lock_index.specs.Locks.{is_lock, is_through, in_state, lock_in, without, put, converts_on, waits_on, conversions, waiting, queue, has_queue, admits, granted, grant_from, settled, settled_all}
 use Rattle.lock_table.specs.Apply.{CommandOutcome, enqueued, converted, released, cancelled, with_own, told, purged, carried, done, Plain, Applied, is_client, kept, keeps_none, kept_after, carried_out, applied_after, applied, no_locks, table_after}
-use Rattle.lock_table.proofs.Parts.{length_parts}
-use Rattle.lock_table.proofs.Numbered.{numbered, numbered-cons, numbered-append, numbered-filter}
+use Rattle.lock_index.proofs.Parts.{length_parts}
+use Rattle.lock_index.proofs.Numbered.{numbered, numbered-cons, numbered-append, numbered-filter}
 use Rattle.lock_table.proofs.Quiet.{found_numbered}
 use Rattle.lock_table.proofs.Reachable.{either, found_again}
 

@@ -14,14 +14,15 @@ use Rattle.std.proofs.lemmas.List.MinMax.{ranks_by}
 use Rattle.std.proofs.lemmas.List.Sorted.{sorted_far, searchable_from_sorted}
 use Rattle.lock_command.specs.Name.{same_name}
 use Rattle.lock_table.specs.declared.values.NamedValue.{NamedValue}
-use Rattle.lock_table.specs.Placed.{placed}
+use Rattle.lock_index.specs.Placed.{placed}
 use Rattle.lock_table.specs.Values.{zeros}
 use Rattle.lock_table.specs.Stored.{is_of, value_or_zeros, value_in, name_cmp, put_value, AreNamed, StandsAt, WouldStandAt}
-use Rattle.lock_table.proofs.Apart.{name_is}
+use Rattle.lock_index.proofs.Apart.{name_is}
 use Rattle.lock_table.proofs.Quiet.{same_name-sym}
-use Rattle.lock_table.proofs.Unique.{names_equal}
-use Rattle.lock_table.proofs.Cuts.{each_in_front, each_behind, placed_between}
-use Rattle.lock_table.proofs.Keyed.{remove_where_stands}
+use Rattle.lock_index.proofs.Unique.{names_equal}
+use Rattle.lock_index.proofs.Standing.{found_there, none_later}
+use Rattle.lock_index.proofs.Cuts.{each_in_front, each_behind, placed_between}
+use Rattle.lock_index.proofs.Keyed.{remove_where_stands}
 
 pub name_order : IsStrictWeakOrder (λ a b. is_lt (name_cmp a b))
 name_order = ranks_by nat_list_cmp_total (λ (e : NamedValue). e.name)
@@ -71,40 +72,6 @@ module _ {X : Type 0} (P : X → Bool) where
       ap (λ l. x ∷ l) (all_kept xs (λ k d inside. none (suc k) d (omega (arith, inside))))
       ∙ ap (λ t. cond (not t) (x ∷ filter (λ e. not (P e)) xs) (filter (λ e. not (P e)) xs)) (sym (none 0 x (omega arith)))
 
-  counted_at : (xs : List X) (i : ℕ) (d : X) → i < length xs → P (get_or xs i d) ≡ true → 1 ≤ length (filter P xs)
-  counted_at [] i d inside own = absurd (omega (arith, inside))
-  counted_at (x ∷ xs) zero d inside own = omega (arith, ap (λ t. length (cond t (x ∷ filter P xs) (filter P xs))) own)
-  counted_at (x ∷ xs) (suc i) d inside own = elim (P x) as (λ t. 1 ≤ length (cond t (x ∷ filter P xs) (filter P xs))) [
-    | true ↦ omega arith
-    | false ↦ counted_at xs i d (omega (arith, inside)) own
-  ]
-
-  find_at : (xs : List X) (i : ℕ) (d : X) → i < length xs → P (get_or xs i d) ≡ true → length (filter P xs) ≤ 1 → find P xs ≡ Some (get_or xs i d)
-  find_at [] i d inside own few = absurd (omega (arith, inside))
-  find_at (x ∷ xs) zero d inside own few = ap (λ t. cond t (Some x) (find P xs)) own
-  find_at (x ∷ xs) (suc i) d inside own few =
-      elim (P x) as (λ t. length (cond t (x ∷ filter P xs) (filter P xs)) ≤ 1 → cond t (Some x) (find P xs) ≡ Some (get_or xs i d)) [
-        | true ↦ λ h. absurd (omega (arith, h, counted_at xs i d (omega (arith, inside)) own))
-        | false ↦ λ h. find_at xs i d (omega (arith, inside)) own h
-      ] few
-
-  -- where one alone passes, none behind it does
-  pub none_later : (xs : List X) (i k : ℕ) (d : X) → i < k → k < length xs → P (get_or xs i d) ≡ true → length (filter P xs) ≤ 1 → P (get_or xs k d) ≡ false
-  none_later [] i k d behind inside own few = absurd (omega (arith, inside))
-  none_later (x ∷ xs) i zero d behind inside own few = absurd (omega (arith, behind))
-  none_later (x ∷ xs) zero (suc k) d behind inside own few =
-      let rest : length (filter P xs) ≡ 0 = omega (arith, few, ap (λ t. length (cond t (x ∷ filter P xs) (filter P xs))) own) in
-      elim (P (get_or xs k d)) as (λ t. P (get_or xs k d) ≡ t → t ≡ false) [
-        | true ↦ λ h. absurd (omega (arith, rest, counted_at xs k d (omega (arith, inside)) h))
-        | false ↦ λ h. refl
-      ] refl
-  none_later (x ∷ xs) (suc i) (suc k) d behind inside own few =
-      let fewer : length (filter P xs) ≤ 1 = elim (P x) as (λ t. length (cond t (x ∷ filter P xs) (filter P xs)) ≤ 1 → length (filter P xs) ≤ 1) [
-        | true ↦ λ h. omega (arith, h)
-        | false ↦ λ h. h
-      ] few in
-      none_later xs i k d (omega (arith, behind)) (omega (arith, inside)) own fewer
-
 -- WHAT A SEARCH FINDS
 
 found_by : (name : List ℕ) (xs : List NamedValue) (r : Result ℕ ℕ) → IsNonDecreasingBy (λ (e : NamedValue). ordering_index (slice_cmp nat_cmp e.name name)) xs
@@ -125,7 +92,7 @@ none_named name xs i point k d inside =
 
 -- the value of a name
 pub value_there : (name : List ℕ) (xs : List NamedValue) (at : ℕ) (d : NamedValue) → AreNamed xs → at < length xs → StandsAt name xs at → (get_or xs at d).value ≡ value_in xs name
-value_there name xs at d named inside here = sym (ap value_or_zeros (find_at (is_of name) xs at d inside (own_named (get_or xs at d) name (here d)) (named.one name)))
+value_there name xs at d named inside here = sym (ap value_or_zeros (found_there (is_of name) xs at d inside (own_named (get_or xs at d) name (here d)) (named.one name)))
 
 pub value_absent : (name : List ℕ) (xs : List NamedValue) (i : ℕ) → WouldStandAt name xs i → zeros ≡ value_in xs name
 value_absent name xs i point = sym (ap value_or_zeros (find_none (is_of name) xs (none_named name xs i point)))

@@ -2,17 +2,18 @@
 use Rattle.std.specs.Prelude.{ℕ, Bool, true, false, ◌&&◌, List, Option, Some, None, replicate, if◌then◌else◌}
 use Rattle.std.specs.List.{list_any}
 use Rattle.lock_modes.specs.declared.mode.Mode.{Mode}
-use Rattle.lock_modes.specs.Mode.{writes_alone, downward}
+use Rattle.lock_modes.specs.Mode.{downward}
 use Rattle.lock_command.specs.Name.{same_name}
 use Rattle.lock_command.specs.declared.command.Action.{Action}
 use Rattle.lock_command.specs.declared.command.Action.TheVariants.{Enqueue, Convert, Release, Cancel, Status, Purge, QuietPurge, CarryLock, CarryClient}
-use Rattle.lock_table.specs.declared.record.LockRecord.{LockRecord}
+use Rattle.lock_index.specs.declared.record.LockRecord.{LockRecord}
 use Rattle.lock_command.specs.declared.state.LockState.{LockState}
 use Rattle.lock_command.specs.declared.state.LockState.TheVariants.{Granted, Converting, Waiting}
 use Rattle.lock_command.specs.declared.reply.Answer.{Answer}
 use Rattle.lock_command.specs.declared.reply.Answer.TheVariants as answer
 use Rattle.lock_command.specs.declared.reply.LockValue.{LockValue}
-use Rattle.lock_table.specs.Locks.{is_on, is_through, lock_in}
+use Rattle.lock_index.specs.State.{is_writer}
+use Rattle.lock_index.specs.Locks.{is_on, is_through, lock_in}
 
 -- the value of each name
 abbrev pub Values : Type 0
@@ -29,12 +30,6 @@ invalid value = record { bytes = value.bytes; valid = false }
 -- one name has another value
 abbrev pub stored : Values → List ℕ → LockValue → Values
 stored values name value other = if same_name other name then value else values other
-
--- the lock holds a mode under which it writes alone
-abbrev pub is_writer : LockState → Bool
-is_writer (Granted mode) = writes_alone mode
-is_writer (Converting held wanted) = writes_alone held
-is_writer (Waiting wanted) = false
 
 -- the mode is downward from what the lock holds
 abbrev pub is_downward : Mode → LockState → Bool

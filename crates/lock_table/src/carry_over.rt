@@ -3,13 +3,12 @@ ghost use Rattle.lock_command.specs.Command.{spelling};
 ghost use Rattle.lock_table.specs.Carrying.{carried_lock, carried_client, is_among, stays_known};
 ghost use Rattle.lock_table.specs.Stored.{value_in, AreNamed};
 
-use crate::by_printed_order::ByPrintedOrder;
 use crate::clients::CLIENTS;
-use crate::locks::LOCKS;
-use crate::record::{KnownClient, LockRecord};
+use crate::known_client::KnownClient;
 use crate::values;
 use crate::values::NamedValue;
 use lock_command::{Action, ClientNumber, Command, HostNumber, LockValue, RequestNumber, Value};
+use lock_index::{ByPrintedOrder, LOCKS, LockRecord};
 
 /// The command that carries a lock over, with the value of its name.
 fn carry_lock(own: &LockRecord, value: LockValue) -> Command

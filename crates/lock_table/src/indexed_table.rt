@@ -1,18 +1,18 @@
 ghost use Rattle.std.specs.Prelude.{◌≡◌, ◌<◌, ◌≤◌, [], IfOk, IfSome, None, find, length};
 ghost use Rattle.lock_table.specs.Apply.{applied, carried_out, is_client, keeps_none, unchanged};
-ghost use Rattle.lock_table.specs.Indexed.{IsPlaceOf};
-ghost use Rattle.lock_table.specs.Picture.{printed_cmp, client_cmp, HasZeros};
-ghost use Rattle.lock_table.specs.Placed.{in_order};
+ghost use Rattle.lock_table.specs.Known.{IsPlaceOf};
+ghost use Rattle.lock_index.specs.Printed.{printed_cmp};
+ghost use Rattle.lock_table.specs.Picture.{client_cmp, HasZeros};
+ghost use Rattle.lock_index.specs.Placed.{in_order};
 ghost use Rattle.lock_table.specs.Stored.{plain_of, value_in, AreNamed};
 
-use crate::by_printed_order::ByPrintedOrder;
 use crate::clients::{CLIENTS, Clients};
-use crate::locks::LOCKS;
-use crate::record::KnownClient;
+use crate::known_client::KnownClient;
 use crate::reply::refusing;
 use crate::valued::ValuedLocks;
 use crate::values::NamedValue;
 use lock_command::{Action, Command, Refusal, Reply};
+use lock_index::ByPrintedOrder;
 use std::alloc::{AllocError, Global};
 use std::marker::Model;
 

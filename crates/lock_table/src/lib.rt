@@ -1,30 +1,21 @@
 //! The lock table: who holds which mode of which name, who waits for it, and the reply to each client's last request.
 #![tactic(auto)]
 
-mod bits;
-mod by_lock_number;
-mod by_printed_order;
 mod carry_over;
 mod clients;
-mod hosts;
-mod index;
 mod indexed_table;
-mod keys;
+mod known_client;
 mod laws;
 mod locks;
-mod narrowing;
 mod no_memory;
 mod picture;
-mod printed;
-mod purge;
-mod record;
 mod reply;
-mod state;
 mod table;
 mod valued;
 mod values;
 
 pub use clients::CLIENTS;
+pub use known_client::KnownClient;
 pub use laws::{
     a_table_has_one_picture, carried_tables_are_the_same, downward_conversions_are_granted,
     heads_could_not_be_granted, held_modes_are_compatible, left_out_clients_are_forgotten,
@@ -32,8 +23,7 @@ pub use laws::{
     requests_count_once, settling_is_complete, values_are_stored_last,
 };
 pub use lock_command::{Answer, LockState, LockValue, Refusal, Reply, is_same_reply};
-pub use locks::LOCKS;
+pub use lock_index::{LOCKS, LockRecord};
 pub use no_memory::NoMemory;
 pub use picture::Picture;
-pub use record::{KnownClient, LockRecord};
 pub use table::Table;

@@ -2,15 +2,14 @@ ghost use Rattle.std.specs.Prelude.{◌≡◌, ◌≤◌, [], IfOk, vec_capacity
 ghost use Rattle.lock_table.specs.Picture.{nothing_shown, values_beside};
 ghost use Rattle.lock_table.specs.Stored.{value_in, AreNamed};
 
-use crate::by_printed_order::ByPrintedOrder;
 use crate::clients::CLIENTS;
-use crate::locks::LOCKS;
+use crate::known_client::KnownClient;
 use crate::no_memory::NoMemory;
-use crate::record::{KnownClient, LockRecord};
 use crate::table::Table;
 use crate::values;
 use crate::values::NamedValue;
 use lock_command::LockValue;
+use lock_index::{ByPrintedOrder, LOCKS, LockRecord};
 use std::alloc::Global;
 use std::marker::Model;
 
@@ -27,7 +26,7 @@ pub struct Picture {
 impl Model for Picture {
     ghost use Rattle.std.specs.Prelude.{◌≤◌, vec_capacity};
     ghost use Rattle.lock_table.specs.declared.clients.TheConstants.{CLIENTS};
-    ghost use Rattle.lock_table.specs.declared.locks.TheConstants.{LOCKS};
+    ghost use Rattle.lock_index.specs.declared.record.TheConstants.{LOCKS};
     ghost use Rattle.lock_table.specs.Picture.{Shown};
 
     ghost Value = { Shown };

@@ -4,14 +4,12 @@ ghost use Rattle.std.specs.List.Sorted.{IsSorted, IsSearchInRange};
 ghost use Rattle.std.specs.Ordering.{nat_cmp};
 ghost use Rattle.std.specs.Cmp.Lexicographic.{slice_cmp};
 ghost use Rattle.lock_command.specs.Name.{same_name};
-ghost use Rattle.lock_table.specs.Locks.{is_on};
-ghost use Rattle.lock_table.specs.Picture.{printed_cmp};
+ghost use Rattle.lock_index.specs.Locks.{is_on};
+ghost use Rattle.lock_index.specs.Printed.{printed_cmp};
 ghost use Rattle.lock_table.specs.Stored.{is_of, value_in, put_value, is_locked, AreNamed, StandsAt, WouldStandAt};
 
-use crate::by_printed_order::ByPrintedOrder;
-use crate::locks::LOCKS;
-use crate::printed;
 use lock_command::{LockName, LockValue};
+use lock_index::{ByPrintedOrder, LOCKS, has_locks};
 use std::alloc::{AllocError, Global};
 use std::cmp::Ordering;
 use std::marker::Model;
@@ -31,7 +29,7 @@ pub struct Values {
 
 impl Model for Values {
     ghost use Rattle.std.specs.Prelude.{List, ◌≤◌, vec_capacity};
-    ghost use Rattle.lock_table.specs.declared.locks.TheConstants.{LOCKS};
+    ghost use Rattle.lock_index.specs.declared.record.TheConstants.{LOCKS};
     ghost use Rattle.lock_table.specs.declared.values.NamedValue.{NamedValue};
 
     ghost Value = { List NamedValue };
@@ -139,7 +137,7 @@ pub fn keep_if_locked(values: &mut Values, locks: &ByPrintedOrder, name: LockNam
     requires others { (other : List ℕ) → list_any (is_of other) values.old ≡ true → same_name other name ≡ false → list_any (is_on other) locks.now ≡ true }
     ensures { values.new ≡ filter (is_locked locks.now) values.old }
 {
-    if !printed::has_locks(locks, name) {
+    if !has_locks(locks, name) {
         forget(values, name);
     }
 }
@@ -152,7 +150,7 @@ pub fn keep_locked(values: &mut Values, locks: &ByPrintedOrder)
     let mut at = values.entries().len();
     while at > 0 {
         at -= 1;
-        if !printed::has_locks(locks, values.entries()[at].name) {
+        if !has_locks(locks, values.entries()[at].name) {
             values.remove(at);
         }
     }

@@ -1,6 +1,6 @@
 -- Which request asks for a lock, and which lock number goes with it.
 use Rattle.std.specs.Prelude.{◌≡◌, ◌<◌, false}
-use Rattle.lock_table.specs.declared.record.KnownClient.{KnownClient}
+use Rattle.lock_table.specs.declared.known_client.KnownClient.{KnownClient}
 use Rattle.session.specs.Evidence.{Knows, is_numbered}
 use Rattle.session.specs.Numbers.{client_of, lock_of}
 use Rattle.session.specs.declared.claim.Choice.{Choice}

@@ -7,10 +7,10 @@ use Rattle.lock_command.specs.declared.command.Command.{Command}
 use Rattle.lock_command.specs.declared.command.Action.TheVariants.{Enqueue, Purge, QuietPurge}
 use Rattle.lock_command.specs.declared.state.LockState.{LockState}
 use Rattle.lock_command.specs.declared.state.LockState.TheVariants.{Granted, Converting, Waiting}
-use Rattle.lock_table.specs.Locks.{is_lock, is_on}
-use Rattle.lock_table.specs.State.{goal_of}
-use Rattle.lock_table.specs.declared.record.LockRecord.{LockRecord}
-use Rattle.lock_table.specs.declared.record.KnownClient.{KnownClient}
+use Rattle.lock_index.specs.Locks.{is_lock, is_on}
+use Rattle.lock_index.specs.State.{goal_of}
+use Rattle.lock_index.specs.declared.record.LockRecord.{LockRecord}
+use Rattle.lock_table.specs.declared.known_client.KnownClient.{KnownClient}
 use Rattle.lock_table.specs.Picture.{Shown}
 use Rattle.session.specs.Numbers.{client_of}
 use Rattle.session.specs.declared.claim.Claim.{Claim}

@@ -1,5 +1,5 @@
 ghost use Rattle.std.specs.Prelude.{◌≡◌, ◌+◌, ◌≢◌, ◌≤◌, ◌^◌, ◌⊎◌, ◌↔◌, IfSome, IsTrue, Some, is_some, false, true};
-ghost use Rattle.lock_table.specs.declared.record.KnownClient.{KnownClient};
+ghost use Rattle.lock_table.specs.declared.known_client.KnownClient.{KnownClient};
 ghost use Rattle.session.specs.Bounds.{ComesNearer, IsOpening, is_leaving, orders_left};
 ghost use Rattle.session.specs.Choosing.{IsFree};
 ghost use Rattle.session.specs.Evidence.{Knows};

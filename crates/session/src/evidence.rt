@@ -1,7 +1,7 @@
 ghost use Rattle.std.specs.Prelude.{◌≡◌, ◌≢◌, ◌≤◌, ◌<◌, ◌^◌, ◌↔◌, ◌⊎◌, IsTrue, IfSome, length, None};
 ghost use Rattle.lock_command.specs.declared.state.LockState.TheVariants as lock;
-ghost use Rattle.lock_table.specs.State.{goal_of};
-ghost use Rattle.lock_table.specs.declared.record.KnownClient.{KnownClient};
+ghost use Rattle.lock_index.specs.State.{goal_of};
+ghost use Rattle.lock_table.specs.declared.known_client.KnownClient.{KnownClient};
 ghost use Rattle.session.specs.Evidence as evidence;
 ghost use Rattle.session.specs.Evidence.{AsksFor, HasHeard, IsFirst, IsOf, IsRequest, Knows, Lacks, NoneBetween, Purges, Shows, ShowsWaiting};
 

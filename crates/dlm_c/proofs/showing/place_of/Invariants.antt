@@ -1,5 +1,5 @@
 use Rattle.std.proofs.Common.{◌<◌, ℕ}
-use Rattle.lock_table.specs.declared.record.LockRecord.{LockRecord}
+use Rattle.lock_index.specs.declared.record.LockRecord.{LockRecord}
 use Rattle.dlm_c.specs.Views.{IsAt}
 use Rattle.dlm_c.proofs.showing.place_of.Given as goal
 

@@ -1,6 +1,6 @@
 use Rattle.std.proofs.Common.{arith, ◌∙◌, subst}
 use Rattle.std.proofs.lemmas.Option.{slice_get_within, get_or_from_slice_get}
-use Rattle.lock_table.specs.declared.record.KnownClient.{KnownClient}
+use Rattle.lock_table.specs.declared.known_client.KnownClient.{KnownClient}
 use Rattle.dlm_c.specs.Views.{ShowsClient}
 use Rattle.dlm_c.proofs.Shown.{shown_put}
 use Rattle.dlm_c.proofs.showing.show_clients.Goals as goal

@@ -1,6 +1,6 @@
 use Rattle.std.proofs.Common.{◌≡◌, List, Some, slice_get, sym, ◌∙◌, ap, subst}
 use Rattle.lock_command.specs.declared.command.Action.TheVariants.{Status}
-use Rattle.lock_table.specs.declared.record.KnownClient.{KnownClient}
+use Rattle.lock_table.specs.declared.known_client.KnownClient.{KnownClient}
 use Rattle.lock_table.specs.Apply.{table_after}
 use Rattle.lock_table.specs.Picture.{Shown}
 use Rattle.folder_migration.proofs.Filling.{first_is_known}

@@ -2,7 +2,7 @@ use Rattle.std.proofs.Common.{◌≡◌, ◌<◌, ◌+◌, ◌++◌, ◌∷◌, 
 use Rattle.std.proofs.lemmas.List.{append-nil, map-append}
 use Rattle.std.proofs.lemmas.List.Elements.{filter_more}
 use Rattle.lock_command.specs.Command.{spelling}
-use Rattle.lock_table.specs.declared.record.KnownClient.{KnownClient}
+use Rattle.lock_table.specs.declared.known_client.KnownClient.{KnownClient}
 use Rattle.lock_table.specs.Carrying.{carried_client, is_among, stays_known}
 use Rattle.lock_table.proofs.carry_over.carry_clients.Goals.{then-stays_known, else-stays_known}
 use Rattle.lock_table.proofs.carry_over.carry_clients.Goals as goal

@@ -1,9 +1,9 @@
 use Rattle.std.proofs.Common.{nat_lt, None}
 use Rattle.lock_command.specs.declared.reply.Answer.TheVariants as answer
-use Rattle.lock_table.specs.declared.record.KnownClient.{KnownClient}
-use Rattle.lock_table.proofs.Shown.{client_of}
-use Rattle.lock_table.proofs.Keyed.{key_partitioned}
-use Rattle.lock_table.proofs.Quarters.{narrowed_on, counted_on}
+use Rattle.lock_table.specs.declared.known_client.KnownClient.{KnownClient}
+use Rattle.lock_table.proofs.KnownPlaces.{client_of}
+use Rattle.lock_index.proofs.Keyed.{key_partitioned}
+use Rattle.lock_index.proofs.Quarters.{narrowed_on, counted_on}
 use Rattle.lock_table.proofs.clients.lower_clients.Goals as goal
 
 abbrev nobody : KnownClient

@@ -1,6 +1,6 @@
 use Rattle.std.proofs.Common.{nat_lt}
-use Rattle.lock_table.specs.Narrowed.{IsNarrowed}
-use Rattle.lock_table.proofs.Quarters.{IsCounted}
+use Rattle.lock_index.specs.Narrowed.{IsNarrowed}
+use Rattle.lock_index.proofs.Quarters.{IsCounted}
 use Rattle.lock_table.proofs.clients.lower_clients.Given as goal
 
 abbrev pub invariant-loop-size : goal.invariant-loop-size

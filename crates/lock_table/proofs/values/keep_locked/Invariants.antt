@@ -1,6 +1,6 @@
 use Rattle.std.proofs.Common.{◌≡◌, ◌≤◌, length}
 use Rattle.lock_table.specs.Stored.{is_locked}
-use Rattle.lock_table.proofs.Partly.{partly}
+use Rattle.lock_index.proofs.Partly.{partly}
 use Rattle.lock_table.proofs.values.keep_locked.Given as goal
 
 -- of what is behind is left what has to be

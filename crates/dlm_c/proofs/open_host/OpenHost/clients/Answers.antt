@@ -1,5 +1,5 @@
 use Rattle.std.proofs.Common.{List, length, ap, subst}
-use Rattle.lock_table.specs.declared.record.KnownClient.{KnownClient}
+use Rattle.lock_table.specs.declared.known_client.KnownClient.{KnownClient}
 use Rattle.dlm_c.specs.Views.{ShowBelow, ShowsClient}
 use Rattle.dlm_c.proofs.open_host.OpenHost.clients.Goals as goal
 

@@ -1,5 +1,5 @@
 use Rattle.std.proofs.Common.{List, length, ap, subst}
-use Rattle.lock_table.specs.declared.record.LockRecord.{LockRecord}
+use Rattle.lock_index.specs.declared.record.LockRecord.{LockRecord}
 use Rattle.dlm_c.specs.Views.{ShowBelow, ShowsLock}
 use Rattle.dlm_c.proofs.open_host.OpenHost.locks.Goals as goal
 

@@ -2,13 +2,13 @@ use Rattle.std.proofs.Common.{◌≡◌, Bool, true, false, Bor, drop, List, Som
 use Rattle.std.specs.Bool.{then_some}
 use Rattle.std.specs.List.{slice_get}
 use Rattle.std.specs.Option.{option_copied}
-use Rattle.lock_table.specs.declared.record.KnownClient.{KnownClient}
+use Rattle.lock_table.specs.declared.known_client.KnownClient.{KnownClient}
 use Rattle.lock_table.specs.Apply.{is_client}
-use Rattle.lock_table.specs.Indexed.{AreKnown}
-use Rattle.lock_table.proofs.Parts.{first}
-use Rattle.lock_table.proofs.Shown.{client_of}
-use Rattle.lock_table.proofs.Keyed.{first_if, then_some_if, find_at_cut}
-use Rattle.lock_table.proofs.Cuts.{slice_get_is_first}
+use Rattle.lock_table.specs.Known.{AreKnown}
+use Rattle.lock_index.proofs.Parts.{first}
+use Rattle.lock_table.proofs.KnownPlaces.{client_of}
+use Rattle.lock_index.proofs.Keyed.{first_if, then_some_if, find_at_cut}
+use Rattle.lock_index.proofs.Cuts.{slice_get_is_first}
 use Rattle.lock_table.proofs.clients.Clients.get.Goals as goal
 
 copied_if : (b : Bool) (r : Bor KnownClient) → option_copied (then_some b r) ≡ then_some b r.now

@@ -2,10 +2,10 @@ use Rattle.std.proofs.Common.{◌≡◌, ◌<◌, ℕ, List, length, get_or, Som
 use Rattle.std.specs.List.{slice_get}
 use Rattle.std.proofs.lemmas.Bool.{eqb-true}
 use Rattle.std.proofs.lemmas.Option.{slice_get_cases, get_or_from_slice_get}
-use Rattle.lock_table.specs.declared.record.KnownClient.{KnownClient}
-use Rattle.lock_table.specs.Indexed.{AreKnown}
-use Rattle.lock_table.proofs.Shown.{client_of}
-use Rattle.lock_table.proofs.Standing.{cut_where_stands}
+use Rattle.lock_table.specs.declared.known_client.KnownClient.{KnownClient}
+use Rattle.lock_table.specs.Known.{AreKnown}
+use Rattle.lock_table.proofs.KnownPlaces.{client_of}
+use Rattle.lock_index.proofs.Standing.{cut_where_stands}
 use Rattle.lock_table.proofs.clients.Clients.place_of.Goals as goal
 
 inside_if : (xs : List KnownClient) (i : ℕ) (k : KnownClient) → slice_get xs i ≡ Some k → i < length xs

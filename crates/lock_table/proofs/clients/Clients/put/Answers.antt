@@ -2,12 +2,12 @@ use Rattle.std.proofs.Common.{◌≡◌, ◌<◌, ℕ, nat_lt, true, false, Bor,
 use Rattle.std.specs.List.{find}
 use Rattle.std.specs.List.Sorted.{IsPartitionPoint}
 use Rattle.std.specs.Option.{option_copied}
-use Rattle.lock_table.specs.declared.record.KnownClient.{KnownClient}
+use Rattle.lock_table.specs.declared.known_client.KnownClient.{KnownClient}
 use Rattle.lock_table.specs.Apply.{is_client, kept}
-use Rattle.lock_table.specs.Indexed.{AreKnown, IsPlaceOf}
+use Rattle.lock_table.specs.Known.{AreKnown, IsPlaceOf}
 use Rattle.lock_table.specs.Picture.{client_cmp}
-use Rattle.lock_table.specs.Placed.{in_order}
-use Rattle.lock_table.proofs.Shown.{known_insert, known_set}
+use Rattle.lock_index.specs.Placed.{in_order}
+use Rattle.lock_table.proofs.KnownPlaces.{known_insert, known_set}
 use Rattle.lock_table.proofs.clients.Clients.put.Goals as goal
 
 found_if : (o : Option (Bor KnownClient)) (f : Option KnownClient) → option_copied o ≡ f → true ≡ is_some o → (own : KnownClient) × (f ≡ Some own)

@@ -1,12 +1,11 @@
 use Rattle.std.proofs.Common.{◌≡◌, ℕ, not, List, map, sym, ap, subst, ◌∙◌}
 use Rattle.std.specs.List.{filter}
-use Rattle.lock_table.specs.declared.record.LockRecord.{LockRecord}
-use Rattle.lock_table.specs.Locks.{is_through}
-use Rattle.lock_table.specs.Locks.{settled_all, IsDistinct}
-use Rattle.lock_table.proofs.Numbered.{IsDistinct-filter}
+use Rattle.lock_index.specs.declared.record.LockRecord.{LockRecord}
+use Rattle.lock_index.specs.Locks.{is_through, settled_all, IsDistinct}
+use Rattle.lock_index.proofs.Numbered.{IsDistinct-filter}
 use Rattle.lock_table.proofs.Behave.{any-names}
-use Rattle.lock_table.proofs.Settled.{is_among}
-use Rattle.lock_table.proofs.Shown.{shown, shown-settled_same}
+use Rattle.lock_index.proofs.Settled.{is_among}
+use Rattle.lock_index.proofs.Shown.{shown, shown-settled_same}
 use Rattle.lock_table.proofs.locks.Locks.purge.Goals as goal
 
 pub settle_all-requires-clause-distinct : goal.settle_all-requires-clause-distinct

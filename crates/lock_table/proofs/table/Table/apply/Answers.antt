@@ -1,10 +1,8 @@
 use Rattle.std.proofs.Common.{◌≡◌, ◌∙◌, sym, subst}
 use Rattle.lock_table.specs.Apply.{Plain, applied}
-use Rattle.lock_table.specs.Picture.{Shown, values_beside, IsPictureOf}
-use Rattle.lock_table.specs.Placed.{pictured}
+use Rattle.lock_table.specs.Picture.{Shown, values_beside, IsPictureOf, pictured}
 use Rattle.lock_table.specs.Stored.{plain_of, shown_of}
-use Rattle.lock_table.proofs.Pictures.{picture_applied}
-use Rattle.lock_table.proofs.Shown.{pictured_itself, shown_after}
+use Rattle.lock_table.proofs.Pictures.{picture_applied, pictured_itself, shown_after}
 use Rattle.lock_table.proofs.table.Table.apply.Goals as goal
 
 -- the table that the command leaves is shown as the plain table's

@@ -1,10 +1,11 @@
 use Rattle.std.proofs.Common.{◌≡◌, subst}
 use Rattle.lock_table.specs.Stored.{Valued, value_in}
 use Rattle.lock_table.specs.Values.{of_locked}
-use Rattle.lock_table.specs.Picture.{printed_cmp, HasZeros}
-use Rattle.lock_table.specs.Placed.{in_order}
+use Rattle.lock_index.specs.Printed.{printed_cmp}
+use Rattle.lock_table.specs.Picture.{HasZeros}
+use Rattle.lock_index.specs.Placed.{in_order}
 use Rattle.lock_table.proofs.Entries.{valued_values, valued_zeros}
-use Rattle.lock_table.proofs.Shown.{shown_sorted}
+use Rattle.lock_index.proofs.Shown.{shown_sorted}
 use Rattle.lock_table.proofs.valued.ValuedLocks.answer_again.Goals as goal
 
 pub returns-clause-printed : goal.returns-clause-printed

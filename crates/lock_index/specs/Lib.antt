@@ -1,0 +1,9 @@
+pub mod Bits
+pub mod Indexed
+pub mod Keys
+pub mod Locks
+pub mod Narrowed
+pub mod Placed
+pub mod Printed
+pub mod Shelved
+pub mod State

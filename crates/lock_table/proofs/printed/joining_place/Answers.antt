@@ -1,6 +1,0 @@
-use Rattle.lock_table.proofs.Below.{joins_at}
-use Rattle.lock_table.proofs.printed.joining_place.Goals as goal
-
-pub returns-clause-place : goal.returns-clause-place
-returns-clause-place c =
-    joins_at c.args.printed.now c.locks_below.ensures.fit c.args.new.now c.key.result c.locks_below.result c.key.ensures.fits c.key.ensures.key c.locks_below.ensures.bound c.locks_below.ensures.point
