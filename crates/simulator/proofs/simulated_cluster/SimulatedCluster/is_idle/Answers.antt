@@ -1,5 +1,5 @@
 use Rattle.std.proofs.Common.{ℕ, ◌<◌, ◌≡◌, Bool, true, false, not, None, length, get_or, refl, sym, ap, ◌∙◌, subst, arith}
-use Rattle.simulator.specs.Sweeping.{TellsNext}
+use Rattle.simulator.specs.Kept.{TellsNext}
 use Rattle.simulator.proofs.Interrupted.{tells_none}
 use Rattle.simulator.proofs.Owed.{kept_in, read_at}
 use Rattle.simulator.proofs.simulated_cluster.SimulatedCluster.is_idle.Goals as goal

@@ -3,7 +3,7 @@ use Rattle.std.specs.Prelude.{◌&&◌, is_none}
 use Rattle.disk.specs.declared.fault.DiskFault.{DiskFault}
 use Rattle.phases.specs.Calls.{device_call_of}
 use Rattle.simulator.specs.Calls.{is_write}
-use Rattle.simulator.specs.Sweeping.{TellsNext}
+use Rattle.simulator.specs.Kept.{TellsNext}
 use Rattle.simulator.proofs.Interrupted.{tells_none, tells_next}
 use Rattle.simulator.proofs.Owed as owed
 use Rattle.simulator.proofs.Owed.{kept_in, read_at}
