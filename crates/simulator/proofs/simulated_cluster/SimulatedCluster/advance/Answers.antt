@@ -1,5 +1,4 @@
-use Rattle.std.proofs.Common.{◌<◌, None, length, refl, sym, ◌∙◌, arith}
-use Rattle.torn_block.specs.declared.layout.TheConstants.{HOSTS}
+use Rattle.std.proofs.Common.{None, refl, sym, ◌∙◌, arith}
 use Rattle.world.specs.Happens.{Step}
 use Rattle.simulator.proofs.Changes.{reached, seen, unseen}
 use Rattle.simulator.proofs.Owed as owed

@@ -1,4 +1,4 @@
-use Rattle.std.proofs.Common.{◌<◌, None, sym, ◌∙◌, arith}
+use Rattle.std.proofs.Common.{None, sym, ◌∙◌, arith}
 use Rattle.std.proofs.lemmas.Bool.{le-ltb}
 use Rattle.world.specs.Happens.{Mark}
 use Rattle.simulator.proofs.Changes.{reached, seen, unseen}

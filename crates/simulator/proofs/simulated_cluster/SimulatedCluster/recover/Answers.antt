@@ -1,4 +1,4 @@
-use Rattle.std.proofs.Common.{◌<◌, None, sym, ◌∙◌, arith}
+use Rattle.std.proofs.Common.{None, sym, ◌∙◌, arith}
 use Rattle.world.specs.Happens.{Recover}
 use Rattle.simulator.proofs.Changes.{reached, seen, unseen}
 use Rattle.simulator.proofs.Owed as owed

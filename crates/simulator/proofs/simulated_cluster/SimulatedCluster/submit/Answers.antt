@@ -1,4 +1,4 @@
-use Rattle.std.proofs.Common.{◌<◌, None, refl, sym, ◌∙◌, arith}
+use Rattle.std.proofs.Common.{None, refl, sym, ◌∙◌, arith}
 use Rattle.world.specs.Happens.{Submit}
 use Rattle.simulator.proofs.Changes.{reached, seen, unseen}
 use Rattle.simulator.proofs.Owed as owed

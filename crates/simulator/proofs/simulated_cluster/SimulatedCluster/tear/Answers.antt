@@ -1,7 +1,6 @@
-use Rattle.std.proofs.Common.{◌<◌, Some, None, length, sym, ap, ◌∙◌, subst, arith, List}
+use Rattle.std.proofs.Common.{Some, None, length, sym, ap, ◌∙◌, subst, arith, List}
 use Rattle.std.proofs.Math.ListN.{set}
 use Rattle.disk.specs.declared.fault.DiskFault.{DiskFault}
-use Rattle.torn_block.specs.declared.layout.TheConstants.{HOSTS}
 use Rattle.world.specs.Happens.{Event, Tear}
 use Rattle.simulator.specs.Kept.{Kept, LeadsTo, Brings}
 use Rattle.simulator.proofs.Changes.{reached, seen, unseen}
