@@ -31,7 +31,7 @@ use Rattle.inspect.specs.declared.verdict.Blocking.{Blocking}
 use Rattle.inspect.specs.declared.verdict.Blocking.TheVariants.{Cycle, Ranked}
 use Rattle.simulator.specs.Events.{event_of, events_of, opening_of}
 use Rattle.simulator.specs.Kept.{Kept, LeadsTo}
-use Rattle.simulator.specs.Sweeping.{recovered_behind, variants}
+use Rattle.fault_sweep.specs.Sweeping.{recovered_behind, variants}
 use Rattle.dlm_images.specs.Marking.{RecoversAndMarks}
 use Rattle.dlm_images.specs.Operations.{HasLooked, HasOperated, IsAcknowledged, Standing}
 use Rattle.dlm_images.specs.Tries.{HasTried}

@@ -4,7 +4,8 @@ ghost use Rattle.dlm_tasks.specs.Printed.{counts_text, sweep_text};
 
 use crate::command_failure::CommandFailure;
 use crate::fault::Fault;
-use simulator::{Script, Sweep, sweep};
+use fault_sweep::{Sweep, sweep};
+use simulator::Script;
 use std::alloc::Global;
 use std::io;
 use std::io::Write;

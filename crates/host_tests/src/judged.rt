@@ -1,10 +1,11 @@
 // What `judge` says of a report in which one answer was changed by hand.
 use crate::replies::GRANTED;
 use disk::NoMemory;
+use fault_sweep::judge;
 use host::HostAnswer;
 use lock_command::Command;
 use lock_table::Reply;
-use simulator::{Answer, Event, Report, Sim, judge, read_script};
+use simulator::{Answer, Event, Report, Sim, read_script};
 use std::alloc::{AllocError, Global};
 use std::test::Fail;
 

@@ -8,8 +8,7 @@ use Rattle.host.specs.Host.{Memory, next_of, next_in}
 use Rattle.host.specs.Kept as hosts
 use Rattle.world.specs.World.{world}
 use Rattle.simulator.specs.Calls.{is_write}
-use Rattle.simulator.specs.Kept.{Kept, is_busy}
-use Rattle.simulator.specs.Sweeping.{TellsNext, told_call}
+use Rattle.simulator.specs.Kept.{Kept, is_busy, TellsNext, told_call}
 use Rattle.simulator.proofs.Calls.{no_call}
 use Rattle.simulator.proofs.Events.{running_at}
 

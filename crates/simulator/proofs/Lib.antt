@@ -1,12 +1,8 @@
 pub mod Calls
 pub mod Changes
-pub mod Comparing
-pub mod Counting
-pub mod Covering
 pub mod Entries
 pub mod Events
 pub mod Interrupted
-pub mod Judged
 pub mod Learning
 pub mod Lines
 pub mod Listing
@@ -14,8 +10,6 @@ pub mod Moved
 pub mod OneMore
 pub mod Opened
 pub mod Owed
-pub mod Recovering
-pub mod Replaying
 pub mod Safety
 pub mod Several
 pub mod Shown

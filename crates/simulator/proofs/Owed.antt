@@ -27,7 +27,7 @@ use Rattle.simulator.specs.declared.simulated_cluster.Said.{Said}
 use Rattle.simulator.specs.declared.simulated_cluster.SimulatedCluster.TheInside.{Inside}
 use Rattle.simulator.specs.Calls.{is_write, may_crash, crashed_if, lost_if}
 use Rattle.simulator.specs.Kept.{Kept, calm, is_busy, is_free, said_by, said_now, IsHost, LeadsTo, IsReached, Brings}
-use Rattle.simulator.proofs.Shown.{named}
+use Rattle.simulator.proofs.Shown.{named, saying}
 use Rattle.simulator.proofs.Events as events
 use Rattle.simulator.proofs.Events.{running_at}
 use Rattle.simulator.proofs.Calls as calls
@@ -36,9 +36,14 @@ use Rattle.simulator.proofs.Calls as calls
 abbrev pub kept_in : Inside → Kept
 kept_in p = record { shape = p.config; disks = p.disks.items; hosts = p.hosts.items }
 
--- what an index read, at the default of the definitions
-pub read_at : (old : Kept) (i : ℕ) (o : Option hosts.Kept) → i < length old.hosts → o ≡ get_or old.hosts i o → get_or old.hosts i None ≡ o
-read_at old i o within value = sym (get_or_read old.hosts i o within value None)
+-- what an option is, by its test
+pub some_of : (A : Type 0) (P : Type 0) (o : Option A) → is_some o ≡ true → ((a : A) → o ≡ Some a → P) → P
+some_of A P None is p = absurd (cc)
+some_of A P (Some a) is p = p a refl
+
+pub none_of : {A : Type 0} (o : Option A) → is_some o ≡ false → o ≡ None
+none_of None is = refl
+none_of (Some a) is = absurd (cc)
 
 -- AT FIRST
 
@@ -67,6 +72,39 @@ opens c disks kept are_fresh are_stopped =
       sized = λ d other inside. ap (λ (s : SimState). length s.disk.bytes) (at d other inside) ∙ (shape_fresh (image_length c.slots)).1;
     }
 
+-- THE PLACE OF A HOST
+
+-- where its number leads in the list of hosts
+pub record Place (old : Kept) (h : ℕ) : Type 0 where
+  pub i : ℕ
+  pub same : i ≡ h
+  pub within : i < HOSTS
+  pub here : i < length old.hosts
+
+abbrev pub place_of : (old : Kept) → IsReached old → (h number i : ℕ) → number ≡ h → number < HOSTS → i ≡ number → Place old h
+place_of old is h number i value range at =
+    record { i = i; same = at ∙ value; within = omega (arith, at, range); here = omega (arith, at, range, is.leads.shows.host_count) }
+
+module _ (old : Kept) (h : ℕ) (p : Place old h) (o : Option hosts.Kept) (value : o ≡ get_or old.hosts p.i o) where
+  -- what an index read there, at the default of the definitions
+  pub stood : get_or old.hosts p.i None ≡ o
+  stood = sym (get_or_read old.hosts p.i o p.here value None)
+
+  pub stands : get_or old.hosts h None ≡ o
+  stands = ap (λ (i : ℕ). get_or old.hosts i None) (sym p.same) ∙ stood
+
+-- a host that may begin an operation
+pub record Idle (old : Kept) (h : ℕ) (p : Place old h) : Type 0 where
+  pub core : hosts.Kept
+  pub found : get_or old.hosts p.i None ≡ Some core
+  pub idle : hosts.is_idle core ≡ true
+
+abbrev pub idle_of : (old : Kept) (h : ℕ) (p : Place old h) (o : Option hosts.Kept) → o ≡ get_or old.hosts p.i o → is_free o ≡ true
+    → (there : Option hosts.Kept) → there ≡ get_or old.hosts p.i there → (core : hosts.Kept) → there ≡ Some core → Idle old h p
+idle_of old h p o value free there again core some =
+    let found : get_or old.hosts p.i None ≡ Some core = stood old h p there again ∙ some in
+    record { core = core; found = found; idle = ap is_free (sym found ∙ stood old h p o value) ∙ free }
+
 -- WHAT IS KNOWN OF A HOST AND ITS CALL
 
 module _ (old : Kept) (is : IsReached old) (i : ℕ) (core : hosts.Kept) (found : get_or old.hosts i None ≡ Some core) where
@@ -88,104 +126,110 @@ module _ (old : Kept) (is : IsReached old) (i : ℕ) (core : hosts.Kept) (found 
 pub calm_at : (old : Kept) → IsReached old → (j : ℕ) (x : SimState) → j < old.shape.disks → x ≡ get_or old.disks j x → x.failing ≡ None
 calm_at old is j x inside value = ap (λ (s : SimState). s.failing) (value ∙ is.leads.shows.disks j x inside)
 
-module _ (old : Kept) (h i : ℕ) (same : i ≡ h) (within : i < HOSTS) where
-  pub starts : (core : hosts.Kept) → get_or old.hosts i None ≡ None → hosts.LeadsTo old.shape h fresh core
-      → (log : List Filled) → LeadsTo log old → Brings log (Start h) old (record old { hosts = set old.hosts i (Some core) }) None
-  starts core empty kept log leads =
-      subst (λ (j : ℕ). Brings log (Start j) old (record old { hosts = set old.hosts i (Some core) }) None) same
-      (events.starts log old leads i core within empty (subst (λ (j : ℕ). hosts.LeadsTo old.shape j fresh core) (sym same) kept))
+module _ (old : Kept) (h : ℕ) (p : Place old h) where
+  -- an event of the host at the place is one of this host
+  here_is : (event : ℕ → Event) (new : Kept) → ((log : List Filled) → LeadsTo log old → Brings log (event p.i) old new None)
+      → (log : List Filled) → LeadsTo log old → Brings log (event h) old new None
+  here_is event new brings log leads = subst (λ (j : ℕ). Brings log (event j) old new None) p.same (brings log leads)
 
-  pub starts_not : (core : hosts.Kept) → get_or old.hosts i None ≡ Some core → (log : List Filled) → LeadsTo log old → Brings log (Start h) old old None
-  starts_not core found log leads = subst (λ (j : ℕ). Brings log (Start j) old old None) same (events.starts_not log old leads i core found)
+  -- of what an index read there
+  module _ (o : Option hosts.Kept) (value : o ≡ get_or old.hosts p.i o) where
+    is : get_or old.hosts p.i None ≡ o
+    is = stood old h p o value
 
-  pub stops : (log : List Filled) → LeadsTo log old → Brings log (Stop h) old (record old { hosts = set old.hosts i None }) None
-  stops log leads = subst (λ (j : ℕ). Brings log (Stop j) old (record old { hosts = set old.hosts i None }) None) same
-      (events.stops log old leads i (get_or old.hosts i None) within refl)
+    pub starts : is_some o ≡ false → (core : hosts.Kept) → hosts.LeadsTo old.shape h fresh core
+        → (log : List Filled) → LeadsTo log old → Brings log (Start h) old (record old { hosts = set old.hosts p.i (Some core) }) None
+    starts none core kept =
+        here_is Start (record old { hosts = set old.hosts p.i (Some core) })
+        (λ log leads. events.starts log old leads p.i core p.within (is ∙ none_of o none) (subst (λ (j : ℕ). hosts.LeadsTo old.shape j fresh core) (sym p.same) kept))
 
-  -- nothing of a host that carries out no operation, or may begin none
-  module _ (o : Option hosts.Kept) (is : get_or old.hosts i None ≡ o) where
+    pub starts_not : is_some o ≡ true → (log : List Filled) → LeadsTo log old → Brings log (Start h) old old None
+    starts_not some =
+        here_is Start old
+        (λ log leads. some_of hosts.Kept (Brings log (Start p.i) old old None) o some (λ core there. events.starts_not log old leads p.i core (is ∙ there)))
+
+    -- nothing of a host that carries out no operation, or may begin none
     pub steps_idle : is_busy o ≡ false → (log : List Filled) → LeadsTo log old → Brings log (Step h) old old None
-    steps_idle idle log leads = subst (λ (j : ℕ). Brings log (Step j) old old None) same (calls.steps_not log old leads i (calls.no_call log old leads i o is idle))
+    steps_idle idle = here_is Step old (λ log leads. calls.steps_not log old leads p.i (calls.no_call log old leads p.i o is idle))
 
     pub fails_idle : (given : List ℕ) → 0 < length given → is_busy o ≡ false → (log : List Filled) → LeadsTo log old → Brings log (FailCall h given) old old None
-    fails_idle given some idle log leads = subst (λ (j : ℕ). Brings log (FailCall j given) old old None) same
-        (calls.fails_not log old leads i given some (calls.no_call log old leads i o is idle))
+    fails_idle given some idle = here_is (λ j. FailCall j given) old (λ log leads. calls.fails_not log old leads p.i given some (calls.no_call log old leads p.i o is idle))
 
     pub tears_idle : (given : List ℕ) → 0 < length given → is_busy o ≡ false → (log : List Filled) → LeadsTo log old → Brings log (Tear h given) old old None
-    tears_idle given some idle log leads = subst (λ (j : ℕ). Brings log (Tear j given) old old None) same
-        (calls.tears_not log old leads i given some (calls.no_call log old leads i o is idle))
+    tears_idle given some idle = here_is (λ j. Tear j given) old (λ log leads. calls.tears_not log old leads p.i given some (calls.no_call log old leads p.i o is idle))
 
     pub submits_busy : (command : Command) (tries : ℕ) → is_free o ≡ false → (log : List Filled) → LeadsTo log old → Brings log (Submit h command tries) old old None
-    submits_busy command tries busy log leads = subst (λ (j : ℕ). Brings log (Submit j command tries) old old None) same
-        (events.submits_not log old leads i command tries o is busy)
+    submits_busy command tries busy = here_is (λ j. Submit j command tries) old (λ log leads. events.submits_not log old leads p.i command tries o is busy)
 
     pub recovers_busy : (tries : ℕ) → is_free o ≡ false → (log : List Filled) → LeadsTo log old → Brings log (Recover h tries) old old None
-    recovers_busy tries busy log leads = subst (λ (j : ℕ). Brings log (Recover j tries) old old None) same (events.recovers_not log old leads i tries o is busy)
+    recovers_busy tries busy = here_is (λ j. Recover j tries) old (λ log leads. events.recovers_not log old leads p.i tries o is busy)
 
     pub looks_busy : is_free o ≡ false → (log : List Filled) → LeadsTo log old → Brings log (Look h) old old None
-    looks_busy busy log leads = subst (λ (j : ℕ). Brings log (Look j) old old None) same (events.looks_not log old leads i o is busy)
+    looks_busy busy = here_is Look old (λ log leads. events.looks_not log old leads p.i o is busy)
 
     pub beats_busy : is_free o ≡ false → (log : List Filled) → LeadsTo log old → Brings log (Beat h) old old None
-    beats_busy busy log leads = subst (λ (j : ℕ). Brings log (Beat j) old old None) same (events.beats_not log old leads i o is busy)
+    beats_busy busy = here_is Beat old (λ log leads. events.beats_not log old leads p.i o is busy)
 
     pub marks_busy : (slot : ℕ) → is_free o ≡ false → (log : List Filled) → LeadsTo log old → Brings log (Mark h slot) old old None
-    marks_busy slot busy log leads = subst (λ (j : ℕ). Brings log (Mark j slot) old old None) same (events.marks_not log old leads i slot o is busy)
+    marks_busy slot busy = here_is (λ j. Mark j slot) old (λ log leads. events.marks_not log old leads p.i slot o is busy)
 
-  -- a call that is no write is not torn
-  pub tears_no_write : (core : hosts.Kept) (need : Need) → get_or old.hosts i None ≡ Some core
-      → ((c : Shape) (g : ℕ) (m : Memory) → hosts.LeadsTo c g m core → next_in c g m ≡ Some (call_of_need need))
-      → need.disk < old.shape.disks → (given : List ℕ) → 0 < length given → is_write (device_call_of need.call) ≡ false
-      → (log : List Filled) → LeadsTo log old → Brings log (Tear h given) old old None
-  tears_no_write core need found next inside given some is_not log leads =
-      let x : SimState = calm ((world old.shape log).disk need.disk) in
-      subst (λ (k : ℕ). Brings log (Tear k given) old old None) same
-      (calls.tears_no_write log old leads i core need.disk (device_call_of need.call) x within found next inside (leads.shows.disks need.disk x inside) given some is_not)
+    -- a call that is no write is not torn
+    pub tears_no_write : IsReached old → (core : hosts.Kept) → o ≡ Some core → (need : Need)
+        → ((c : Shape) (g : ℕ) (m : Memory) → hosts.LeadsTo c g m core → next_in c g m ≡ Some (call_of_need need))
+        → need.disk < core.learner.shape.disks → (given : List ℕ) → 0 < length given → is_write (device_call_of need.call) ≡ false
+        → (log : List Filled) → LeadsTo log old → Brings log (Tear h given) old old None
+    tears_no_write reached core some need next on_its given some_given is_not =
+        let found : get_or old.hosts p.i None ≡ Some core = is ∙ some in
+        let inside : need.disk < old.shape.disks = on_disk old reached p.i core found need.disk on_its in
+        here_is (λ j. Tear j given) old
+        (λ log leads. calls.tears_no_write log old leads p.i core need.disk (device_call_of need.call) (calm ((world old.shape log).disk need.disk)) p.within found next inside
+        (leads.shows.disks need.disk (calm ((world old.shape log).disk need.disk)) inside) given some_given is_not)
 
-  module _ (core new : hosts.Kept) (said : Option Said) (found : get_or old.hosts i None ≡ Some core)
-      (is_said : said ≡ option_map (λ answer. record { host = h; answer = answer }) new.said) where
-    pub submits : (command : Command) (tries : ℕ) → command.host ≡ h → FitsCommand command → is_submittable command ≡ true → 0 < tries → hosts.is_idle core ≡ true
-        → ((c : Shape) (g : ℕ) (m : Memory) → hosts.LeadsTo c g m core → hosts.LeadsTo c g (goes_on c m (Submitting command) tries) new)
-        → (log : List Filled) → LeadsTo log old → Brings log (Submit h command tries) old (record old { hosts = set old.hosts i (Some new) }) said
-    submits command tries own fits asked some idle goes log leads =
-        named (λ j. Submit j command tries) log old (record old { hosts = set old.hosts i (Some new) }) i h new.said said same is_said
-        (events.submits log old leads i command tries core new within (own ∙ sym same) fits asked some found idle goes)
+  pub stops : (log : List Filled) → LeadsTo log old → Brings log (Stop h) old (record old { hosts = set old.hosts p.i None }) None
+  stops = here_is Stop (record old { hosts = set old.hosts p.i None }) (λ log leads. events.stops log old leads p.i (get_or old.hosts p.i None) p.within refl)
 
-    pub recovers : (tries : ℕ) → 0 < tries → hosts.is_idle core ≡ true
-        → ((c : Shape) (g : ℕ) (m : Memory) → hosts.LeadsTo c g m core → hosts.LeadsTo c g (goes_on c m Recovering tries) new)
-        → (log : List Filled) → LeadsTo log old → Brings log (Recover h tries) old (record old { hosts = set old.hosts i (Some new) }) said
-    recovers tries some idle goes log leads =
-        named (λ j. Recover j tries) log old (record old { hosts = set old.hosts i (Some new) }) i h new.said said same is_said
-        (events.recovers log old leads i tries core new within some found idle goes)
+  -- a host that may begin an operation begins it
+  module _ (d : Idle old h p) (new : hosts.Kept) where
+    abbrev begun : Kept
+    begun = record old { hosts = set old.hosts p.i (Some new) }
 
-    pub looks : hosts.is_idle core ≡ true
-        → ((c : Shape) (g : ℕ) (m : Memory) → hosts.LeadsTo c g m core → hosts.LeadsTo c g (starts_look c m) new)
-        → (log : List Filled) → LeadsTo log old → Brings log (Look h) old (record old { hosts = set old.hosts i (Some new) }) said
-    looks idle goes log leads =
-        named Look log old (record old { hosts = set old.hosts i (Some new) }) i h new.said said same is_said
-        (events.looks log old leads i core new within found idle goes)
+    pub beats : ((c : Shape) (g : ℕ) (m : Memory) → hosts.LeadsTo c g m d.core → hosts.LeadsTo c g (starts_beat m) new)
+        → (log : List Filled) → LeadsTo log old → Brings log (Beat h) old begun None
+    beats goes = here_is Beat begun (λ log leads. events.beats log old leads p.i d.core new p.within d.found d.idle goes)
 
-    pub marks : (slot : ℕ) → slot < old.shape.slots → hosts.is_idle core ≡ true
-        → ((c : Shape) (g : ℕ) (m : Memory) → hosts.LeadsTo c g m core → hosts.LeadsTo c g (starts_marking m slot) new)
-        → (log : List Filled) → LeadsTo log old → Brings log (Mark h slot) old (record old { hosts = set old.hosts i (Some new) }) said
-    marks slot inside idle goes log leads =
-        named (λ j. Mark j slot) log old (record old { hosts = set old.hosts i (Some new) }) i h new.said said same is_said
-        (events.marks log old leads i slot core new within inside found idle goes)
+    module _ (said : Option Said) (is_said : said ≡ option_map (λ answer. record { host = h; answer = answer }) new.said) where
+      says_so : (event : ℕ → Event) → ((log : List Filled) → LeadsTo log old → Brings log (event p.i) old begun (saying p.i new.said))
+          → (log : List Filled) → LeadsTo log old → Brings log (event h) old begun said
+      says_so event brings log leads = named event log old begun p.i h new.said said p.same is_said (brings log leads)
 
-  pub beats : (core new : hosts.Kept) → get_or old.hosts i None ≡ Some core → hosts.is_idle core ≡ true → ((c : Shape) (g : ℕ) (m : Memory) → hosts.LeadsTo c g m core → hosts.LeadsTo c g (starts_beat m) new)
-      → (log : List Filled) → LeadsTo log old → Brings log (Beat h) old (record old { hosts = set old.hosts i (Some new) }) None
-  beats core new found idle goes log leads =
-      subst (λ (j : ℕ). Brings log (Beat j) old (record old { hosts = set old.hosts i (Some new) }) None) same
-      (events.beats log old leads i core new within found idle goes)
+      pub submits : (command : Command) (tries : ℕ) → command.host ≡ h → FitsCommand command → is_submittable command ≡ true → 0 < tries
+          → ((c : Shape) (g : ℕ) (m : Memory) → hosts.LeadsTo c g m d.core → hosts.LeadsTo c g (goes_on c m (Submitting command) tries) new)
+          → (log : List Filled) → LeadsTo log old → Brings log (Submit h command tries) old begun said
+      submits command tries own fits asked some goes =
+          says_so (λ j. Submit j command tries)
+          (λ log leads. events.submits log old leads p.i command tries d.core new p.within (own ∙ sym p.same) fits asked some d.found d.idle goes)
+
+      pub recovers : (tries : ℕ) → 0 < tries
+          → ((c : Shape) (g : ℕ) (m : Memory) → hosts.LeadsTo c g m d.core → hosts.LeadsTo c g (goes_on c m Recovering tries) new)
+          → (log : List Filled) → LeadsTo log old → Brings log (Recover h tries) old begun said
+      recovers tries some goes = says_so (λ j. Recover j tries) (λ log leads. events.recovers log old leads p.i tries d.core new p.within some d.found d.idle goes)
+
+      pub looks : ((c : Shape) (g : ℕ) (m : Memory) → hosts.LeadsTo c g m d.core → hosts.LeadsTo c g (starts_look c m) new)
+          → (log : List Filled) → LeadsTo log old → Brings log (Look h) old begun said
+      looks goes = says_so Look (λ log leads. events.looks log old leads p.i d.core new p.within d.found d.idle goes)
+
+      pub marks : (slot : ℕ) → slot < old.shape.slots
+          → ((c : Shape) (g : ℕ) (m : Memory) → hosts.LeadsTo c g m d.core → hosts.LeadsTo c g (starts_marking m slot) new)
+          → (log : List Filled) → LeadsTo log old → Brings log (Mark h slot) old begun said
+      marks slot inside goes = says_so (λ j. Mark j slot) (λ log leads. events.marks log old leads p.i slot d.core new p.within inside d.found d.idle goes)
 
 -- A CALL
 
 -- the next call of a host, and the disk that it is on
 pub record Due (old : Kept) (h : ℕ) : Type 0 where
-  pub i : ℕ
-  pub same : i ≡ h
-  pub within : i < HOSTS
+  pub at : Place old h
   pub core : hosts.Kept
-  pub found : get_or old.hosts i None ≡ Some core
+  pub found : get_or old.hosts at.i None ≡ Some core
   pub need : Need
   pub next : (c : Shape) (g : ℕ) (m : Memory) → hosts.LeadsTo c g m core → next_in c g m ≡ Some (call_of_need need)
   pub due : call_of_need need ≡ hosts.due_call core
@@ -195,16 +239,13 @@ pub record Due (old : Kept) (h : ℕ) : Type 0 where
   pub x : SimState
   pub value : x ≡ get_or old.disks j x
 
-module _ (old : Kept) (is : IsReached old) (h i : ℕ) (same : i ≡ h) (within : h < HOSTS) (o : Option hosts.Kept) (value : o ≡ get_or old.hosts i o) (core : hosts.Kept) (some : o ≡ Some core)
+module _ (old : Kept) (is : IsReached old) (h : ℕ) (p : Place old h) (o : Option hosts.Kept) (value : o ≡ get_or old.hosts p.i o) (core : hosts.Kept) (some : o ≡ Some core)
     (need : Need) (on_its : need.disk < core.learner.shape.disks) (j : ℕ) (on : j ≡ need.disk) where
-  pub here : i < HOSTS
-  here = omega (arith, same, within)
-
-  pub found : get_or old.hosts i None ≡ Some core
-  found = read_at old i o (omega (arith, here, is.leads.shows.host_count)) value ∙ some
+  pub found : get_or old.hosts p.i None ≡ Some core
+  found = stood old h p o value ∙ some
 
   pub inside : j < old.shape.disks
-  inside = subst (λ (k : ℕ). k < old.shape.disks) (sym on) (on_disk old is i core found need.disk on_its)
+  inside = subst (λ (k : ℕ). k < old.shape.disks) (sym on) (on_disk old is p.i core found need.disk on_its)
 
   -- the disk is there
   pub is_there : j < length old.disks
@@ -212,7 +253,7 @@ module _ (old : Kept) (is : IsReached old) (h i : ℕ) (same : i ≡ h) (within 
 
   abbrev pub due_of : ((c : Shape) (g : ℕ) (m : Memory) → hosts.LeadsTo c g m core → next_in c g m ≡ Some (call_of_need need)) → call_of_need need ≡ hosts.due_call core
       → (x : SimState) → x ≡ get_or old.disks j x → Due old h
-  due_of next due x is_x = record { i = i; same = same; within = here; core = core; found = found; need = need; next = next; due = due; j = j; on = on; inside = inside; x = x; value = is_x }
+  due_of next due x is_x = record { at = p; core = core; found = found; need = need; next = next; due = due; j = j; on = on; inside = inside; x = x; value = is_x }
 
 -- what a host says, in the words of the contracts
 abbrev said_as : ℕ → Option HostAnswer → Option Said
@@ -235,7 +276,7 @@ module _ (old : Kept) (h : ℕ) (d : Due old h) where
 
   -- the disk behind the call, and the host
   abbrev pub after : SimState → Option hosts.Kept → Kept
-  after there host = record { shape = old.shape; disks = set old.disks d.j there; hosts = set old.hosts d.i host }
+  after there host = record { shape = old.shape; disks = set old.disks d.j there; hosts = set old.hosts d.at.i host }
 
   -- no failure was asked for of the disk
   pub is_calm : IsReached old → d.x.failing ≡ None
@@ -243,7 +284,7 @@ module _ (old : Kept) (h : ℕ) (d : Due old h) where
 
   -- and the call is within it
   pub is_within : IsReached old → IsWithin (image_length d.core.learner.shape.slots) d.need.call → IsWithin (length d.x.disk.bytes) d.need.call
-  is_within is within = in_range old is d.i d.core d.found d.j d.x d.need.call d.inside d.value within
+  is_within is within = in_range old is d.at.i d.core d.found d.j d.x d.need.call d.inside d.value within
 
   -- it hears on this disk
   hears_at : (heard other : Answer) (new : hosts.Kept) → heard ≡ other
@@ -261,14 +302,14 @@ module _ (old : Kept) (h : ℕ) (d : Due old h) where
       → said ≡ option_map (λ answer. record { host = h; answer = answer }) new.said
       → (log : List Filled) → LeadsTo log old → Brings log (Step h) old (after there (Some new)) said
   steps new there heard said left as_long alike hears_then is_said log leads =
-      named Step log old (after there (Some new)) d.i h new.said said d.same is_said
-      (calls.steps log old leads d.i d.core d.j call d.x d.within d.found next_at d.inside (sym d.value) there new left as_long (hears_at heard _ new alike hears_then))
+      named Step log old (after there (Some new)) d.at.i h new.said said d.at.same is_said
+      (calls.steps log old leads d.at.i d.core d.j call d.x d.at.within d.found next_at d.inside (sym d.value) there new left as_long (hears_at heard _ new alike hears_then))
 
   -- what it says then
   pub says_now : IsReached old → (there : SimState) (new : hosts.Kept) → said_now h (after there (Some new)) ≡ said_as h new.said
   says_now is there new =
-      let inside : d.i < length old.hosts = omega (arith, d.within, is.leads.shows.host_count) in
-      ap (said_by h) (ap (λ (j : ℕ). get_or (set old.hosts d.i (Some new)) j None) (sym d.same) ∙ get_or-set_same old.hosts d.i (Some new) None inside)
+      let inside : d.at.i < length old.hosts = omega (arith, d.at.within, is.leads.shows.host_count) in
+      ap (said_by h) (ap (λ (j : ℕ). get_or (set old.hosts d.at.i (Some new)) j None) (sym d.at.same) ∙ get_or-set_same old.hosts d.at.i (Some new) None inside)
 
   pub speaks_now : IsReached old → (there : SimState) (new : hosts.Kept) (silent : Bool) → silent ≡ is_none new.said → not silent ≡ true → IsSome (said_now h (after there (Some new)))
   speaks_now is there new silent test speaks =
@@ -286,21 +327,21 @@ module _ (old : Kept) (h : ℕ) (d : Due old h) where
       → said ≡ option_map (λ answer. record { host = h; answer = answer }) new.said
       → (log : List Filled) → LeadsTo log old → Brings log (FailCall h given) old (after there (Some new)) said
   fails given new there said some clear left as_long hears_then is_said log leads =
-      named (λ k. FailCall k given) log old (after there (Some new)) d.i h new.said said d.same is_said
-      (calls.fails log old leads d.i d.core d.j call d.x d.within d.found next_at d.inside (sym d.value) given there new some clear left as_long
+      named (λ k. FailCall k given) log old (after there (Some new)) d.at.i h new.said said d.at.same is_said
+      (calls.fails log old leads d.at.i d.core d.j call d.x d.at.within d.found next_at d.inside (sym d.value) given there new some clear left as_long
       (hears_at _ _ new refl hears_then))
 
   pub fails_refused : (given : List ℕ) (fault : DiskFault) → 0 < length given → refusal_of d.x.disk call ≡ Some fault
       → (log : List Filled) → LeadsTo log old → Brings log (FailCall h given) old old None
   fails_refused given fault some refused log leads =
-      subst (λ (k : ℕ). Brings log (FailCall k given) old old None) d.same
-      (calls.fails_refused log old leads d.i d.core d.j call d.x d.within d.found next_at d.inside (sym d.value) given fault some refused)
+      subst (λ (k : ℕ). Brings log (FailCall k given) old old None) d.at.same
+      (calls.fails_refused log old leads d.at.i d.core d.j call d.x d.at.within d.found next_at d.inside (sym d.value) given fault some refused)
 
   pub tears_refused : (given : List ℕ) (fault : DiskFault) → 0 < length given → refusal_of d.x.disk call ≡ Some fault
       → (log : List Filled) → LeadsTo log old → Brings log (Tear h given) old old None
   tears_refused given fault some refused log leads =
-      subst (λ (k : ℕ). Brings log (Tear k given) old old None) d.same
-      (calls.tears_refused log old leads d.i d.core d.j call d.x d.within d.found next_at d.inside (sym d.value) given fault some refused)
+      subst (λ (k : ℕ). Brings log (Tear k given) old old None) d.at.same
+      (calls.tears_refused log old leads d.at.i d.core d.j call d.x d.at.within d.found next_at d.inside (sym d.value) given fault some refused)
 
   pub tears : (given : List ℕ) (there : SimState) → is_write call ≡ true → 0 < length given
       → refusal_of d.x.disk call ≡ None
@@ -308,8 +349,8 @@ module _ (old : Kept) (h : ℕ) (d : Due old h) where
       → length there.disk.bytes ≡ length d.x.disk.bytes
       → (log : List Filled) → LeadsTo log old → Brings log (Tear h given) old (after there None) None
   tears given there is_one some clear left as_long log leads =
-      subst (λ (k : ℕ). Brings log (Tear k given) old (after there None) None) d.same
-      (calls.tears log old leads d.i d.core d.j call d.x d.within d.found next_at d.inside (sym d.value) given there is_one some clear left as_long)
+      subst (λ (k : ℕ). Brings log (Tear k given) old (after there None) None) d.at.same
+      (calls.tears log old leads d.at.i d.core d.j call d.x d.at.within d.found next_at d.inside (sym d.value) given there is_one some clear left as_long)
 
 -- WHAT WAS PUT BACK
 
@@ -330,15 +371,6 @@ module _ (old : Kept) (i j : ℕ) (o : Option hosts.Kept) (x there : SimState) (
       → (log : List Filled) → LeadsTo log old → Brings log event old (record { shape = old.shape; disks = set old.disks j there; hosts = old.hosts }) None
   disk_only_back event brings log leads =
       subst (λ (ds : List SimState). Brings log event old (record { shape = old.shape; disks = ds; hosts = old.hosts }) None) (sym disks_back) (brings log leads)
-
--- what an option is, by its test
-pub some_of : (A : Type 0) (P : Type 0) (o : Option A) → is_some o ≡ true → ((a : A) → o ≡ Some a → P) → P
-some_of A P None is p = absurd (cc)
-some_of A P (Some a) is p = p a refl
-
-pub none_of : {A : Type 0} (o : Option A) → is_some o ≡ false → o ≡ None
-none_of None is = refl
-none_of (Some a) is = absurd (cc)
 
 -- A DISK
 

@@ -1,15 +1,18 @@
 -- What a report lists.
-use Rattle.std.specs.Prelude.{◌≡◌, ◌+◌, Bool, true, false, List, [], ◌∷◌, take, Option, Some, None}
+use Rattle.std.specs.Prelude.{◌≡◌, ◌+◌, ◌++◌, ℕ, Bool, true, false, List, [], ◌∷◌, take, Option, Some, None}
 use Rattle.lock_table.specs.Apply.{Plain, table_after}
 use Rattle.lock_table.specs.Picture.{Shown}
 use Rattle.host.specs.declared.answer.HostAnswer.{HostAnswer}
 use Rattle.host.specs.declared.answer.HostAnswer.TheVariants.{Ack, Recovered, Looked, Beaten, Marked, Refused}
 use Rattle.host.specs.Host.{learned_of}
-use Rattle.world.specs.World.{World}
+use Rattle.world.specs.Entry.{Filled}
+use Rattle.world.specs.World.{World, world}
 use Rattle.world.specs.Happens.{Event, Recover, Look, Step, FailCall, Line}
 use Rattle.world.specs.Opening.{Opening, world_after}
 use Rattle.world.specs.Told.{ShowsTable}
 use Rattle.simulator.specs.declared.answer.Answer.{Answer}
+use Rattle.simulator.specs.declared.simulated_cluster.Said.{Said}
+use Rattle.simulator.specs.Kept.{Kept, LeadsTo}
 
 -- an answer without its picture
 abbrev pub line_of : Answer → Line
@@ -49,3 +52,10 @@ IsPictured w a = IsPicturedBy a.said a.picture (table_after (learned_of (w.host 
 -- the world is that which the answer's event left
 abbrev pub IsPicturedIn : Opening → List Event → Answer → Type 0
 IsPicturedIn o events a = IsPictured (world_after o (take (a.place + 1) events)) a
+
+-- To the answers this one was added: what was said with the event of this number, with its picture.
+pub record AddsAnswer (k : Kept) (place : ℕ) (said : Said) (old new : List Answer) : Type 0 where
+  pub answer : Answer
+  pub added : new ≡ old ++ answer ∷ []
+  pub line : line_of answer ≡ record { place = place; host = said.host; said = said.answer }
+  pub picture : (log : List Filled) → LeadsTo log k → IsPictured (world k.shape log) answer

@@ -1,17 +1,18 @@
 -- What a simulated cluster keeps, and which lists of entries lead to that.
-use Rattle.std.specs.Prelude.{◌≡◌, ◌<◌, ◌+◌, ◌-◌, ℕ, Bool, false, not, List, length, slice_index_or, Option, Some, None}
+use Rattle.std.specs.Prelude.{◌≡◌, ◌<◌, ◌+◌, ◌-◌, ◌&&◌, ℕ, Bool, false, not, List, length, slice_index_or, Option, Some, None, is_none}
 use Rattle.std.specs.Option.{option_map}
-use Rattle.disk.specs.Disk.{DiskState}
-use Rattle.disk.specs.Simulated.{SimState}
+use Rattle.disk.specs.Disk.{DiskState, Call}
+use Rattle.disk.specs.Simulated.{SimState, refusal_of}
 use Rattle.paxos_block.specs.Places.{image_length}
 use Rattle.torn_block.specs.declared.layout.TheConstants.{HOSTS}
 use Rattle.slot_log.specs.Shape.{Shape}
-use Rattle.host.specs.Host.{Host, Stopped, Running}
+use Rattle.host.specs.Host.{Host, Stopped, Running, next_of}
 use Rattle.host.specs.Kept as hosts
 use Rattle.world.specs.Entry.{Filled}
 use Rattle.world.specs.World.{World, world, IsRun}
 use Rattle.world.specs.Happens.{Event, entry_of, happens, happen, lines_at, answers_from}
 use Rattle.simulator.specs.declared.simulated_cluster.Said.{Said}
+use Rattle.simulator.specs.Calls.{is_write}
 use Rattle.simulator.specs.Events.{lines_of}
 
 -- how large the cluster is, its disks, and its hosts, of which a stopped one keeps nothing
@@ -70,6 +71,23 @@ pub record LeadsTo (log : List Filled) (k : Kept) : Type 0 where
 pub record IsReached (k : Kept) : Type 0 where
   pub log : List Filled
   pub leads : LeadsTo log k
+
+-- THE NEXT CALL OF A HOST
+
+-- the call is a write that its disk would not refuse
+abbrev pub tears : World → ℕ × Call → Bool
+tears w next = is_write next.1 && is_none (refusal_of (w.disk next.0) next.1)
+
+-- the disk of a call, and whether the call may be torn
+abbrev pub told_call : World → Option (ℕ × Call) → Option (ℕ × Bool)
+told_call w None = None
+told_call w (Some next) = Some (next.0, tears w next)
+
+-- so it is told of what is kept of a world
+abbrev pub TellsNext : ℕ → Option (ℕ × Bool) → Kept → Type 0
+TellsNext h told k = (log : List Filled) → LeadsTo log k → told ≡ told_call (world k.shape log) (next_of k.shape h ((world k.shape log).host h))
+
+-- WHAT HAPPENS
 
 -- An event happens, and this is said then: the list has grown by the event's entry, where it brings one.
 pub record Brings (log : List Filled) (event : Event) (old new : Kept) (said : Option Said) : Type 0 where

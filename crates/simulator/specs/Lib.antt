@@ -1,9 +1,6 @@
 pub mod Answers
 pub mod Calls
 pub mod Events
-pub mod Judging
 pub mod Kept
 pub mod OneLog
 pub mod Past
-pub mod Replayed
-pub mod Sweeping

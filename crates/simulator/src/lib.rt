@@ -3,26 +3,17 @@
 
 mod answer;
 mod device_call;
-mod interrupting;
-mod judging;
-mod law;
 mod migrated;
-mod replay;
 mod report;
 mod room;
 mod sim;
 mod simulated_cluster;
-mod sweeping;
-mod tally;
 
 pub use answer::Answer;
-pub use judging::judge;
-pub use law::what_a_sweep_puts_in;
 pub use lock_script::{
     Event, FaultBytes, MOST_EVENTS, Run, Script, ScriptFault, Show, View, read_script,
 };
 pub use report::{Report, run, run_migrated};
+pub use room::Room;
 pub use sim::Sim;
 pub use simulated_cluster::{Said, SimulatedCluster};
-pub use sweeping::sweep;
-pub use tally::Sweep;

@@ -1,13 +1,12 @@
-ghost use Rattle.std.specs.Prelude.{◌≡◌, ◌<◌, vec_len, vec_capacity, true, IsSome, OnOk, slice_index_or, List};
+ghost use Rattle.std.specs.Prelude.{◌≡◌, ◌<◌, vec_len, vec_capacity, true, false, IsSome, OnOk, slice_index_or, List};
 ghost use Rattle.world.specs.Entry.{Filled};
 ghost use Rattle.world.specs.World.{world};
 ghost use Rattle.host.specs.Host.{learned_of};
 ghost use Rattle.lock_table.specs.Apply.{table_after};
 ghost use Rattle.lock_table.specs.Picture.{IsPictureOf};
-ghost use Rattle.simulator.specs.Answers.{line_of, is_pictured, may_be_pictured, IsPictured};
+ghost use Rattle.simulator.specs.Answers.{line_of, is_pictured, may_be_pictured, IsPictured, AddsAnswer};
 ghost use Rattle.simulator.specs.Events.{event_of};
 ghost use Rattle.simulator.specs.Kept.{LeadsTo};
-ghost use Rattle.simulator.specs.Replayed.{AddsAnswer};
 
 use crate::answer::Answer;
 use crate::simulated_cluster::{Said, SimulatedCluster};
@@ -17,6 +16,7 @@ use lock_command::HostNumber;
 use lock_script::Event;
 use lock_table::Picture;
 use std::alloc::Global;
+use std::marker::Model;
 
 /// Room for the picture of the next recovery or look, made before an event happens.
 #[derive(Drop)]
@@ -24,15 +24,25 @@ pub struct Room {
     picture: Option<Picture>,
 }
 
+impl Model for Room {
+    ghost use Rattle.std.specs.Prelude.{Bool, is_some};
+
+    ghost Value = { Bool };
+
+    ghost view = { λ room. is_some room.picture };
+}
+
 impl Room {
     /// No room yet.
-    pub fn new() -> Room {
+    pub fn new() -> Room
+        ensures { result ≡ false }
+    {
         Room { picture: None }
     }
 
     /// Makes room where there is none, if a recovery or a look may end with the event.
     pub fn prepare(&mut self, alloc: Global, event: &Event) -> Result<(), NoMemory>
-        ensures { OnOk result (may_be_pictured (event_of event.now) ≡ true → IsSome self.new.picture) }
+        ensures { OnOk result (may_be_pictured (event_of event.now) ≡ true → self.new ≡ true) }
     {
         if may_be_pictured(event) && self.picture.is_none() {
             let Ok(picture) = Picture::room(alloc) else {
@@ -51,7 +61,7 @@ impl Room {
         said: &Said,
         answers: &mut Vec<Answer>,
     )
-        requires room { is_pictured said.now.answer ≡ true → IsSome self.old.picture }
+        requires room { is_pictured said.now.answer ≡ true → self.old ≡ true }
         requires runs { IsSome (slice_index_or cluster.now.hosts said.now.host None) }
         requires reserved { vec_len answers.old < vec_capacity answers.old }
         ensures { AddsAnswer cluster.now place said.now answers.old.items answers.new.items }
@@ -66,7 +76,7 @@ impl Room {
 
     /// What a host said, as a report lists it.
     pub fn listed(&mut self, cluster: &SimulatedCluster, place: usize, said: Said) -> Answer
-        requires room { is_pictured said.answer ≡ true → IsSome self.old.picture }
+        requires room { is_pictured said.answer ≡ true → self.old ≡ true }
         requires runs { IsSome (slice_index_or cluster.now.hosts said.host None) }
         ensures line { line_of result ≡ record { place = place; host = said.host; said = said.answer } }
         ensures picture { (log : List Filled) → LeadsTo log cluster.now → IsPictured (world cluster.now.shape log) result }
@@ -90,7 +100,7 @@ impl Room {
 
     // The room is used up.
     fn filled(&mut self, cluster: &SimulatedCluster, host: HostNumber) -> Picture
-        requires room { IsSome self.old.picture }
+        requires room { self.old ≡ true }
         requires runs { IsSome (slice_index_or cluster.now.hosts host None) }
         ensures { (log : List Filled) → LeadsTo log cluster.now → IsPictureOf result (table_after (learned_of ((world cluster.now.shape log).host host))) }
     {

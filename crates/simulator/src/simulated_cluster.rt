@@ -7,8 +7,7 @@ ghost use Rattle.world.specs.Entry.{Filled};
 ghost use Rattle.world.specs.Opening.{CanBegin, begun};
 ghost use Rattle.world.specs.Happens.{Start, Stop, Submit, Recover, Look, Beat, Mark, Step, Tear, FailCall, DiskCrash, DiskGone};
 ghost use Rattle.simulator.specs.Events.{event_of};
-ghost use Rattle.simulator.specs.Sweeping.{TellsNext};
-ghost use Rattle.simulator.specs.Kept.{Kept, LeadsTo, Brings, BringsAll, said_now, calm, is_busy, is_free};
+ghost use Rattle.simulator.specs.Kept.{TellsNext, Kept, LeadsTo, Brings, BringsAll, said_now, calm, is_busy, is_free};
 
 use crate::device_call::{crash_disk, is_write, lose_disk, make, refusal_of, spoil};
 use crate::migrated::{migrate_again, migrated_disks};
@@ -86,7 +85,7 @@ impl SimulatedCluster {
     }
 
     /// Makes of the cluster, whatever has happened to it, one that `migrated` gives for its size. No disk is made.
-    pub(crate) fn restart(&mut self, alloc: Global, log: &[Command]) -> Result<(), NoMemory>
+    pub fn restart(&mut self, alloc: Global, log: &[Command]) -> Result<(), NoMemory>
         requires { length log.now ≤ self.old.shape.slots }
         ensures shape { self.new.shape ≡ self.old.shape }
         ensures leads { OnOk result (LeadsTo (begun (record { shape = self.old.shape; moved = log.now })) self.new) }
@@ -130,7 +129,7 @@ impl SimulatedCluster {
     }
 
     /// Whether a host has no device call to make.
-    pub(crate) fn is_idle(&self, host: HostNumber) -> bool
+    pub fn is_idle(&self, host: HostNumber) -> bool
         ensures { result ≡ true → TellsNext host None self.now }
     {
         !is_busy(&self.hosts[usize::from(host.get())])

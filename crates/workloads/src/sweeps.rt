@@ -3,8 +3,8 @@ use crate::failure::Failure;
 use crate::numbers::Numbers;
 use crate::script_text::write_takeover;
 use crate::words::Size;
+use fault_sweep::sweep;
 use lock_script::read_script;
-use simulator::sweep;
 use std::alloc::Global;
 
 /// How many scripts are swept.

@@ -1,33 +1,28 @@
-use Rattle.std.proofs.Common.{◌<◌, None, length, refl, sym, ◌∙◌, arith}
-use Rattle.torn_block.specs.declared.layout.TheConstants.{HOSTS}
+use Rattle.std.proofs.Common.{None, refl, sym, ◌∙◌, arith}
 use Rattle.world.specs.Happens.{Step}
 use Rattle.simulator.proofs.Changes.{reached, seen, unseen}
 use Rattle.simulator.proofs.Owed as owed
-use Rattle.simulator.proofs.Owed.{kept_in, read_at, Due}
+use Rattle.simulator.proofs.Owed.{kept_in, Due}
 use Rattle.simulator.proofs.simulated_cluster.SimulatedCluster.advance.Goals as goal
 use Rattle.simulator.proofs.simulated_cluster.SimulatedCluster.advance.Goals.{After-index_mut-disk}
 
 pub returns-then-not-is_busy-clause-silent : goal.returns-then-not-is_busy-clause-silent
 returns-then-not-is_busy-clause-silent c =
     let old = kept_in c.self.inside in
-    let i = c.from-at.result in
+    let p = owed.place_of old c.self.invariant c.args.host c.get.result c.from-at.result c.get.ensures.value c.get.ensures.range c.from-at.ensures in
     let event = Step c.args.host in
-    let same = c.from-at.ensures ∙ c.get.ensures.value in
-    let within : i < HOSTS = omega (arith, c.from-at.ensures, c.get.ensures.range) in
-    let here : i < length old.hosts = omega (arith, c.from-at.ensures, c.get.ensures.range, c.self.invariant.leads.shows.host_count) in
-    let stood = read_at old i c.index.result.now here c.index.ensures in
     λ silent. unseen event old c.args.self.now None c.self.view_is
-    (owed.steps_idle old c.args.host i same within c.index.result.now stood (sym c.is_busy.ensures ∙ c.if-not-is_busy.true))
+    (owed.steps_idle old c.args.host p c.index.result.now c.index.ensures (sym c.is_busy.ensures ∙ c.if-not-is_busy.true))
 
 pub index_mut-disk-requires : goal.index_mut-disk-requires
 index_mut-disk-requires c =
-    let there = owed.is_there (kept_in c.self.inside) c.self.invariant c.args.host c.from-at.result (c.from-at.ensures ∙ c.get.ensures.value) (omega (arith, c.get.ensures.value, c.get.ensures.range))
+    let there = owed.is_there (kept_in c.self.inside) c.self.invariant c.args.host (owed.place_of (kept_in c.self.inside) c.self.invariant c.args.host c.get.result c.from-at.result c.get.ensures.value c.get.ensures.range c.from-at.ensures)
     c.index_mut.result.now c.index_mut.ensures.value c.in-Some.core c.in-Some.is c.call-need.result c.call-need.ensures.disk c.from.result c.from.ensures in
     omega (arith, there)
 
 -- the call
 abbrev due : (c : After-index_mut-disk) → Due (kept_in c.self.inside) c.args.host
-due c = owed.due_of (kept_in c.self.inside) c.self.invariant c.args.host c.from-at.result (c.from-at.ensures ∙ c.get.ensures.value) (omega (arith, c.get.ensures.value, c.get.ensures.range))
+due c = owed.due_of (kept_in c.self.inside) c.self.invariant c.args.host (owed.place_of (kept_in c.self.inside) c.self.invariant c.args.host c.get.result c.from-at.result c.get.ensures.value c.get.ensures.range c.from-at.ensures)
     c.index_mut.result.now c.index_mut.ensures.value c.in-Some.core c.in-Some.is c.call-need.result c.call-need.ensures.disk c.from.result c.from.ensures
     c.call-need.ensures.next c.call-need.ensures.due c.index_mut-disk.result.now c.index_mut-disk.ensures.value
 

@@ -1,12 +1,11 @@
-use Rattle.std.proofs.Common.{◌<◌, Some, None, length, sym, ap, ◌∙◌, subst, arith, List}
+use Rattle.std.proofs.Common.{Some, None, length, sym, ap, ◌∙◌, subst, arith, List}
 use Rattle.std.proofs.Math.ListN.{set}
 use Rattle.disk.specs.declared.fault.DiskFault.{DiskFault}
-use Rattle.torn_block.specs.declared.layout.TheConstants.{HOSTS}
 use Rattle.world.specs.Happens.{Event, FailCall}
 use Rattle.simulator.specs.Kept.{Kept, LeadsTo, Brings}
 use Rattle.simulator.proofs.Changes.{reached, seen, unseen}
 use Rattle.simulator.proofs.Owed as owed
-use Rattle.simulator.proofs.Owed.{kept_in, read_at, Due}
+use Rattle.simulator.proofs.Owed.{kept_in, Due}
 use Rattle.disk.specs.Disk.{Fault}
 use Rattle.disk.specs.declared.fault.DiskFault.TheVariants.{Failed}
 use Rattle.disk.specs.Simulated.{SimState}
@@ -19,24 +18,20 @@ use Rattle.simulator.proofs.simulated_cluster.SimulatedCluster.fail.Goals.{After
 pub returns-then-not-is_busy : goal.returns-then-not-is_busy
 returns-then-not-is_busy c =
     let old = kept_in c.self.inside in
-    let i = c.from-at.result in
+    let p = owed.place_of old c.self.invariant c.args.host c.get.result c.from-at.result c.get.ensures.value c.get.ensures.range c.from-at.ensures in
     let event = FailCall c.args.host c.args.given.now in
-    let same = c.from-at.ensures ∙ c.get.ensures.value in
-    let within : i < HOSTS = omega (arith, c.from-at.ensures, c.get.ensures.range) in
-    let here : i < length old.hosts = omega (arith, c.from-at.ensures, c.get.ensures.range, c.self.invariant.leads.shows.host_count) in
-    let stood = read_at old i c.index.result.now here c.index.ensures in
     unseen event old c.args.self.now None c.self.view_is
-    (owed.fails_idle old c.args.host i same within c.index.result.now stood c.args.given.now c.requires (sym c.is_busy.ensures ∙ c.if-not-is_busy.true))
+    (owed.fails_idle old c.args.host p c.index.result.now c.index.ensures c.args.given.now c.requires (sym c.is_busy.ensures ∙ c.if-not-is_busy.true))
 
 pub index_mut-disk-requires : goal.index_mut-disk-requires
 index_mut-disk-requires c =
-    let there = owed.is_there (kept_in c.self.inside) c.self.invariant c.args.host c.from-at.result (c.from-at.ensures ∙ c.get.ensures.value) (omega (arith, c.get.ensures.value, c.get.ensures.range))
+    let there = owed.is_there (kept_in c.self.inside) c.self.invariant c.args.host (owed.place_of (kept_in c.self.inside) c.self.invariant c.args.host c.get.result c.from-at.result c.get.ensures.value c.get.ensures.range c.from-at.ensures)
     c.index_mut.result.now c.index_mut.ensures.value c.in-Some.core c.in-Some.is c.call-need.result c.call-need.ensures.disk c.from.result c.from.ensures in
     omega (arith, there)
 
 -- the call
 abbrev due : (c : After-index_mut-disk) → Due (kept_in c.self.inside) c.args.host
-due c = owed.due_of (kept_in c.self.inside) c.self.invariant c.args.host c.from-at.result (c.from-at.ensures ∙ c.get.ensures.value) (omega (arith, c.get.ensures.value, c.get.ensures.range))
+due c = owed.due_of (kept_in c.self.inside) c.self.invariant c.args.host (owed.place_of (kept_in c.self.inside) c.self.invariant c.args.host c.get.result c.from-at.result c.get.ensures.value c.get.ensures.range c.from-at.ensures)
     c.index_mut.result.now c.index_mut.ensures.value c.in-Some.core c.in-Some.is c.call-need.result c.call-need.ensures.disk c.from.result c.from.ensures
     c.call-need.ensures.next c.call-need.ensures.due c.index_mut-disk.result.now c.index_mut-disk.ensures.value
 
@@ -49,7 +44,7 @@ returns-then-is_some c =
     let d = due (goal.at.returns-then-is_some c).After-index_mut-disk in
     let event = FailCall c.args.host c.args.given.now in
     seen event old c.args.self.now _ None c.self.view_is
-    (owed.both_back old d.i d.j (Some d.core) d.x c.refusal_of.new.disk d.found c.refusal_of.ensures.same d.value event
+    (owed.both_back old d.at.i d.j (Some d.core) d.x c.refusal_of.new.disk d.found c.refusal_of.ensures.same d.value event
     (λ log leads. owed.some_of DiskFault (Brings log event old old None) c.refusal_of.result (sym c.is_some.ensures ∙ c.if-is_some.true)
     (λ fault is. owed.fails_refused old c.args.host d c.args.given.now fault c.requires (sym c.refusal_of.ensures.refusal ∙ is) log leads)))
 

@@ -1,6 +1,6 @@
 use Rattle.std.proofs.Common.{[]}
 use Rattle.simulator.proofs.Owed as owed
-use Rattle.simulator.proofs.Owed.{kept_in, read_at}
+use Rattle.simulator.proofs.Owed.{kept_in}
 use Rattle.simulator.proofs.simulated_cluster.SimulatedCluster.new.Goals as goal
 
 pub invariant_of-result : goal.invariant_of-result

@@ -1,10 +1,8 @@
-use Rattle.std.proofs.Common.{◌<◌, None, length, sym, ap, ◌∙◌, arith}
-use Rattle.torn_block.specs.declared.layout.TheConstants.{HOSTS}
+use Rattle.std.proofs.Common.{None, sym, ◌∙◌, arith}
 use Rattle.world.specs.Happens.{Recover}
 use Rattle.simulator.proofs.Changes.{reached, seen, unseen}
 use Rattle.simulator.proofs.Owed as owed
-use Rattle.simulator.proofs.Owed.{kept_in, read_at}
-use Rattle.simulator.specs.Kept.{is_free}
+use Rattle.simulator.proofs.Owed.{kept_in}
 use Rattle.simulator.proofs.Events.{recovers_untried}
 use Rattle.simulator.proofs.simulated_cluster.SimulatedCluster.recover.Goals as goal
 
@@ -15,41 +13,21 @@ returns-then-tries-eq0 c =
 pub returns-then-not-is_free : goal.returns-then-not-is_free
 returns-then-not-is_free c =
     let old = kept_in c.self.inside in
-    let i = c.from-at.result in
-    let event = Recover c.args.host c.args.tries in
-    let same = c.from-at.ensures ∙ c.get.ensures.value in
-    let within : i < HOSTS = omega (arith, c.from-at.ensures, c.get.ensures.range) in
-    let here : i < length old.hosts = omega (arith, c.from-at.ensures, c.get.ensures.range, c.self.invariant.leads.shows.host_count) in
-    let stood = read_at old i c.index.result.now here c.index.ensures in
-    unseen event old c.args.self.now None c.self.view_is
-    (owed.recovers_busy old c.args.host i same within c.index.result.now stood c.args.tries (sym c.is_free.ensures ∙ c.if-not-is_free.true))
+    let p = owed.place_of old c.self.invariant c.args.host c.get.result c.from-at.result c.get.ensures.value c.get.ensures.range c.from-at.ensures in
+    unseen (Recover c.args.host c.args.tries) old c.args.self.now None c.self.view_is (owed.recovers_busy old c.args.host p c.index.result.now c.index.ensures c.args.tries (sym c.is_free.ensures ∙ c.if-not-is_free.true))
 
 pub invariant_of-self : goal.invariant_of-self
 invariant_of-self c =
     let old = kept_in c.self.inside in
-    let i = c.from-at.result in
-    let event = Recover c.args.host c.args.tries in
-    let same = c.from-at.ensures ∙ c.get.ensures.value in
-    let within : i < HOSTS = omega (arith, c.from-at.ensures, c.get.ensures.range) in
-    let here : i < length old.hosts = omega (arith, c.from-at.ensures, c.get.ensures.range, c.self.invariant.leads.shows.host_count) in
-    let stood = read_at old i c.index.result.now here c.index.ensures in
-    let found = read_at old i c.index_mut.result.now here c.index_mut.ensures.value ∙ c.in-Some.is in
-    let idle = sym (c.is_free.ensures ∙ ap is_free (sym stood ∙ found)) ∙ c.if-not-is_free.false in
-    reached event old _ c.answer_of.result c.self.invariant
-    (owed.recovers old c.args.host i same within c.in-Some.core c.recover.new.self c.answer_of.result found c.answer_of.ensures c.args.tries
-    (omega (arith, c.if-tries-eq0.false)) idle c.recover.ensures)
+    let p = owed.place_of old c.self.invariant c.args.host c.get.result c.from-at.result c.get.ensures.value c.get.ensures.range c.from-at.ensures in
+    let d = owed.idle_of old c.args.host p c.index.result.now c.index.ensures (sym c.is_free.ensures ∙ c.if-not-is_free.false) c.index_mut.result.now c.index_mut.ensures.value c.in-Some.core c.in-Some.is in
+    reached (Recover c.args.host c.args.tries) old _ c.answer_of.result c.self.invariant
+    (owed.recovers old c.args.host p d c.recover.new.self c.answer_of.result c.answer_of.ensures c.args.tries (omega (arith, c.if-tries-eq0.false)) c.recover.ensures)
 
 pub returns : goal.returns
 returns c =
     let old = kept_in c.self.inside in
-    let i = c.from-at.result in
-    let event = Recover c.args.host c.args.tries in
-    let same = c.from-at.ensures ∙ c.get.ensures.value in
-    let within : i < HOSTS = omega (arith, c.from-at.ensures, c.get.ensures.range) in
-    let here : i < length old.hosts = omega (arith, c.from-at.ensures, c.get.ensures.range, c.self.invariant.leads.shows.host_count) in
-    let stood = read_at old i c.index.result.now here c.index.ensures in
-    let found = read_at old i c.index_mut.result.now here c.index_mut.ensures.value ∙ c.in-Some.is in
-    let idle = sym (c.is_free.ensures ∙ ap is_free (sym stood ∙ found)) ∙ c.if-not-is_free.false in
-    seen event old c.args.self.now _ c.answer_of.result c.self.view_is
-    (owed.recovers old c.args.host i same within c.in-Some.core c.recover.new.self c.answer_of.result found c.answer_of.ensures c.args.tries
-    (omega (arith, c.if-tries-eq0.false)) idle c.recover.ensures)
+    let p = owed.place_of old c.self.invariant c.args.host c.get.result c.from-at.result c.get.ensures.value c.get.ensures.range c.from-at.ensures in
+    let d = owed.idle_of old c.args.host p c.index.result.now c.index.ensures (sym c.is_free.ensures ∙ c.if-not-is_free.false) c.index_mut.result.now c.index_mut.ensures.value c.in-Some.core c.in-Some.is in
+    seen (Recover c.args.host c.args.tries) old c.args.self.now _ c.answer_of.result c.self.view_is
+    (owed.recovers old c.args.host p d c.recover.new.self c.answer_of.result c.answer_of.ensures c.args.tries (omega (arith, c.if-tries-eq0.false)) c.recover.ensures)

@@ -1,25 +1,18 @@
-use Rattle.std.proofs.Common.{◌<◌, None, ◌∙◌, arith}
-use Rattle.torn_block.specs.declared.layout.TheConstants.{HOSTS}
+use Rattle.std.proofs.Common.{None}
 use Rattle.world.specs.Happens.{Stop}
 use Rattle.simulator.proofs.Changes.{reached, seen}
 use Rattle.simulator.proofs.Owed as owed
-use Rattle.simulator.proofs.Owed.{kept_in, read_at}
+use Rattle.simulator.proofs.Owed.{kept_in}
 use Rattle.simulator.proofs.simulated_cluster.SimulatedCluster.stop.Goals as goal
 
 pub invariant_of-self : goal.invariant_of-self
 invariant_of-self c =
     let old = kept_in c.self.inside in
-    let i = c.from.result in
-    let event = Stop c.args.host in
-    let same = c.from.ensures ∙ c.get.ensures.value in
-    let within : i < HOSTS = omega (arith, c.from.ensures, c.get.ensures.range) in
-    reached event old _ None c.self.invariant (owed.stops old c.args.host i same within)
+    let p = owed.place_of old c.self.invariant c.args.host c.get.result c.from.result c.get.ensures.value c.get.ensures.range c.from.ensures in
+    reached (Stop c.args.host) old _ None c.self.invariant (owed.stops old c.args.host p)
 
 pub returns : goal.returns
 returns c =
     let old = kept_in c.self.inside in
-    let i = c.from.result in
-    let event = Stop c.args.host in
-    let same = c.from.ensures ∙ c.get.ensures.value in
-    let within : i < HOSTS = omega (arith, c.from.ensures, c.get.ensures.range) in
-    seen event old c.args.self.now _ None c.self.view_is (owed.stops old c.args.host i same within)
+    let p = owed.place_of old c.self.invariant c.args.host c.get.result c.from.result c.get.ensures.value c.get.ensures.range c.from.ensures in
+    seen (Stop c.args.host) old c.args.self.now _ None c.self.view_is (owed.stops old c.args.host p)

@@ -1,12 +1,11 @@
-use Rattle.std.proofs.Common.{◌<◌, Some, None, length, sym, ap, ◌∙◌, subst, arith, List}
+use Rattle.std.proofs.Common.{Some, None, length, sym, ap, ◌∙◌, subst, arith, List}
 use Rattle.std.proofs.Math.ListN.{set}
 use Rattle.disk.specs.declared.fault.DiskFault.{DiskFault}
-use Rattle.torn_block.specs.declared.layout.TheConstants.{HOSTS}
 use Rattle.world.specs.Happens.{Event, Tear}
 use Rattle.simulator.specs.Kept.{Kept, LeadsTo, Brings}
 use Rattle.simulator.proofs.Changes.{reached, seen, unseen}
 use Rattle.simulator.proofs.Owed as owed
-use Rattle.simulator.proofs.Owed.{kept_in, read_at, Due}
+use Rattle.simulator.proofs.Owed.{kept_in, Due}
 use Rattle.disk.specs.Disk.{Fault}
 use Rattle.disk.specs.declared.fault.DiskFault.TheVariants.{Failed}
 use Rattle.disk.specs.Simulated.{SimState}
@@ -19,38 +18,29 @@ use Rattle.simulator.proofs.simulated_cluster.SimulatedCluster.tear.Goals.{After
 pub returns-then-not-is_busy : goal.returns-then-not-is_busy
 returns-then-not-is_busy c =
     let old = kept_in c.self.inside in
-    let i = c.from-at.result in
+    let p = owed.place_of old c.self.invariant c.args.host c.get.result c.from-at.result c.get.ensures.value c.get.ensures.range c.from-at.ensures in
     let event = Tear c.args.host c.args.given.now in
-    let same = c.from-at.ensures ∙ c.get.ensures.value in
-    let within : i < HOSTS = omega (arith, c.from-at.ensures, c.get.ensures.range) in
-    let here : i < length old.hosts = omega (arith, c.from-at.ensures, c.get.ensures.range, c.self.invariant.leads.shows.host_count) in
-    let stood = read_at old i c.index.result.now here c.index.ensures in
     unseen event old c.args.self.now None c.self.view_is
-    (owed.tears_idle old c.args.host i same within c.index.result.now stood c.args.given.now c.requires (sym c.is_busy.ensures ∙ c.if-not-is_busy.true))
+    (owed.tears_idle old c.args.host p c.index.result.now c.index.ensures c.args.given.now c.requires (sym c.is_busy.ensures ∙ c.if-not-is_busy.true))
 
 pub returns-then-not-is_write : goal.returns-then-not-is_write
 returns-then-not-is_write c =
     let old = kept_in c.self.inside in
-    let i = c.from-at.result in
+    let p = owed.place_of old c.self.invariant c.args.host c.get.result c.from-at.result c.get.ensures.value c.get.ensures.range c.from-at.ensures in
     let event = Tear c.args.host c.args.given.now in
-    let same = c.from-at.ensures ∙ c.get.ensures.value in
-    let within : i < HOSTS = omega (arith, c.from-at.ensures, c.get.ensures.range) in
-    let here : i < length old.hosts = omega (arith, c.from-at.ensures, c.get.ensures.range, c.self.invariant.leads.shows.host_count) in
-    let found = read_at old i c.index-2.result.now here c.index-2.ensures ∙ c.in-Some.is in
     unseen event old c.args.self.now None c.self.view_is
-    (owed.tears_no_write old c.args.host i same within c.in-Some.core c.call-need.result found c.call-need.ensures.next
-    (owed.on_disk old c.self.invariant i c.in-Some.core found c.call-need.result.disk c.call-need.ensures.disk) c.args.given.now c.requires (sym c.is_write.ensures
-    ∙ c.if-not-is_write.true))
+    (owed.tears_no_write old c.args.host p c.index-2.result.now c.index-2.ensures c.self.invariant c.in-Some.core c.in-Some.is c.call-need.result c.call-need.ensures.next
+    c.call-need.ensures.disk c.args.given.now c.requires (sym c.is_write.ensures ∙ c.if-not-is_write.true))
 
 pub index_mut-disk-requires : goal.index_mut-disk-requires
 index_mut-disk-requires c =
-    let there = owed.is_there (kept_in c.self.inside) c.self.invariant c.args.host c.from-at.result (c.from-at.ensures ∙ c.get.ensures.value) (omega (arith, c.get.ensures.value, c.get.ensures.range))
+    let there = owed.is_there (kept_in c.self.inside) c.self.invariant c.args.host (owed.place_of (kept_in c.self.inside) c.self.invariant c.args.host c.get.result c.from-at.result c.get.ensures.value c.get.ensures.range c.from-at.ensures)
     c.index-2.result.now c.index-2.ensures c.in-Some.core c.in-Some.is c.call-need.result c.call-need.ensures.disk c.from.result c.from.ensures in
     omega (arith, there)
 
 -- the call
 abbrev due : (c : After-index_mut-disk) → Due (kept_in c.self.inside) c.args.host
-due c = owed.due_of (kept_in c.self.inside) c.self.invariant c.args.host c.from-at.result (c.from-at.ensures ∙ c.get.ensures.value) (omega (arith, c.get.ensures.value, c.get.ensures.range))
+due c = owed.due_of (kept_in c.self.inside) c.self.invariant c.args.host (owed.place_of (kept_in c.self.inside) c.self.invariant c.args.host c.get.result c.from-at.result c.get.ensures.value c.get.ensures.range c.from-at.ensures)
     c.index-2.result.now c.index-2.ensures c.in-Some.core c.in-Some.is c.call-need.result c.call-need.ensures.disk c.from.result c.from.ensures
     c.call-need.ensures.next c.call-need.ensures.due c.index_mut-disk.result.now c.index_mut-disk.ensures.value
 
@@ -63,7 +53,7 @@ returns-then-is_some c =
     let d = due (goal.at.returns-then-is_some c).After-index_mut-disk in
     let event = Tear c.args.host c.args.given.now in
     seen event old c.args.self.now _ None c.self.view_is
-    (owed.disk_only_back old d.i d.j (Some d.core) d.x c.refusal_of.new.disk d.found c.refusal_of.ensures.same d.value event
+    (owed.disk_only_back old d.at.i d.j (Some d.core) d.x c.refusal_of.new.disk d.found c.refusal_of.ensures.same d.value event
     (λ log leads. owed.some_of DiskFault (Brings log event old old None) c.refusal_of.result (sym c.is_some.ensures ∙ c.if-is_some.true)
     (λ fault is. owed.tears_refused old c.args.host d c.args.given.now fault c.requires (sym c.refusal_of.ensures.refusal ∙ is) log leads)))
 

@@ -1,0 +1,3 @@
+pub mod Judging
+pub mod Replayed
+pub mod Sweeping
