@@ -4,10 +4,10 @@ use Rattle.disk.specs.Disk.{Call, Answer}
 use Rattle.lock_command.specs.declared.command.Command.{Command}
 use Rattle.host.specs.declared.answer.HostAnswer.{HostAnswer}
 use Rattle.host.specs.declared.answer.HostAnswer.TheVariants.{Ack, Recovered, Looked, Beaten, Marked, Refused}
-use Rattle.host.specs.Host.{Operation, Submitting, Recovering, fresh}
+use Rattle.host.specs.Host.{Operation, Submitting, Recovering, fresh, goes_on, starts_marking, starts_look}
 use Rattle.host.proofs.Hosts.{idle_is}
 use Rattle.dlm_images.specs.Operations.{Ends, EndsMarking, EndsLook}
-use Rattle.dlm_images.proofs.Driving.{known_operated, operated_ends, known_marked, marked_prefix, marked_ends, known_looked, looked_ends}
+use Rattle.dlm_images.proofs.Driving.{known_then, operated_ends, marked_ends, looked_ends}
 use Rattle.dlm_images.proofs.Ending.{ReadsBack, reads_back}
 use Rattle.dlm_c.specs.Ends.{TellsEnd, TellsLearned, TellsMarked, TellsRefused, HasNumbersInRange, OpenedRest, OperationsTell, MarkingsTell, LooksTell}
 use Rattle.dlm_c.specs.Told.{answer_told, status_told}
@@ -61,19 +61,19 @@ opened c h k leads = record {
 
 pub operations : {D : Type 0} (gives : D → Call → Answer → D → Type 0) → OperationsTell gives
 operations gives operation tries old new rests fits done = (
-  record { known = known_operated gives operation tries old new rests.known done; idle = done.ended },
-  tells_end operation new.core.prefix new.core.said (operated_ends gives operation tries old new (reads operation fits) rests.known rests.idle done),
+  record { known = known_then gives (λ c m. goes_on c m operation tries) old new rests.known done; idle = done.ended },
+  tells_end operation new.core.prefix new.core.said (operated_ends gives old new rests.known rests.idle operation tries (reads operation fits) done),
 )
 
 pub markings : {D : Type 0} (gives : D → Call → Answer → D → Type 0) → MarkingsTell gives
 markings gives slot old new rests done = (
-  record { known = known_marked gives slot old new rests.known rests.idle done; idle = done.ended },
-  marked_prefix gives slot old new rests.known rests.idle done,
-  tells_marked new.core.said (marked_ends gives slot old new rests.known rests.idle done),
+  record { known = known_then gives (λ c m. starts_marking m slot) old new rests.known done; idle = done.ended },
+  (marked_ends gives old new rests.known rests.idle slot done).0,
+  tells_marked new.core.said (marked_ends gives old new rests.known rests.idle slot done).1,
 )
 
 pub looks : {D : Type 0} (gives : D → Call → Answer → D → Type 0) → LooksTell gives
 looks gives old new rests done = (
-  record { known = known_looked gives old new rests.known rests.idle done; idle = done.ended },
+  record { known = known_then gives (λ c m. starts_look c m) old new rests.known done; idle = done.ended },
   tells_looked new.core.prefix new.core.said (looked_ends gives old new rests.known rests.idle done),
 )

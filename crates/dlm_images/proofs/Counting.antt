@@ -1,5 +1,6 @@
 -- How many calls an operation, a marking and a look make, and that what was learned stays and has room.
-use Rattle.std.proofs.Common.{◌≡◌, ◌<◌, ◌≤◌, ◌+◌, ◌-◌, ◌*◌, ℕ, zero, suc, Bool, true, false, List, [], ◌∷◌, ◌++◌, length, nat_lt, nat_le, Option, Some, None, refl, sym, ◌∙◌, ap, subst, arith, if◌then◌else◌}
+use Rattle.std.proofs.Common.{◌≡◌, ◌<◌, ◌≤◌, ◌+◌, ◌-◌, ◌*◌, ℕ, zero, suc, Bool, true, false, List, [], ◌∷◌, ◌++◌, length, nat_lt, nat_le, Option, Some, None, refl, sym, ◌∙◌, ap, subst, arith, if◌then◌else◌, slice_get}
+use Rattle.paxos_block.specs.Places.{image_length}
 use Rattle.std.proofs.Math.Nat.{mul-add, mul_assoc, mul_comm}
 use Rattle.std.proofs.lemmas.Bool.{ltb-true, leb-false}
 use Rattle.std.proofs.lemmas.List.{length-append, length-set}
@@ -24,12 +25,14 @@ use Rattle.looks.proofs.Ends.{decided_is}
 use Rattle.slot_log.specs.Shape.{Shape}
 use Rattle.slot_log.specs.declared.outcome.Refusal.TheVariants as refusal
 use Rattle.host.specs.declared.answer.HostAnswer.TheVariants.{Looked, Refused}
-use Rattle.host.specs.Host.{Operation, Recovering, Doing, Memory, Beats, Marking, hears, hears_from, hears_beside, hears_apart, marking_by, marking_with, marking_of, with_marking, starts_marking, goes_on, begins, by_status, takes, after_learning, is_submitted, learns, says, full_answer, with_heard, with_floor, tries_again, setup_of, next_doing, next_in, next_beside, next_marking, next_look, Looking, hears_look, look_by, look_of, looking_with, looks_on, starts_look, takes_marked, with_looking}
-use Rattle.host.specs.Kept.{LeadsTo, is_idle}
+use Rattle.host.specs.Host.{Operation, Submitting, Recovering, Doing, Memory, Beats, Marking, hears, hears_from, hears_beside, hears_apart, marking_by, marking_with, marking_of, with_marking, starts_marking, goes_on, begins, by_status, takes, after_learning, is_submitted, learns, says, full_answer, with_heard, with_floor, tries_again, setup_of, next_doing, next_in, next_beside, next_marking, next_look, Looking, hears_look, look_by, look_of, looking_with, starts_look, takes_marked, with_looking}
 use Rattle.host.proofs.Hosts.{beats_heard, beats-goes_on, learned-goes_on, apart_heard, apart-goes_on}
-use Rattle.dlm_images.specs.Operations.{IsKnown, Made, Gave, after_call, after_made, IsDue, AreDue, Standing, HasOperated, HasMarked, HasLooked}
+use Rattle.dlm_images.specs.Operations.{Made, Gave, after_call, after_made, IsDue, AreDue, Standing, HasCarriedOut, HasOperated, HasMarked, HasLooked, IsSmall, Rests}
+use Rattle.dlm_images.specs.Tasks.{MayBegin, StaysWithin, begun_with}
+use Rattle.dlm_images.specs.declared.task.Task.{Task}
+use Rattle.dlm_images.specs.declared.task.Task.TheVariants as tasks
 use Rattle.dlm_images.specs.Marking.{HasMarkedFrom, RecoversAndMarks, calls_of, leaves_a_mark}
-use Rattle.dlm_images.proofs.Driving.{answered, idle_apart}
+use Rattle.dlm_images.proofs.Driving.{answered, idle_apart, leads_then, known_then, same_shape, marked_ends, looked_reads}
 use Rattle.dlm_images.proofs.Ending.{IsApart, apart_still}
 
 -- A call that is due is one of an attempt, a marking or a look: where none is under way, none is made.
@@ -40,6 +43,12 @@ none_due c h m doing rest alone =
 none_made : (c : Shape) (h : ℕ) (m : Memory) (xs : List Made) → m.doing ≡ None → m.beats.heard ≡ None → IsApart m → AreDue c h m xs → xs ≡ []
 none_made c h m [] doing rest alone due = refl
 none_made c h m (x ∷ xs) doing rest alone due = absurd (let next : None ≡ Some (x.disk, x.call) = sym (none_due c h m doing rest alone) ∙ due.0.next in cc)
+
+-- So many calls were made, and the host has come from one to the other: most of them for each slot that it learned, and so many more.
+pub record Costs (c : Shape) (most more : ℕ) (m : Memory) (calls : ℕ) (n : Memory) : Type 0 where
+  pub few : calls + most * length m.learned ≤ more + most * length n.learned
+  pub grows : length m.learned ≤ length n.learned
+  pub room : length n.learned ≤ c.slots
 
 -- AN OPERATION
 
@@ -174,24 +183,21 @@ module _ (c : Shape) (h : ℕ) where
 
   -- ALL ITS CALLS
 
-  -- so many calls were made, and the host has come to this
-  record Costs (m : Memory) (calls : ℕ) (n : Memory) : Type 0 where
-    few : calls + (17 * c.disks) * length m.learned ≤ budget (17 * c.disks) m.doing + (17 * c.disks) * length n.learned
-    grows : length m.learned ≤ length n.learned
-    room : length n.learned ≤ c.slots
+  abbrev Pays : Memory → ℕ → Memory → Type 0
+  Pays m calls n = Costs c (17 * c.disks) (budget (17 * c.disks) m.doing) m calls n
 
   further : (most a b d e f calls : ℕ) → b + 1 + d ≤ a + e → calls + e ≤ b + f → suc calls + d ≤ a + f
   further most a b d e f calls one rest = omega (arith, one, rest)
 
-  costs : (m : Memory) (xs : List Made) → m.beats.heard ≡ None → IsApart m → length m.learned ≤ c.slots → IsGoing m → AreDue c h m xs → Costs m (length xs) (after_made c h m xs)
+  costs : (m : Memory) (xs : List Made) → m.beats.heard ≡ None → IsApart m → length m.learned ≤ c.slots → IsGoing m → AreDue c h m xs → Pays m (length xs) (after_made c h m xs)
   costs m [] rest alone room going due = record { few = omega arith; grows = omega arith; room = room }
   costs m (x ∷ xs) rest alone room going due =
       by_doing m.doing refl going
       (λ n heard apart left more later. costs n xs heard apart left more later)
     where
       by_doing : (o : Option Doing) → m.doing ≡ o → IsGoingIn c h m o
-          → ((n : Memory) → n.beats.heard ≡ None → IsApart n → length n.learned ≤ c.slots → IsGoing n → AreDue c h n xs → Costs n (length xs) (after_made c h n xs))
-          → Costs m (suc (length xs)) (after_made c h (after_call c h m x) xs)
+          → ((n : Memory) → n.beats.heard ≡ None → IsApart n → length n.learned ≤ c.slots → IsGoing n → AreDue c h n xs → Pays n (length xs) (after_made c h n xs))
+          → Pays m (suc (length xs)) (after_made c h (after_call c h m x) xs)
       by_doing None is going later =
           absurd (let next : None ≡ Some (x.disk, x.call) = sym (none_due c h m is rest alone) ∙ due.0.next in cc)
       by_doing (Some t) is going later =
@@ -200,10 +206,10 @@ module _ (c : Shape) (h : ℕ) where
           let answers = answers_it m t x is due.0 in
           let spends : Spends (17 * c.disks) c.slots (17 * c.disks * t.tries - length t.heard) (length m.learned) n =
           answer_spends (17 * c.disks) c h m t (answered x) going.slot going.tries (ends.bound (setup_of c h m t.operation) (t.heard ++ answered x ∷ []) (longer m t (answered x) going answers)) in
-          let ahead : Costs n (length xs) (after_made c h n xs) =
+          let ahead : Pays n (length xs) (after_made c h n xs) =
           later n (ap (λ (b : Beats). b.heard) (beats_heard c h m (Some t) (answered x)) ∙ rest) (apart_still m n (apart_heard c h m (Some t) (answered x)) alone) spends.room
           (goes_further m t (answered x) going answers) (subst (λ (k : Memory). AreDue c h k xs) same due.1) in
-          subst (λ (k : Memory). Costs m (suc (length xs)) (after_made c h k xs)) (sym same) (record {
+          subst (λ (k : Memory). Pays m (suc (length xs)) (after_made c h k xs)) (sym same) (record {
             few =
                 subst (λ (o : Option Doing). suc (length xs) + (17 * c.disks) * length m.learned ≤ budget (17 * c.disks) o + (17 * c.disks) * length (after_made c h n xs).learned) (sym is)
                 (further (17 * c.disks) (17 * c.disks * t.tries - length t.heard) (budget (17 * c.disks) n.doing) ((17 * c.disks) * length m.learned) ((17 * c.disks) * length n.learned) ((17 * c.disks) * length (after_made c h n xs).learned) (length xs) spends.few ahead.few);
@@ -219,53 +225,10 @@ spread most a b tries calls le cost =
     let parts : most * (b - a + tries) ≡ most * (b - a) + most * tries = mul-add most (b - a) tries in
     omega (arith, whole, parts, cost)
 
--- an operation made at most seventeen calls a disk for each slot that it learned, and for each try; what was learned has room
-pub record IsBounded {D : Type 0} (tries : ℕ) (old new : Standing D) (calls : ℕ) : Type 0 where
-  pub few : calls ≤ 17 * old.core.learner.shape.disks * (length new.core.prefix - length old.core.prefix + tries)
-  pub grows : length old.core.prefix ≤ length new.core.prefix
-  pub room : length new.core.prefix ≤ old.core.learner.shape.slots
-
 at_most_tries : (c : Shape) (m : Memory) (o : Operation) (most tries : ℕ) → budget most (goes_on c m o tries).doing ≤ most * tries
 at_most_tries c m o most tries =
     by_test (λ (n : Memory). budget most n.doing ≤ most * tries) (nat_lt (length m.learned) c.slots) (begins m o tries) (says m (full_answer o (length m.learned)))
     (λ is. omega arith) (λ is. omega arith)
-
-pub bounded : {D : Type 0} (gives : D → device.Call → device.Answer → D → Type 0) (o : Operation) (tries : ℕ) (old new : Standing D) → 1 ≤ tries → IsKnown old.core → is_idle old.core ≡ true → length old.core.prefix ≤ old.core.learner.shape.slots
-    → (done : HasOperated gives o tries old new) → IsBounded tries old new (length done.made)
-bounded gives o tries old new more known idle room done =
-    let c = known.shape in
-    let h = known.host in
-    let m = known.memory in
-    let begun_so = goes_on c m o tries in
-    let n = after_made c h begun_so done.made in
-    let leads : LeadsTo c h n new.core = done.leads c h m known.leads in
-    let disks : old.core.learner.shape.disks ≡ c.disks = ap (λ (s : Shape). s.disks) known.leads.learner.shape in
-    let slots : old.core.learner.shape.slots ≡ c.slots = ap (λ (s : Shape). s.slots) known.leads.learner.shape in
-    let before : length old.core.prefix ≡ length m.learned = ap length known.leads.prefix in
-    let after : length new.core.prefix ≡ length n.learned = ap length leads.prefix in
-    let still : length begun_so.learned ≡ length m.learned = ap length (learned-goes_on c m o tries) in
-    let cost : Costs c h begun_so (length done.made) n =
-    costs c h begun_so done.made
-    (ap (λ (b : Beats). b.heard) (beats-goes_on c m o tries) ∙ known.rests)
-    (apart_still m begun_so (apart-goes_on c m o tries) (idle_apart c h m old.core known.leads idle))
-    (omega (arith, still, before, slots, room)) (begun c h m o tries more) (done.due c h m known.leads) in
-    let most = 17 * c.disks in
-    let tried = at_most_tries c m o most tries in
-    let spent : most * length begun_so.learned ≡ most * length m.learned = ap (λ (k : ℕ). most * k) still in
-    let few : length done.made ≤ most * (length n.learned - length m.learned + tries) =
-    spread most (length m.learned) (length n.learned) tries (length done.made) (omega (arith, cost.grows, still)) (omega (arith, cost.few, tried, spent)) in record {
-      few = subst (λ (k : ℕ). length done.made ≤ 17 * k * (length new.core.prefix - length old.core.prefix + tries)) (sym disks)
-          (subst (λ (k : ℕ). length done.made ≤ most * (k - length old.core.prefix + tries)) (sym after)
-          (subst (λ (k : ℕ). length done.made ≤ most * (length n.learned - k + tries)) (sym before) few));
-      grows = omega (arith, cost.grows, still, before, after);
-      room = omega (arith, cost.room, after, slots);
-    }
-
--- of a host that has as many disks
-pub operated_calls : {D : Type 0} (gives : D → device.Call → device.Answer → D → Type 0) (o : Operation) (tries : ℕ) (old new : Standing D) → 1 ≤ tries → IsKnown old.core → is_idle old.core ≡ true → length old.core.prefix ≤ old.core.learner.shape.slots
-    → length old.disks ≡ old.core.learner.shape.disks → (done : HasOperated gives o tries old new) → length done.made ≤ 17 * length old.disks * (length new.core.prefix - length old.core.prefix + tries)
-operated_calls gives o tries old new more known idle room as_many done =
-    subst (λ (k : ℕ). length done.made ≤ 17 * k * (length new.core.prefix - length old.core.prefix + tries)) (sym as_many) (bounded gives o tries old new more known idle room done).few
 
 -- A MARKING
 
@@ -307,22 +270,11 @@ module _ (c : Shape) (h : ℕ) where
       by_begun false due =
           let none : length xs ≡ 0 = ap length (none_made c h (with_marking m m.marking (Some (Refused refusal.NotLearned))) xs refl rest alone due) in omega (arith, none)
 
-pub marked_calls : {D : Type 0} (gives : D → device.Call → device.Answer → D → Type 0) (slot : ℕ) (old new : Standing D) → IsKnown old.core → is_idle old.core ≡ true → length old.disks ≡ old.core.learner.shape.disks → (done : HasMarked gives slot old new) → length done.made ≤ 9 * length old.disks
-marked_calls gives slot old new known idle as_many done =
-    let c = known.shape in
-    let h = known.host in
-    let m = known.memory in
-    let disks : old.core.learner.shape.disks ≡ c.disks = ap (λ (s : Shape). s.disks) known.leads.learner.shape in
-    let few = marked_within c h m slot done.made known.rests (idle_apart c h m old.core known.leads idle) (done.due c h m known.leads) in
-    omega (arith, few, disks, as_many)
-
 -- A LOOK
 
 -- so many calls of a look were heard on the slot that it is at, and with so many more the host has come to this
-pub record LooksCost (c : Shape) (m : Memory) (calls : ℕ) (n : Memory) : Type 0 where
-  pub few : calls + (2 * c.disks) * length m.learned ≤ 2 * c.disks + (2 * c.disks) * length n.learned
-  pub grows : length m.learned ≤ length n.learned
-  pub room : length n.learned ≤ c.slots
+abbrev LooksCost : Shape → Memory → ℕ → Memory → Type 0
+LooksCost c m calls n = Costs c (2 * c.disks) (2 * c.disks) m calls n
 
 module _ (c : Shape) (h : ℕ) where
   -- one that has ended makes no more
@@ -398,46 +350,111 @@ module _ (c : Shape) (h : ℕ) where
       subst (λ (k : Memory). LooksCost c m (length t.heard + suc (length xs)) (after_made c h k xs)) (sym same)
       (record { few = omega (arith, one, cost.few); grows = cost.grows; room = cost.room })
 
-  pub looked_costs : (m : Memory) (xs : List Made) → m.beats.heard ≡ None → m.marking ≡ None → 0 < c.disks → length m.learned ≤ c.slots → AreDue c h (starts_look c m) xs → LooksCost c m (length xs) (after_made c h (starts_look c m) xs)
+  looked_costs : (m : Memory) (xs : List Made) → m.beats.heard ≡ None → m.marking ≡ None → 0 < c.disks → length m.learned ≤ c.slots → AreDue c h (starts_look c m) xs → LooksCost c m (length xs) (after_made c h (starts_look c m) xs)
   looked_costs m xs rest unmarking some room due = by_on m 0 xs rest unmarking some (nat_lt (length m.learned) c.slots) refl room (look_costs xs) due
 
--- a look made at most two calls a disk for each slot that it learned, and for the one that it ended at; what was learned has room
-pub record IsLookBounded {D : Type 0} (old new : Standing D) (calls : ℕ) : Type 0 where
-  pub few : calls ≤ 2 * length old.disks * (length new.core.prefix - length old.core.prefix + 1)
-  pub grows : length old.core.prefix ≤ length new.core.prefix
-  pub room : length new.core.prefix ≤ old.core.learner.shape.slots
-
-pub looked_calls : {D : Type 0} (gives : D → device.Call → device.Answer → D → Type 0) (old new : Standing D) → IsKnown old.core → is_idle old.core ≡ true → 1 ≤ old.core.learner.shape.disks → length old.core.prefix ≤ old.core.learner.shape.slots → length old.disks ≡ old.core.learner.shape.disks
-    → (done : HasLooked gives old new) → IsLookBounded old new (length done.made)
-looked_calls gives old new known idle some room as_many done =
-    let c = known.shape in
-    let h = known.host in
-    let m = known.memory in
-    let n = after_made c h (starts_look c m) done.made in
-    let leads : LeadsTo c h n new.core = done.leads c h m known.leads in
-    let disks : old.core.learner.shape.disks ≡ c.disks = ap (λ (s : Shape). s.disks) known.leads.learner.shape in
-    let slots : old.core.learner.shape.slots ≡ c.slots = ap (λ (s : Shape). s.slots) known.leads.learner.shape in
-    let before : length old.core.prefix ≡ length m.learned = ap length known.leads.prefix in
-    let after : length new.core.prefix ≡ length n.learned = ap length leads.prefix in
-    let cost = looked_costs c h m done.made known.rests (idle_apart c h m old.core known.leads idle).0 (omega (arith, some, disks)) (omega (arith, room, slots, before)) (done.due c h m known.leads) in
-    let one : 2 * c.disks * 1 ≡ 2 * c.disks = omega arith in
-    let few : length done.made ≤ 2 * c.disks * (length n.learned - length m.learned + 1) =
-    spread (2 * c.disks) (length m.learned) (length n.learned) 1 (length done.made) cost.grows (omega (arith, cost.few, one)) in record {
-      few =
-          subst (λ (k : ℕ). length done.made ≤ 2 * k * (length new.core.prefix - length old.core.prefix + 1)) (sym (as_many ∙ disks))
-          (subst (λ (k : ℕ). length done.made ≤ 2 * c.disks * (k - length old.core.prefix + 1)) (sym after)
-          (subst (λ (k : ℕ). length done.made ≤ 2 * c.disks * (length n.learned - k + 1)) (sym before) few));
-      grows = omega (arith, cost.grows, before, after);
-      room = omega (arith, cost.room, after, slots);
-    }
-
--- DISKS
+-- ALL CALLS
 
 -- a disk that is called is still one of as many
 pub as_many : {D : Type 0} (gives : D → device.Call → device.Answer → D → Type 0) (old new : List D) (xs : List Made) → Gave gives old xs new → length new ≡ length old
 as_many gives old new [] gave = ap length gave
 as_many gives old new (x ∷ xs) gave =
     as_many gives gave.0 new xs gave.2 ∙ ap length (gave.1).others ∙ length-set old x.disk (gave.1).after
+
+-- Of this host so many calls a disk were made for each slot that it learned, and for so many more. What was learned has room.
+pub record IsBounded {D : Type 0} (most more : ℕ) (old new : Standing D) (calls : ℕ) : Type 0 where
+  pub few : calls ≤ most * length old.disks * (length new.core.prefix - length old.core.prefix + more)
+  pub grows : length old.core.prefix ≤ length new.core.prefix
+  pub room : length new.core.prefix ≤ old.core.learner.shape.slots
+
+module _ {D : Type 0} (gives : D → device.Call → device.Answer → D → Type 0) (size : D → ℕ) (old new : Standing D) (rests : Rests size old) where
+  disks : length old.disks ≡ rests.known.shape.disks
+  disks = rests.as_many ∙ ap (λ (s : Shape). s.disks) rests.known.leads.learner.shape
+
+  slots : old.core.learner.shape.slots ≡ rests.known.shape.slots
+  slots = ap (λ (s : Shape). s.slots) rests.known.leads.learner.shape
+
+  before : length old.core.prefix ≡ length rests.known.memory.learned
+  before = ap length rests.known.leads.prefix
+
+  alone : IsApart rests.known.memory
+  alone = idle_apart rests.known.shape rests.known.host rests.known.memory old.core rests.known.leads rests.idle
+
+  bounded : (begins_with : Shape → Memory → Memory) (most more : ℕ) (done : HasCarriedOut gives begins_with old new)
+      → Costs rests.known.shape (most * rests.known.shape.disks) (most * rests.known.shape.disks * more) rests.known.memory (length done.made) (after_made rests.known.shape rests.known.host (begins_with rests.known.shape rests.known.memory) done.made)
+      → IsBounded most more old new (length done.made)
+  bounded begins_with most more done cost =
+      let c = rests.known.shape in
+      let m = rests.known.memory in
+      let n = after_made c rests.known.host (begins_with c m) done.made in
+      let after : length new.core.prefix ≡ length n.learned = ap length (leads_then gives begins_with old new rests.known done).prefix in
+      let few : length done.made ≤ most * c.disks * (length n.learned - length m.learned + more) =
+      spread (most * c.disks) (length m.learned) (length n.learned) more (length done.made) cost.grows cost.few in record {
+        few =
+            subst (λ (k : ℕ). length done.made ≤ most * k * (length new.core.prefix - length old.core.prefix + more)) (sym disks)
+            (subst (λ (k : ℕ). length done.made ≤ most * c.disks * (k - length old.core.prefix + more)) (sym after)
+            (subst (λ (k : ℕ). length done.made ≤ most * c.disks * (length n.learned - k + more)) (sym before) few));
+        grows = omega (arith, cost.grows, before, after);
+        room = omega (arith, cost.room, after, slots);
+      }
+
+  -- an operation makes at most seventeen a disk for each slot that it learns, and for each try
+  operated_bounded : (o : Operation) (tries : ℕ) → 1 ≤ tries → (done : HasOperated gives o tries old new) → IsBounded 17 tries old new (length done.made)
+  operated_bounded o tries more done =
+      let c = rests.known.shape in
+      let h = rests.known.host in
+      let m = rests.known.memory in
+      let begun_so = goes_on c m o tries in
+      let still : length begun_so.learned ≡ length m.learned = ap length (learned-goes_on c m o tries) in
+      let cost : Pays c h begun_so (length done.made) (after_made c h begun_so done.made) =
+      costs c h begun_so done.made
+      (ap (λ (b : Beats). b.heard) (beats-goes_on c m o tries) ∙ rests.known.rests)
+      (apart_still m begun_so (apart-goes_on c m o tries) alone)
+      (omega (arith, still, before, slots, rests.room)) (begun c h m o tries more) (done.due c h m rests.known.leads) in
+      let tried = at_most_tries c m o (17 * c.disks) tries in
+      let spent : (17 * c.disks) * length begun_so.learned ≡ (17 * c.disks) * length m.learned = ap (λ (k : ℕ). (17 * c.disks) * k) still in
+      bounded (λ c m. goes_on c m o tries) 17 tries done
+      (record { few = omega (arith, cost.few, tried, spent); grows = omega (arith, cost.grows, still); room = cost.room })
+
+  -- a marking nine a disk
+  marked_calls : (slot : ℕ) (done : HasMarked gives slot old new) → length done.made ≤ 9 * length old.disks
+  marked_calls slot done =
+      let few = marked_within rests.known.shape rests.known.host rests.known.memory slot done.made rests.known.rests alone (done.due rests.known.shape rests.known.host rests.known.memory rests.known.leads) in
+      omega (arith, few, disks)
+
+  -- and a look two for each slot that it learns, and for the one that it ends at
+  looked_bounded : (done : HasLooked gives old new) → IsBounded 2 1 old new (length done.made)
+  looked_bounded done =
+      let c = rests.known.shape in
+      let cost = looked_costs c rests.known.host rests.known.memory done.made rests.known.rests alone.0 (let some = rests.some in omega (arith, some, disks)) (omega (arith, rests.room, slots, before)) (done.due c rests.known.host rests.known.memory rests.known.leads) in
+      bounded (λ c m. starts_look c m) 2 1 done (record { few = (let few = cost.few in omega arith); grows = cost.grows; room = cost.room })
+
+  room_then : (task : Task) → MayBegin old.core task → HasCarriedOut gives (λ c m. begun_with c m task) old new → length new.core.prefix ≤ old.core.learner.shape.slots
+  room_then (tasks.Submit command tries) may done = (operated_bounded (Submitting command) tries may.2 done).room
+  room_then (tasks.Recover tries) may done = (operated_bounded Recovering tries may.0 done).room
+  room_then (tasks.Mark slot) may done = let kept = ap length (marked_ends gives old new rests.known rests.idle slot done).0 in omega (arith, kept, rests.room)
+  room_then tasks.Look may done = (looked_bounded done).room
+
+  pub stays_within : (task : Task) → MayBegin old.core task → HasCarriedOut gives (λ c m. begun_with c m task) old new → StaysWithin gives task old new
+  stays_within (tasks.Submit command tries) may done = tt
+  stays_within (tasks.Recover tries) may done = ((operated_bounded Recovering tries may.0 done).grows, λ d. (operated_bounded Recovering tries may.0 d).few)
+  stays_within (tasks.Mark slot) may done = ((marked_ends gives old new rests.known rests.idle slot done).0, marked_calls slot)
+  stays_within tasks.Look may done = ((looked_bounded done).grows, looked_reads gives old new rests.known rests.idle, λ d. (looked_bounded d).few)
+
+  -- once it has ended, the host rests again
+  pub rests_then : (task : Task) → MayBegin old.core task → (done : HasCarriedOut gives (λ c m. begun_with c m task) old new) → ((k : ℕ) (d : D) → slice_get new.disks k ≡ Some d → image_length new.core.learner.shape.slots ≤ size d) → Rests size new
+  rests_then task may done large =
+      let same : new.core.learner.shape ≡ old.core.learner.shape = same_shape gives (λ c m. begun_with c m task) old new rests.known done in record {
+        known = known_then gives (λ c m. begun_with c m task) old new rests.known done;
+        idle = done.ended;
+        small = subst IsSmall (sym same) rests.small;
+        some = subst (λ (s : Shape). 1 ≤ s.disks) (sym same) rests.some;
+        as_many = as_many gives old.disks new.disks done.made done.gave ∙ rests.as_many ∙ ap (λ (s : Shape). s.disks) (sym same);
+        room = subst (λ (s : Shape). length new.core.prefix ≤ s.slots) (sym same) (room_then task may done);
+        large = large;
+      }
+
+-- SLOT AFTER SLOT
 
 one_slot_more : (most n a b : ℕ) → a ≤ most * n → b ≤ most → a + b ≤ most * suc n
 one_slot_more most n a b le few = omega (arith, le, few)
@@ -463,8 +480,6 @@ all_calls disks slots tries a b first then_b =
     let tries_so : disks * (17 * tries) ≡ 17 * (disks * tries) = sym (mul_assoc disks 17 tries) ∙ ap (λ (k : ℕ). k * tries) (mul_comm disks 17) ∙ mul_assoc 17 disks tries in
     let whole : disks * (26 * slots + 17 * tries) ≡ disks * (26 * slots) + disks * (17 * tries) = mul-add disks (26 * slots) (17 * tries) in
     omega (arith, first, then_b, once, later, slots_so, tries_so, whole)
-
--- SLOT AFTER SLOT
 
 pub marked_none : {D : Type 0} (gives : D → device.Call → device.Answer → D → Type 0) (from n : ℕ) (s : Standing D) → n ≡ 0 → HasMarkedFrom gives from n 0 s s
 marked_none gives from n s is =

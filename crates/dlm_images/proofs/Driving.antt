@@ -17,12 +17,12 @@ use Rattle.beats.specs.declared.notes.Notes.{Notes as BeatNotes}
 use Rattle.phases.specs.Calls.{heard_of}
 use Rattle.phases.specs.declared.heard.Heard as code_heard
 use Rattle.slot_log.specs.Shape.{Shape}
-use Rattle.host.specs.Host.{Operation, Doing, Memory, Beats, Marking, hears, hears_from, hears_beside, hears_apart, hears_marking, marking_by, marking_with, marking_of, with_marking, starts_marking, goes_on, begins, by_status, takes, after_learning, is_submitted, learns, with_heard, with_floor, tries_again, rests, is_idle_in, next_doing, next_beside, next_marking, next_look, Looking, hears_look, look_by, look_of, looking_with, looks_on, starts_look, takes_marked, with_looking}
+use Rattle.host.specs.Host.{Operation, Submitting, Recovering, Doing, Memory, Beats, Marking, hears, hears_from, hears_beside, hears_apart, hears_marking, marking_by, marking_with, marking_of, with_marking, starts_marking, goes_on, begins, by_status, takes, after_learning, is_submitted, learns, with_heard, with_floor, tries_again, rests, is_idle_in, next_doing, next_beside, next_marking, next_look, Looking, hears_look, look_by, look_of, looking_with, looks_on, starts_look, takes_marked, with_looking}
 use Rattle.host.specs.Kept.{Kept, LeadsTo, BeatLeadsTo, is_idle}
 use Rattle.marks.specs.Status as mark
 use Rattle.slot_log.specs.declared.outcome.Refusal.TheVariants as refusal
 use Rattle.host.specs.declared.answer.HostAnswer.TheVariants.{Looked, Refused}
-use Rattle.host.proofs.Hosts.{apart, idle_is, heard_same, beats-goes_on, beats-hears, apart_heard, apart-goes_on, learned-goes_on}
+use Rattle.host.proofs.Hosts.{idle_is, heard_same, beats-goes_on, beats-hears, apart_heard, learned-goes_on}
 use Rattle.std.specs.Prelude.{is_some, map}
 use Rattle.std.proofs.Common.{true≢false}
 use Rattle.disk.specs.Disk as device
@@ -31,8 +31,11 @@ use Rattle.phases.specs.declared.need.DeviceCall as code_call
 use Rattle.phases.specs.declared.need.DeviceCall.TheVariants as call
 use Rattle.host.specs.Alone.{IsAnsweredAlone, IsMarkedWithinNine, IsLookedWithinTwo}
 use Rattle.host.specs.declared.answer.HostAnswer.{HostAnswer}
-use Rattle.dlm_images.specs.Operations.{IsKnown, HasHeard, Made, GaveOne, Gave, after_call, after_made, IsDue, AreDue, AreReads, tries_in, Standing, HasOperated, HasMarked, HasLooked, Ends, EndsMarking, EndsLook}
-use Rattle.dlm_images.proofs.Ending.{ReadsBack, IsApart, IsOfLook, apart_still, hears_one, after_answers, operation_ends, marking_ends, marking_learns, look_begun, look_ends, look_hears}
+use Rattle.dlm_images.specs.Operations.{IsKnown, HasHeard, Made, GaveOne, Gave, after_call, after_made, IsDue, AreDue, AreReads, tries_in, Standing, HasCarriedOut, HasOperated, HasMarked, HasLooked, Ends, EndsMarking, EndsLook}
+use Rattle.dlm_images.specs.Tasks.{MayBegin, EndsTask, begun_with}
+use Rattle.dlm_images.specs.declared.task.Task.{Task}
+use Rattle.dlm_images.specs.declared.task.Task.TheVariants as tasks
+use Rattle.dlm_images.proofs.Ending.{ReadsBack, IsApart, IsOfLook, hears_one, after_answers, operation_ends, marking_ends, marking_learns, look_begun, look_ends, look_hears}
 
 -- How many calls an operation may still make: 119 for each attempt that may follow, since it learns a slot or uses a try, and those
 -- that are left of its attempt, the last of them counted once more.
@@ -460,39 +463,66 @@ no_tries None is = omega arith
 no_tries (Some t) is = absurd (cc)
 
 -- so something is known of an idle host, if anything leads to what it keeps
-pub known_idle : (c : Shape) (h : ℕ) (m : Memory) (k : Kept) → LeadsTo c h m k → is_idle k ≡ true → IsKnown k
+known_idle : (c : Shape) (h : ℕ) (m : Memory) (k : Kept) → LeadsTo c h m k → is_idle k ≡ true → IsKnown k
 known_idle c h m k leads idle = record { shape = c; host = h; memory = m; leads = leads; rests = idle_rests c h m k leads idle; tries = no_tries m.doing (idle_memory c h m k leads idle) }
-
--- an operation begins
-pub known_begun : (o : Operation) (tries : ℕ) (old begun : Kept) → tries ≤ 255 → IsKnown old → ((c : Shape) (h : ℕ) (m : Memory) → LeadsTo c h m old → LeadsTo c h (goes_on c m o tries) begun) → IsKnown begun
-known_begun o tries old begun few known begins_so = record {
-  shape = known.shape;
-  host = known.host;
-  memory = goes_on known.shape known.memory o tries;
-  leads = begins_so known.shape known.host known.memory known.leads;
-  rests = ap (λ (b : Beats). b.heard) (beats-goes_on known.shape known.memory o tries) ∙ known.rests;
-  tries =
-      let m = known.memory in
-      by_test (λ (n : Memory). tries_in n.doing ≤ 255) (nat_lt (length m.learned) known.shape.slots) (begins m o tries) _ (λ is. few) (omega arith);
-}
 
 -- a list is written back over one as long
 pub written_back : {X : Type 0} (new old : List X) (n : ℕ) → length new ≡ n → take n (new ++ drop (length new) old) ≡ new
 written_back new old n is = ap (λ (k : ℕ). take k (new ++ drop (length new) old)) (sym is) ∙ take-append_seam new (drop (length new) old)
 
+-- A TASK BEGINS
+
+-- no beat does, and it has no more tries than fit a byte
+record BeginsWell (m n : Memory) : Type 0 where
+  beats : n.beats ≡ m.beats
+  tries : tries_in n.doing ≤ 255
+
+operation_begins : (c : Shape) (m : Memory) (o : Operation) (tries : ℕ) → tries ≤ 255 → BeginsWell m (goes_on c m o tries)
+operation_begins c m o tries few = record {
+  beats = beats-goes_on c m o tries;
+  tries = by_test (λ (n : Memory). tries_in n.doing ≤ 255) (nat_lt (length m.learned) c.slots) (begins m o tries) _ (λ is. few) (omega arith);
+}
+
+marking_begins : (m : Memory) (slot : ℕ) → BeginsWell m (starts_marking m slot)
+marking_begins m slot =
+    by_test (BeginsWell m) (nat_lt slot (length m.learned)) (with_marking m (Some (record { slot = slot; heard = [] })) None) (with_marking m m.marking (Some (Refused refusal.NotLearned)))
+    (λ is. record { beats = refl; tries = omega arith })
+    (record { beats = refl; tries = omega arith })
+
+look_begins : (c : Shape) (m : Memory) → BeginsWell m (starts_look c m)
+look_begins c m = let quiet : IsQuiet m (starts_look c m) = on_quiet c m m 0 refl refl in record { beats = quiet.beats; tries = no_tries (starts_look c m).doing quiet.rests }
+
+begins_well : (c : Shape) (m : Memory) (k : Kept) (task : Task) → MayBegin k task → BeginsWell m (begun_with c m task)
+begins_well c m k (tasks.Submit command tries) may = operation_begins c m (Submitting command) tries may.3
+begins_well c m k (tasks.Recover tries) may = operation_begins c m Recovering tries may.1
+begins_well c m k (tasks.Mark slot) may = marking_begins m slot
+begins_well c m k tasks.Look may = look_begins c m
+
+-- something is known of the host where it begins
+pub known_begun : (task : Task) (old begun : Kept) → MayBegin old task → IsKnown old → ((c : Shape) (h : ℕ) (m : Memory) → LeadsTo c h m old → LeadsTo c h (begun_with c m task) begun) → IsKnown begun
+known_begun task old begun may known begins_so =
+    let well = begins_well known.shape known.memory old task may in record {
+      shape = known.shape;
+      host = known.host;
+      memory = begun_with known.shape known.memory task;
+      leads = begins_so known.shape known.host known.memory known.leads;
+      rests = ap (λ (b : Beats). b.heard) well.beats ∙ known.rests;
+      tries = well.tries;
+    }
+
 -- of a cluster of the same shape
-pub begun_shape : (o : Operation) (tries : ℕ) (old begun : Kept) → IsKnown old → ((c : Shape) (h : ℕ) (m : Memory) → LeadsTo c h m old → LeadsTo c h (goes_on c m o tries) begun) → begun.learner.shape ≡ old.learner.shape
-begun_shape o tries old begun known begins_so =
+pub begun_shape : (begins_with : Shape → Memory → Memory) (old begun : Kept) → IsKnown old → ((c : Shape) (h : ℕ) (m : Memory) → LeadsTo c h m old → LeadsTo c h (begins_with c m) begun) → begun.learner.shape ≡ old.learner.shape
+begun_shape begins_with old begun known begins_so =
     (begins_so known.shape known.host known.memory known.leads).learner.shape ∙ sym known.leads.learner.shape
 
--- what was heard between the beginning and the end is the operation's
-pub operated : {D : Type 0} (gives : D → device.Call → device.Answer → D → Type 0) (o : Operation) (tries : ℕ) (old : Standing D) (begun : Kept) (ended : Standing D) → ((c : Shape) (h : ℕ) (m : Memory) → LeadsTo c h m old.core → LeadsTo c h (goes_on c m o tries) begun)
-    → HasHeard gives (record { core = begun; disks = old.disks }) ended → is_idle ended.core ≡ true → HasOperated gives o tries old ended
-operated gives o tries old begun ended begins_so heard idle = record {
+-- What was heard between the beginning and the end is its own, on the disks that were given and are kept.
+pub carried_out : {D : Type 0} (gives : D → device.Call → device.Answer → D → Type 0) (begins_with : Shape → Memory → Memory) (old begun ended : Kept) (disks given left kept : List D) → ((c : Shape) (h : ℕ) (m : Memory) → LeadsTo c h m old → LeadsTo c h (begins_with c m) begun)
+    → given ≡ disks → left ≡ kept → HasHeard gives (record { core = begun; disks = given }) (record { core = ended; disks = left }) → is_idle ended ≡ true → HasCarriedOut gives begins_with (record { core = old; disks = disks }) (record { core = ended; disks = kept })
+carried_out gives begins_with old begun ended disks given left kept begins_so given_is left_is heard idle = record {
   made = heard.made;
-  gave = heard.gave;
-  due = λ c h m leads. heard.due c h (goes_on c m o tries) (begins_so c h m leads);
-  leads = λ c h m leads. heard.leads c h (goes_on c m o tries) (begins_so c h m leads);
+  gave = subst (λ ds. Gave gives ds heard.made kept) given_is (subst (λ ds. Gave gives given heard.made ds) left_is heard.gave);
+  due = λ c h m leads. heard.due c h (begins_with c m) (begins_so c h m leads);
+  leads = λ c h m leads. heard.leads c h (begins_with c m) (begins_so c h m leads);
   ended = idle;
 }
 
@@ -504,135 +534,6 @@ after_own c h m (x ∷ xs) rest =
     let still : (hears_one c h m m.doing (answered x)).beats.heard ≡ None = ap (λ (b : Beats). b.heard) (beats_one c h m m.doing (answered x) refl) ∙ rest in
     after_own c h (after_call c h m x) xs (subst (λ (n : Memory). n.beats.heard ≡ None) (sym same) still)
     ∙ ap (λ (n : Memory). after_answers c h n (map answered xs)) same
-
--- something is known of the host then, too
-pub known_operated : {D : Type 0} (gives : D → device.Call → device.Answer → D → Type 0) (o : Operation) (tries : ℕ) (old new : Standing D) → IsKnown old.core → HasOperated gives o tries old new → IsKnown new.core
-known_operated gives o tries old new known done =
-    known_idle known.shape known.host (after_made known.shape known.host (goes_on known.shape known.memory o tries) done.made) new.core
-    (done.leads known.shape known.host known.memory known.leads) done.ended
-
--- and the host has said how it ended
-pub operated_ends : {D : Type 0} (gives : D → device.Call → device.Answer → D → Type 0) (o : Operation) (tries : ℕ) (old new : Standing D) → ReadsBack o → IsKnown old.core → is_idle old.core ≡ true → HasOperated gives o tries old new → Ends o new.core.prefix new.core.said
-operated_ends gives o tries old new back known idle done =
-    let begun = goes_on known.shape known.memory o tries in
-    let n = after_made known.shape known.host begun done.made in
-    let leads : LeadsTo known.shape known.host n new.core = done.leads known.shape known.host known.memory known.leads in
-    let rest : begun.beats.heard ≡ None = ap (λ (b : Beats). b.heard) (beats-goes_on known.shape known.memory o tries) ∙ known.rests in
-    let own = after_own known.shape known.host begun done.made rest in
-    let ended : n.doing ≡ None = idle_memory known.shape known.host n new.core leads done.ended in
-    let alone : IsApart known.memory = idle_apart known.shape known.host known.memory old.core known.leads idle in
-    let ends : Ends o n.learned n.said =
-    subst (λ (k : Memory). Ends o k.learned k.said) (sym own)
-    (operation_ends known.shape known.host known.memory o tries (map answered done.made) back alone (subst (λ (k : Memory). k.doing ≡ None) own ended)) in
-    subst (λ (said : Option HostAnswer). Ends o new.core.prefix said) (sym leads.said) (subst (λ (learned : List Command). Ends o learned n.said) (sym leads.prefix) ends)
-
--- A MARKING
-
-beats_begun : (m : Memory) (slot : ℕ) (b : Bool) → (if b then with_marking m (Some (record { slot = slot; heard = [] })) None else with_marking m m.marking (Some (Refused refusal.NotLearned))).beats ≡ m.beats
-beats_begun m slot true = refl
-beats_begun m slot false = refl
-
-tries_begun : (m : Memory) (slot : ℕ) (b : Bool) → tries_in (if b then with_marking m (Some (record { slot = slot; heard = [] })) None else with_marking m m.marking (Some (Refused refusal.NotLearned))).doing ≤ 255
-tries_begun m slot true = omega arith
-tries_begun m slot false = omega arith
-
-module _ {D : Type 0} (gives : D → device.Call → device.Answer → D → Type 0) (slot : ℕ) (old : Standing D) (begun : Kept) (known : IsKnown old.core) (begins_so : (c : Shape) (h : ℕ) (m : Memory) → LeadsTo c h m old.core → LeadsTo c h (starts_marking m slot) begun) where
-  -- something is known of the host where it begins
-  pub known_marking : IsKnown begun
-  known_marking = record {
-    shape = known.shape;
-    host = known.host;
-    memory = starts_marking known.memory slot;
-    leads = begins_so known.shape known.host known.memory known.leads;
-    rests = ap (λ (b : Beats). b.heard) (beats_begun known.memory slot (nat_lt slot (length known.memory.learned))) ∙ known.rests;
-    tries = tries_begun known.memory slot (nat_lt slot (length known.memory.learned));
-  }
-
-  -- of a cluster of the same shape
-  pub marking_shape : begun.learner.shape ≡ old.core.learner.shape
-  marking_shape = (begins_so known.shape known.host known.memory known.leads).learner.shape ∙ sym known.leads.learner.shape
-
-  -- what was heard between the beginning and the end is the marking's
-  pub marked : (ended : Standing D) → HasHeard gives (record { core = begun; disks = old.disks }) ended → is_idle ended.core ≡ true → HasMarked gives slot old ended
-  marked ended heard idle = record {
-    made = heard.made;
-    gave = heard.gave;
-    due = λ c h m leads. heard.due c h (starts_marking m slot) (begins_so c h m leads);
-    leads = λ c h m leads. heard.leads c h (starts_marking m slot) (begins_so c h m leads);
-    ended = idle;
-  }
-
--- once it has ended
-module _ {D : Type 0} (gives : D → device.Call → device.Answer → D → Type 0) (slot : ℕ) (old new : Standing D) (known : IsKnown old.core) (idle : is_idle old.core ≡ true) (done : HasMarked gives slot old new) where
-  unlooking : known.memory.looking ≡ None
-  unlooking = (idle_apart known.shape known.host known.memory old.core known.leads idle).1
-
-  abbrev marks_from : Memory
-  marks_from = starts_marking known.memory slot
-
-  abbrev marks_then : Memory
-  marks_then = after_made known.shape known.host marks_from done.made
-
-  leads_then : LeadsTo known.shape known.host marks_then new.core
-  leads_then = done.leads known.shape known.host known.memory known.leads
-
-  marks_own : marks_then ≡ after_answers known.shape known.host marks_from (map answered done.made)
-  marks_own =
-      after_own known.shape known.host marks_from done.made
-      (ap (λ (b : Beats). b.heard) (beats_begun known.memory slot (nat_lt slot (length known.memory.learned))) ∙ known.rests)
-
-  -- something is known of the host
-  pub known_marked : IsKnown new.core
-  known_marked = known_idle known.shape known.host marks_then new.core leads_then done.ended
-
-  -- what it has learned stayed
-  pub marked_prefix : new.core.prefix ≡ old.core.prefix
-  marked_prefix =
-      leads_then.prefix ∙ ap (λ (n : Memory). n.learned) marks_own
-      ∙ marking_learns known.shape known.host known.memory slot (map answered done.made) unlooking ∙ sym known.leads.prefix
-
-  -- and it has said how it ended
-  pub marked_ends : EndsMarking new.core.said
-  marked_ends =
-      let none : marks_then.marking ≡ None = (idle_apart known.shape known.host marks_then new.core leads_then done.ended).0 in
-      subst EndsMarking (sym leads_then.said)
-      (subst (λ (n : Memory). EndsMarking n.said) (sym marks_own)
-      (marking_ends known.shape known.host known.memory slot (map answered done.made) unlooking (subst (λ (n : Memory). n.marking ≡ None) marks_own none)))
-
--- A LOOK
-
-look_quiets : (c : Shape) (m : Memory) → IsQuiet m (starts_look c m)
-look_quiets c m = on_quiet c m m 0 refl refl
-
-idle_tries : (o : Option Doing) → o ≡ None → tries_in o ≤ 255
-idle_tries None none = omega arith
-idle_tries (Some t) none = absurd (cc)
-
-module _ {D : Type 0} (gives : D → device.Call → device.Answer → D → Type 0) (old : Standing D) (begun : Kept) (known : IsKnown old.core) (begins_so : (c : Shape) (h : ℕ) (m : Memory) → LeadsTo c h m old.core → LeadsTo c h (starts_look c m) begun) where
-  -- something is known of the host where it begins
-  pub known_look : IsKnown begun
-  known_look = record {
-    shape = known.shape;
-    host = known.host;
-    memory = starts_look known.shape known.memory;
-    leads = begins_so known.shape known.host known.memory known.leads;
-    rests = ap (λ (b : Beats). b.heard) (look_quiets known.shape known.memory).beats ∙ known.rests;
-    tries = idle_tries (starts_look known.shape known.memory).doing (look_quiets known.shape known.memory).rests;
-  }
-
-  -- of a cluster of the same shape
-  pub look_shape : begun.learner.shape ≡ old.core.learner.shape
-  look_shape = (begins_so known.shape known.host known.memory known.leads).learner.shape ∙ sym known.leads.learner.shape
-
-  -- what was heard between the beginning and the end is the look's
-  pub looked : (ended : Standing D) → HasHeard gives (record { core = begun; disks = old.disks }) ended → is_idle ended.core ≡ true → HasLooked gives old ended
-  looked ended heard idle = record {
-    made = heard.made;
-    gave = heard.gave;
-    due = λ c h m leads. heard.due c h (starts_look c m) (begins_so c h m leads);
-    leads = λ c h m leads. heard.leads c h (starts_look c m) (begins_so c h m leads);
-    ended = idle;
-  }
 
 -- a call that is due while a look is under way writes nothing
 look_reads : (c : Shape) (m : Memory) (o : Option Looking) (k : ℕ) (call : device.Call) → next_look c m o ≡ Some (k, call) → OnlyReads call
@@ -654,37 +555,84 @@ reads_all c h m (x ∷ xs) rest is due =
           (look_hears c h m m.doing (answered x) is.rests is) (subst (λ (k : Memory). AreDue c h k xs) same due.1),
     )
 
--- once it has ended
-module _ {D : Type 0} (gives : D → device.Call → device.Answer → D → Type 0) (old new : Standing D) (known : IsKnown old.core) (idle : is_idle old.core ≡ true) (done : HasLooked gives old new) where
-  abbrev looks_from : Memory
-  looks_from = starts_look known.shape known.memory
+-- A TASK HAS ENDED
 
-  abbrev looks_then : Memory
-  looks_then = after_made known.shape known.host looks_from done.made
+record IsOver (m : Memory) : Type 0 where
+  doing : m.doing ≡ None
+  apart : IsApart m
 
-  looks_lead : LeadsTo known.shape known.host looks_then new.core
-  looks_lead = done.leads known.shape known.host known.memory known.leads
+module _ {D : Type 0} (gives : D → device.Call → device.Answer → D → Type 0) (begins_with : Shape → Memory → Memory) (old new : Standing D) (known : IsKnown old.core) (done : HasCarriedOut gives begins_with old new) where
+  abbrev at_first : Memory
+  at_first = begins_with known.shape known.memory
 
-  unmarking_then : known.memory.marking ≡ None
-  unmarking_then = (idle_apart known.shape known.host known.memory old.core known.leads idle).0
+  abbrev at_end : Memory
+  at_end = after_made known.shape known.host at_first done.made
 
-  beats_none : looks_from.beats.heard ≡ None
-  beats_none = ap (λ (b : Beats). b.heard) (look_quiets known.shape known.memory).beats ∙ known.rests
+  pub leads_then : LeadsTo known.shape known.host at_end new.core
+  leads_then = done.leads known.shape known.host known.memory known.leads
 
   -- something is known of the host
-  pub known_looked : IsKnown new.core
-  known_looked = known_idle known.shape known.host looks_then new.core looks_lead done.ended
+  pub known_then : IsKnown new.core
+  known_then = known_idle known.shape known.host at_end new.core leads_then done.ended
 
-  -- it has said how it ended
-  pub looked_ends : EndsLook new.core.prefix new.core.said
-  looked_ends =
-      let own = after_own known.shape known.host looks_from done.made beats_none in
-      let none : looks_then.looking ≡ None = (idle_apart known.shape known.host looks_then new.core looks_lead done.ended).1 in
-      let ends : EndsLook looks_then.learned looks_then.said =
-      subst (λ (k : Memory). EndsLook k.learned k.said) (sym own)
-      (look_ends known.shape known.host known.memory (map answered done.made) unmarking_then (subst (λ (k : Memory). k.looking ≡ None) own none)) in
-      subst (λ (said : Option HostAnswer). EndsLook new.core.prefix said) (sym looks_lead.said) (subst (λ (learned : List Command). EndsLook learned looks_then.said) (sym looks_lead.prefix) ends)
+  -- it is the same host, of a cluster of the same shape
+  pub same_host : new.core.learner.host ≡ old.core.learner.host
+  same_host = leads_then.learner.is_host ∙ sym known.leads.learner.is_host
 
-  -- and it has written nothing
-  pub looked_reads : AreReads done.made
-  looked_reads = reads_all known.shape known.host looks_from done.made beats_none (look_begun known.shape known.memory unmarking_then) (done.due known.shape known.host known.memory known.leads)
+  pub same_shape : new.core.learner.shape ≡ old.core.learner.shape
+  same_shape = leads_then.learner.shape ∙ sym known.leads.learner.shape
+
+  -- and it says what it says after its own answers
+  said_then : (P : List Command → Option HostAnswer → Type 0) → at_first.beats ≡ known.memory.beats
+      → ((xs : List Answered) → IsOver (after_answers known.shape known.host at_first xs) → P (after_answers known.shape known.host at_first xs).learned (after_answers known.shape known.host at_first xs).said) → P new.core.prefix new.core.said
+  said_then P beats ends =
+      let own = after_own known.shape known.host at_first done.made (ap (λ (b : Beats). b.heard) beats ∙ known.rests) in
+      let over : IsOver at_end = record { doing = idle_memory known.shape known.host at_end new.core leads_then done.ended; apart = idle_apart known.shape known.host at_end new.core leads_then done.ended } in
+      subst (λ (said : Option HostAnswer). P new.core.prefix said) (sym leads_then.said)
+      (subst (λ (learned : List Command). P learned at_end.said) (sym leads_then.prefix)
+      (subst (λ (n : Memory). P n.learned n.said) (sym own) (ends (map answered done.made) (subst IsOver own over))))
+
+module _ {D : Type 0} (gives : D → device.Call → device.Answer → D → Type 0) (old new : Standing D) (known : IsKnown old.core) (idle : is_idle old.core ≡ true) where
+  alone : IsApart known.memory
+  alone = idle_apart known.shape known.host known.memory old.core known.leads idle
+
+  -- the host has said how an operation ended
+  pub operated_ends : (o : Operation) (tries : ℕ) → ReadsBack o → HasOperated gives o tries old new → Ends o new.core.prefix new.core.said
+  operated_ends o tries back done =
+      said_then gives (λ c m. goes_on c m o tries) old new known done (Ends o) (beats-goes_on known.shape known.memory o tries)
+      (λ xs over. operation_ends known.shape known.host known.memory o tries xs back alone over.doing)
+
+  -- or a marking, and what it has learned stayed
+  pub marked_ends : (slot : ℕ) → HasMarked gives slot old new → (new.core.prefix ≡ old.core.prefix) × EndsMarking new.core.said
+  marked_ends slot done =
+      said_then gives (λ c m. starts_marking m slot) old new known done (λ learned said. (learned ≡ old.core.prefix) × EndsMarking said) (marking_begins known.memory slot).beats
+      (λ xs over. (
+        marking_learns known.shape known.host known.memory slot xs alone.1 ∙ sym known.leads.prefix,
+        marking_ends known.shape known.host known.memory slot xs alone.1 over.apart.0,
+      ))
+
+  -- or a look
+  pub looked_ends : HasLooked gives old new → EndsLook new.core.prefix new.core.said
+  looked_ends done =
+      said_then gives (λ c m. starts_look c m) old new known done EndsLook (look_begins known.shape known.memory).beats
+      (λ xs over. look_ends known.shape known.host known.memory xs alone.0 over.apart.1)
+
+  -- which has written nothing
+  pub looked_reads : (done : HasLooked gives old new) → AreReads done.made
+  looked_reads done =
+      reads_all known.shape known.host (starts_look known.shape known.memory) done.made (ap (λ (b : Beats). b.heard) (look_begins known.shape known.memory).beats ∙ known.rests)
+      (look_begun known.shape known.memory alone.0) (done.due known.shape known.host known.memory known.leads)
+
+  pub task_ends : (task : Task) → MayBegin old.core task → HasCarriedOut gives (λ c m. begun_with c m task) old new → EndsTask task new.core.prefix new.core.said
+  task_ends (tasks.Submit command tries) may done = operated_ends (Submitting command) tries may.1 done
+  task_ends (tasks.Recover tries) may done = operated_ends Recovering tries tt done
+  task_ends (tasks.Mark slot) may done = (marked_ends slot done).1
+  task_ends tasks.Look may done = looked_ends done
+
+-- so it has said something
+pub said_some : (task : Task) (learned : List Command) (said : Option HostAnswer) → EndsTask task learned said → is_some said ≡ true
+said_some task learned (Some answer) ends = refl
+said_some (tasks.Submit command tries) learned None ends = absurd ends
+said_some (tasks.Recover tries) learned None ends = absurd ends
+said_some (tasks.Mark slot) learned None ends = absurd ends
+said_some tasks.Look learned None ends = absurd ends

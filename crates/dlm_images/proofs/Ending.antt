@@ -1,5 +1,5 @@
 -- How an operation ends: whatever it hears, it goes on, or has ended with an answer of its own.
-use Rattle.std.proofs.Common.{◌≡◌, ℕ, Bool, true, false, List, [], ◌∷◌, ◌++◌, length, nat_lt, nat_le, ◌≤◌, Option, Some, None, refl, sym, ◌∙◌, ap, subst, arith, if◌then◌else◌}
+use Rattle.std.proofs.Common.{◌≡◌, ℕ, Bool, true, false, List, [], ◌∷◌, ◌++◌, length, nat_lt, nat_le, Option, Some, None, refl, sym, ◌∙◌, ap, subst, if◌then◌else◌}
 use Rattle.std.proofs.lemmas.Slice.Eq.{bytes_eq-Decides}
 use Rattle.std.specs.Option.{option_or}
 use Rattle.paxos_block.specs.declared.ballot.TheConstants.{LAST_BALLOT}
@@ -22,7 +22,7 @@ use Rattle.marks.specs.Status as mark
 use Rattle.looks.specs.Status as look
 use Rattle.host.specs.declared.answer.HostAnswer.TheVariants.{Recovered, Looked, Refused}
 use Rattle.host.proofs.Hosts.{apart, apart-goes_on, apart_heard}
-use Rattle.host.specs.Host.{Memory, Doing, Operation, Submitting, Recovering, goes_on, hears, begins, by_status, takes, after_learning, is_submitted, learns, with_heard, with_floor, tries_again, full_answer, says, setup_of, input_of, Marking, hears_apart, hears_marking, marking_by, marking_with, marking_of, with_marking, starts_marking, Looking, hears_look, look_by, look_of, looking_with, looks_on, starts_look, takes_marked, with_looking}
+use Rattle.host.specs.Host.{Memory, Doing, Operation, Submitting, Recovering, goes_on, hears, begins, by_status, takes, after_learning, is_submitted, learns, with_heard, with_floor, tries_again, full_answer, says, setup_of, input_of, Marking, hears_apart, marking_by, marking_with, marking_of, with_marking, starts_marking, Looking, hears_look, look_by, look_of, looking_with, looks_on, starts_look, takes_marked, with_looking}
 use Rattle.dlm_images.specs.Operations.{Ends, EndsMarking, EndsLook}
 
 -- NO INPUT, NO PROPOSAL

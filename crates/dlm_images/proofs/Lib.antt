@@ -9,7 +9,6 @@ pub mod Images
 pub mod Opening
 pub mod Sets
 pub mod ShortRuns
-pub mod Trying
 pub mod Unfound
 mod Printed
 mod Reading

@@ -9,4 +9,5 @@ pub mod Operations
 pub mod Reading
 pub mod SetFaults
 pub mod Sets
+pub mod Tasks
 pub mod Tries

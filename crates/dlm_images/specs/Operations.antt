@@ -1,6 +1,7 @@
 -- An operation of a host, from answer to answer, and how it ends.
 use Rattle.std.specs.Prelude.{◌≡◌, ◌≤◌, ℕ, true, List, [], ◌∷◌, ◌++◌, length, slice_get, slice_set, Option, Some, None}
 use Rattle.torn_block.specs.declared.layout.TheConstants.{DISKS, SLOTS}
+use Rattle.paxos_block.specs.Places.{image_length}
 use Rattle.disk.specs.Disk.{Call, Answer}
 use Rattle.attempt.specs.Answers.{heard_as}
 use Rattle.attempt.specs.History.{Fits}
@@ -92,32 +93,25 @@ pub record HasHeard {D : Type 0} (gives : D → Call → Answer → D → Type 0
   pub due : (c : Shape) (h : ℕ) (m : Memory) → LeadsTo c h m old.core → AreDue c h m made
   pub leads : (c : Shape) (h : ℕ) (m : Memory) → LeadsTo c h m old.core → LeadsTo c h (after_made c h m made) new.core
 
--- The same, where the host began this operation first, and until the operation ended.
-pub record HasOperated {D : Type 0} (gives : D → Call → Answer → D → Type 0) (operation : Operation) (tries : ℕ) (old new : Standing D) : Type 0 where
+-- The same, where the host began with something first, and until that had ended.
+pub record HasCarriedOut {D : Type 0} (gives : D → Call → Answer → D → Type 0) (begins : Shape → Memory → Memory) (old new : Standing D) : Type 0 where
   pub made : List Made
   pub gave : Gave gives old.disks made new.disks
-  pub due : (c : Shape) (h : ℕ) (m : Memory) → LeadsTo c h m old.core → AreDue c h (goes_on c m operation tries) made
-  pub leads : (c : Shape) (h : ℕ) (m : Memory) → LeadsTo c h m old.core →
-      LeadsTo c h (after_made c h (goes_on c m operation tries) made) new.core
+  pub due : (c : Shape) (h : ℕ) (m : Memory) → LeadsTo c h m old.core → AreDue c h (begins c m) made
+  pub leads : (c : Shape) (h : ℕ) (m : Memory) → LeadsTo c h m old.core → LeadsTo c h (after_made c h (begins c m) made) new.core
   pub ended : is_idle new.core ≡ true
 
--- The same, where it began to mark this slot first, and until the marking ended.
-pub record HasMarked {D : Type 0} (gives : D → Call → Answer → D → Type 0) (slot : ℕ) (old new : Standing D) : Type 0 where
-  pub made : List Made
-  pub gave : Gave gives old.disks made new.disks
-  pub due : (c : Shape) (h : ℕ) (m : Memory) → LeadsTo c h m old.core → AreDue c h (starts_marking m slot) made
-  pub leads : (c : Shape) (h : ℕ) (m : Memory) → LeadsTo c h m old.core →
-      LeadsTo c h (after_made c h (starts_marking m slot) made) new.core
-  pub ended : is_idle new.core ≡ true
+-- with this operation
+abbrev pub HasOperated : {D : Type 0} → (D → Call → Answer → D → Type 0) → Operation → (tries : ℕ) → (old new : Standing D) → Type 0
+HasOperated gives operation tries old new = HasCarriedOut gives (λ c m. goes_on c m operation tries) old new
 
--- The same, where it began to look first, and until the look ended.
-pub record HasLooked {D : Type 0} (gives : D → Call → Answer → D → Type 0) (old new : Standing D) : Type 0 where
-  pub made : List Made
-  pub gave : Gave gives old.disks made new.disks
-  pub due : (c : Shape) (h : ℕ) (m : Memory) → LeadsTo c h m old.core → AreDue c h (starts_look c m) made
-  pub leads : (c : Shape) (h : ℕ) (m : Memory) → LeadsTo c h m old.core →
-      LeadsTo c h (after_made c h (starts_look c m) made) new.core
-  pub ended : is_idle new.core ≡ true
+-- with a marking of this slot
+abbrev pub HasMarked : {D : Type 0} → (D → Call → Answer → D → Type 0) → (slot : ℕ) → (old new : Standing D) → Type 0
+HasMarked gives slot old new = HasCarriedOut gives (λ c m. starts_marking m slot) old new
+
+-- with a look
+abbrev pub HasLooked : {D : Type 0} → (D → Call → Answer → D → Type 0) → (old new : Standing D) → Type 0
+HasLooked gives old new = HasCarriedOut gives (λ c m. starts_look c m) old new
 
 -- HOW IT ENDS
 
@@ -164,7 +158,20 @@ EndsLook learned (Some (Beaten host)) = ⊥
 EndsLook learned (Some (Marked count)) = ⊥
 EndsLook learned (Some (Refused refusal)) = Unit {0}
 
+-- BETWEEN OPERATIONS
+
 -- no more disks and slots than there may be
 pub record IsSmall (c : Shape) : Type 0 where
   pub disks : c.disks ≤ DISKS
   pub slots : c.slots ≤ SLOTS
+
+-- Something is known of the host, and no operation is under way. It has a disk at least, and each has room for an image; and there is
+-- room in the log for what it has learned.
+pub record Rests {D : Type 0} (size : D → ℕ) (s : Standing D) : Type 0 where
+  pub known : IsKnown s.core
+  pub idle : is_idle s.core ≡ true
+  pub small : IsSmall s.core.learner.shape
+  pub some : 1 ≤ s.core.learner.shape.disks
+  pub as_many : length s.disks ≡ s.core.learner.shape.disks
+  pub room : length s.core.prefix ≤ s.core.learner.shape.slots
+  pub large : (k : ℕ) (d : D) → slice_get s.disks k ≡ Some d → image_length s.core.learner.shape.slots ≤ size d

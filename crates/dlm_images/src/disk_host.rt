@@ -1,4 +1,4 @@
-ghost use Rattle.std.specs.Prelude.{◌≡◌, ◌≤◌, ◌+◌, ◌-◌, ◌*◌, ℕ, true, Some, IfOk, IfErr, length, slice_get};
+ghost use Rattle.std.specs.Prelude.{◌≡◌, ◌≤◌, ◌+◌, ◌-◌, ◌*◌, ℕ, true, Some, IfOk, IfErr, is_some, length, slice_get};
 ghost use Rattle.paxos_block.specs.Places.{image_length};
 ghost use Rattle.lock_command.specs.Command.{is_submittable, spelling};
 ghost use Rattle.lock_command.specs.Reading.{decoded};
@@ -6,9 +6,11 @@ ghost use Rattle.lock_table.specs.Apply.{table_after};
 ghost use Rattle.lock_table.specs.Picture.{IsPictureOf};
 ghost use Rattle.host.specs.Host.{Submitting, Recovering, fresh};
 ghost use Rattle.host.specs.Kept.{Kept, LeadsTo};
-ghost use Rattle.dlm_images.specs.Operations.{HasOperated, HasMarked, HasLooked, AreReads, IsAcknowledged, Ends, EndsMarking, EndsLook};
+ghost use Rattle.dlm_images.specs.Operations.{HasCarriedOut, HasOperated, HasMarked, HasLooked, AreReads, IsAcknowledged};
+ghost use Rattle.dlm_images.specs.Tasks.{MayBegin, EndsTask, StaysWithin, begun_with};
 
 use crate::operation::drive;
+use crate::task::Task;
 use disk::{Disk, NoMemory};
 use host::{Config, HostAnswer, HostCore, Refusal};
 use lock_command::{Command, HostNumber};
@@ -33,24 +35,13 @@ pub struct DiskHost<D: Disk> {
 }
 
 impl<D: Disk> Model for DiskHost<D> {
-    ghost use Rattle.std.specs.Prelude.{◌≡◌, ◌≤◌, ℕ, true, Some, length, slice_get};
-    ghost use Rattle.paxos_block.specs.Places.{image_length};
-    ghost use Rattle.host.specs.Kept.{is_idle};
-    ghost use Rattle.dlm_images.specs.Operations.{IsKnown, IsSmall, Standing};
+    ghost use Rattle.dlm_images.specs.Operations.{Rests, Standing};
 
     ghost Value = { Standing D };
 
     ghost view = { λ h. record { core = h.core; disks = h.disks.items } };
 
-    ghost invariant = { λ h. record {
-      known : IsKnown h.core;
-      idle : is_idle h.core ≡ true;
-      small : IsSmall h.core.learner.shape;
-      some : 1 ≤ h.core.learner.shape.disks;
-      as_many : length h.disks.items ≡ h.core.learner.shape.disks;
-      room : length h.core.prefix ≤ h.core.learner.shape.slots;
-      large : (k : ℕ) (d : D) → slice_get h.disks.items k ≡ Some d → image_length h.core.learner.shape.slots ≤ (D.device d).size;
-    } };
+    ghost invariant = { λ h. Rests (λ d. (D.device d).size) (record { core = h.core; disks = h.disks.items }) };
 }
 
 impl<D: Disk> DiskHost<D> {
@@ -111,6 +102,7 @@ impl<D: Disk> DiskHost<D> {
     }
 
     /// Puts a command of this host, which a client may ask for, into the log. Up to `tries` attempts may be outrun, the last of which ends the submission.
+    #[tactic(auto, using(crate::proofs::Ending::reads_back))]
     pub fn submit(&mut self, command: Command, tries: u8) -> Result<Acknowledgement, Refusal>
         requires host { command.host ≡ self.old.core.learner.host }
         requires asked { is_submittable command ≡ true }
@@ -125,9 +117,11 @@ impl<D: Disk> DiskHost<D> {
     {
         // Called for its contract only: the command's numbers are in their ranges.
         let _spelled = command.encode();
-        self.core.submit(command, tries);
-        drive(&mut self.core, &mut self.disks);
-        acknowledged(&self.core, &command)
+        match self.carry_out(Task::Submit { command, tries }) {
+            HostAnswer::Ack { slot, reply } => Ok(Acknowledgement { slot, reply }),
+            HostAnswer::Refused(refusal) => Err(refusal),
+            _ => unreachable!(),
+        }
     }
 
     /// Marks a slot that this host has learned, so that others learn it in one reading, and tells on how many disks its block is
@@ -139,9 +133,11 @@ impl<D: Disk> DiskHost<D> {
         ensures counted { IfOk result (λ count. self.new.core.said ≡ Some (HostAnswer.Marked count)) }
         ensures refused { IfErr result (λ refusal. self.new.core.said ≡ Some (HostAnswer.Refused refusal)) }
     {
-        self.core.mark(slot);
-        drive(&mut self.core, &mut self.disks);
-        marked(&self.core)
+        match self.carry_out(Task::Mark { slot }) {
+            HostAnswer::Marked { count } => Ok(count),
+            HostAnswer::Refused(refusal) => Err(refusal),
+            _ => unreachable!(),
+        }
     }
 
     /// Learns all that is in the log, and tells how much that is. Up to `tries` attempts may be outrun, the last of which ends
@@ -157,9 +153,11 @@ impl<D: Disk> DiskHost<D> {
         ensures told { IfOk result (λ count. self.new.core.said ≡ Some (HostAnswer.Recovered count)) }
         ensures refused { IfErr result (λ refusal. self.new.core.said ≡ Some (HostAnswer.Refused refusal)) }
     {
-        self.core.recover(tries);
-        drive(&mut self.core, &mut self.disks);
-        recovered(&self.core)
+        match self.carry_out(Task::Recover { tries }) {
+            HostAnswer::Recovered { length } => Ok(length),
+            HostAnswer::Refused(refusal) => Err(refusal),
+            _ => unreachable!(),
+        }
     }
 
     /// Learns the commands that marks tell, up to the first slot of which none does, and tells how many are learned then. It syncs and
@@ -176,63 +174,35 @@ impl<D: Disk> DiskHost<D> {
         ensures told { IfOk result (λ count. self.new.core.said ≡ Some (HostAnswer.Looked count)) }
         ensures refused { IfErr result (λ refusal. self.new.core.said ≡ Some (HostAnswer.Refused refusal)) }
     {
-        self.core.look();
+        match self.carry_out(Task::Look) {
+            HostAnswer::Looked { length } => Ok(length),
+            HostAnswer::Refused(refusal) => Err(refusal),
+            _ => unreachable!(),
+        }
+    }
+
+    /// Carries a task out, and tells how it ended.
+    fn carry_out(&mut self, task: Task) -> HostAnswer
+        requires { MayBegin self.old.core task }
+        ensures done { HasCarriedOut D.gives (λ c m. begun_with c m task) self.old self.new }
+        ensures same { self.new.core.learner.host ≡ self.old.core.learner.host }
+        ensures ends { EndsTask task self.new.core.prefix (Some result) }
+        ensures said { self.new.core.said ≡ Some result }
+        ensures within { StaysWithin D.gives task self.old self.new }
+    {
+        task.begin(&mut self.core);
         drive(&mut self.core, &mut self.disks);
-        looked(&self.core)
+        answered(&self.core)
     }
 }
 
-/// How a submission of this command has ended.
-fn acknowledged(core: &HostCore, command: &Command) -> Result<Acknowledgement, Refusal>
-    requires { Ends (Submitting command.now) core.now.prefix core.now.said }
-    ensures acknowledged { IfOk result (λ done. IsAcknowledged command.now done.slot done.reply core.now.prefix) }
-    ensures told { IfOk result (λ done. core.now.said ≡ Some (HostAnswer.Ack done.slot done.reply)) }
-    ensures refused { IfErr result (λ refusal. core.now.said ≡ Some (HostAnswer.Refused refusal)) }
+/// What the host has said.
+fn answered(core: &HostCore) -> HostAnswer
+    requires { is_some core.now.said ≡ true }
+    ensures { core.now.said ≡ Some result }
 {
     match core.answer() {
-        Some(HostAnswer::Ack { slot, reply }) => Ok(Acknowledgement { slot, reply }),
-        Some(HostAnswer::Refused(refusal)) => Err(refusal),
-        _ => unreachable!(),
-    }
-}
-
-/// How a recovery has ended.
-fn recovered(core: &HostCore) -> Result<u16, Refusal>
-    requires { Ends Recovering core.now.prefix core.now.said }
-    ensures learned { IfOk result (λ count. count ≡ length core.now.prefix) }
-    ensures told { IfOk result (λ count. core.now.said ≡ Some (HostAnswer.Recovered count)) }
-    ensures refused { IfErr result (λ refusal. core.now.said ≡ Some (HostAnswer.Refused refusal)) }
-{
-    match core.answer() {
-        Some(HostAnswer::Recovered { length }) => Ok(length),
-        Some(HostAnswer::Refused(refusal)) => Err(refusal),
-        _ => unreachable!(),
-    }
-}
-
-/// How a look has ended.
-fn looked(core: &HostCore) -> Result<u16, Refusal>
-    requires { EndsLook core.now.prefix core.now.said }
-    ensures learned { IfOk result (λ count. count ≡ length core.now.prefix) }
-    ensures told { IfOk result (λ count. core.now.said ≡ Some (HostAnswer.Looked count)) }
-    ensures refused { IfErr result (λ refusal. core.now.said ≡ Some (HostAnswer.Refused refusal)) }
-{
-    match core.answer() {
-        Some(HostAnswer::Looked { length }) => Ok(length),
-        Some(HostAnswer::Refused(refusal)) => Err(refusal),
-        _ => unreachable!(),
-    }
-}
-
-/// How a marking has ended.
-fn marked(core: &HostCore) -> Result<u8, Refusal>
-    requires { EndsMarking core.now.said }
-    ensures counted { IfOk result (λ count. core.now.said ≡ Some (HostAnswer.Marked count)) }
-    ensures refused { IfErr result (λ refusal. core.now.said ≡ Some (HostAnswer.Refused refusal)) }
-{
-    match core.answer() {
-        Some(HostAnswer::Marked { count }) => Ok(count),
-        Some(HostAnswer::Refused(refusal)) => Err(refusal),
-        _ => unreachable!(),
+        Some(answer) => answer,
+        None => unreachable!(),
     }
 }
