@@ -17,6 +17,5 @@ mod state;
 pub use by_printed_order::ByPrintedOrder;
 pub use index::Index;
 pub use keys::SpelledName;
-pub use narrowing::{lower, passed_of_three};
 pub use printed::{GrantedGroup, has_locks};
 pub use record::{LOCKS, LockRecord};
