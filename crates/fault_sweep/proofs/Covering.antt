@@ -20,7 +20,6 @@ use Rattle.world_safety.specs.Tracks.{Counts}
 use Rattle.simulator.specs.declared.answer.Answer.{Answer}
 use Rattle.simulator.specs.declared.simulated_cluster.Said.{Said}
 use Rattle.simulator.specs.Answers.{line_of, IsPicturedIn}
-use Rattle.simulator.specs.Events.{lines_of}
 use Rattle.fault_sweep.specs.Judging.{AllGoBy}
 use Rattle.simulator.specs.OneLog.{IsOneLog}
 use Rattle.simulator.specs.Past.{Past, world_of, answers_of}

@@ -1,5 +1,5 @@
 -- How a replay goes on: the events that happen, what is said with each, and whether a host has said that it has recovered.
-use Rattle.std.specs.Prelude.{◌≡◌, ◌<◌, ◌≤◌, ◌+◌, ◌-◌, ◌++◌, ℕ, Bool, List, [], ◌∷◌, length, map, All, Contains, Option, Some, IfSome}
+use Rattle.std.specs.Prelude.{◌≡◌, ◌<◌, ◌≤◌, ◌+◌, ◌-◌, ◌++◌, ℕ, Bool, List, length, map, All, Contains, Option, Some, IfSome}
 use Rattle.std.specs.List.{list_any}
 use Rattle.lock_command.specs.declared.command.Command.{Command}
 use Rattle.host.specs.declared.answer.HostAnswer.TheVariants.{Recovered}

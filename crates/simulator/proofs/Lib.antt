@@ -2,11 +2,11 @@ pub mod Calls
 pub mod Changes
 pub mod Entries
 pub mod Events
-pub mod Interrupted
 pub mod Learning
 pub mod Lines
 pub mod Listing
 pub mod Moved
+pub mod NextCall
 pub mod OneMore
 pub mod Opened
 pub mod Owed

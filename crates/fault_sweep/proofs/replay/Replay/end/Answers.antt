@@ -3,46 +3,42 @@ use Rattle.torn_block.specs.declared.layout.TheConstants.{HOSTS}
 use Rattle.lock_command.specs.declared.command.Command.{Command}
 use Rattle.fault_sweep.specs.Judging.{AllGoBy}
 use Rattle.simulator.specs.Past.{Past}
-use Rattle.fault_sweep.specs.Replayed.{later, Lists}
-use Rattle.fault_sweep.specs.Sweeping.{recovery, stops}
+use Rattle.fault_sweep.specs.Replayed.{later, IsOf, Lists}
+use Rattle.fault_sweep.specs.Sweeping.{recovered_behind, recovery, stops}
 use Rattle.fault_sweep.proofs.Covering.{ended_right, has_some}
 use Rattle.fault_sweep.proofs.Replaying.{both_recovered}
 use Rattle.fault_sweep.proofs.replay.Replay.end.Goals as goal
-use Rattle.fault_sweep.proofs.replay.Replay.end.Goals.{then-len, else-len}
+use Rattle.fault_sweep.proofs.replay.Replay.end.Goals.{After-one_if-2, then-len, else-len}
+
+-- how many of the two answered
+recovered : (c : goal.After-one_if-2) → (p : Past) → IsOf p c.args.self.now → c.one_if.result + c.one_if-2.result ≡ recovered_behind p.opening p.events
+recovered c p is =
+    let p1 : Past = later p stops in
+    let on = c.in_ok-stop_all.ensures.happened p is in
+    ap₂ (λ (m n : ℕ). m + n) c.one_if.ensures.counted c.one_if-2.ensures.counted
+    ∙ both_recovered p c.is_some.result c.is_some-2.result (c.is_some.ensures ∙ c.in_ok-first.ensures.learned p1 on)
+    (c.is_some-2.ensures ∙ c.in_ok-last.ensures.learned (later p1 (recovery p.opening.shape 0)) (c.in_ok-first.ensures.happened p1 on))
+
+-- the cluster is as large as before
+shape : (c : goal.After-one_if-2) → c.recover-2.new.self.cluster.shape ≡ c.args.self.now.cluster.shape
+shape c =
+    let was = c.place-was.ensures in
+    let p1 : Past = later was.past stops in
+    let p2 : Past = later p1 (recovery p1.opening.shape 0) in
+    let now = c.in_ok-last.ensures.happened p2 (c.in_ok-first.ensures.happened p1 (c.in_ok-stop_all.ensures.happened was.past was.is)) in
+    now.own ∙ sym was.is.own
 
 pub returns-in-Some-Some-clause-recovered : goal.returns-in-Some-Some-clause-recovered
-returns-in-Some-Some-clause-recovered c =
-    λ p is.
-    let p1 : Past = later p stops in
-    let on = c.in_ok-stop_all.ensures.happened p is in
-    ap₂ (λ (m n : ℕ). m + n) c.one_if.ensures.counted c.one_if-2.ensures.counted
-    ∙ both_recovered p c.is_some.result c.is_some-2.result (c.is_some.ensures ∙ c.in_ok-first.ensures.learned p1 on)
-    (c.is_some-2.ensures ∙ c.in_ok-last.ensures.learned (later p1 (recovery p.opening.shape 0)) (c.in_ok-first.ensures.happened p1 on))
+returns-in-Some-Some-clause-recovered c = recovered (goal.at.returns-in-Some-Some-clause-recovered c).After-one_if-2
 
 pub returns-in-Some-Some-clause-shape : goal.returns-in-Some-Some-clause-shape
-returns-in-Some-Some-clause-shape c =
-    let was = c.place-was.ensures in
-    let p1 : Past = later was.past stops in
-    let p2 : Past = later p1 (recovery p1.opening.shape 0) in
-    let now = c.in_ok-last.ensures.happened p2 (c.in_ok-first.ensures.happened p1 (c.in_ok-stop_all.ensures.happened was.past was.is)) in
-    now.own ∙ sym was.is.own
+returns-in-Some-Some-clause-shape c = shape (goal.at.returns-in-Some-Some-clause-shape c).After-one_if-2
 
 pub returns-clause-recovered : goal.returns-clause-recovered
-returns-clause-recovered c =
-    λ p is.
-    let p1 : Past = later p stops in
-    let on = c.in_ok-stop_all.ensures.happened p is in
-    ap₂ (λ (m n : ℕ). m + n) c.one_if.ensures.counted c.one_if-2.ensures.counted
-    ∙ both_recovered p c.is_some.result c.is_some-2.result (c.is_some.ensures ∙ c.in_ok-first.ensures.learned p1 on)
-    (c.is_some-2.ensures ∙ c.in_ok-last.ensures.learned (later p1 (recovery p.opening.shape 0)) (c.in_ok-first.ensures.happened p1 on))
+returns-clause-recovered c = recovered (goal.at.returns-clause-recovered c).After-one_if-2
 
 pub returns-clause-shape : goal.returns-clause-shape
-returns-clause-shape c =
-    let was = c.place-was.ensures in
-    let p1 : Past = later was.past stops in
-    let p2 : Past = later p1 (recovery p1.opening.shape 0) in
-    let now = c.in_ok-last.ensures.happened p2 (c.in_ok-first.ensures.happened p1 (c.in_ok-stop_all.ensures.happened was.past was.is)) in
-    now.own ∙ sym was.is.own
+returns-clause-shape c = shape (goal.at.returns-clause-shape c).After-one_if-2
 
 pub returns-in-Some-Some-clause-right : goal.returns-in-Some-Some-clause-right
 returns-in-Some-Some-clause-right c =

@@ -1,12 +1,12 @@
 use Rattle.std.specs.Prelude.{IsSome, None, slice_index_or}
-use Rattle.std.proofs.Common.{ℕ, ◌≡◌, ◌+◌, ◌-◌, List, [], ◌∷◌, ◌++◌, refl, sym, ap, subst, arith}
+use Rattle.std.proofs.Common.{ℕ, ◌≡◌, ◌+◌, ◌-◌, List, [], ◌∷◌, ◌++◌, refl, sym, subst, arith}
 use Rattle.world.specs.Opening.{run_of}
 use Rattle.simulator.specs.declared.answer.Answer.{Answer}
 use Rattle.simulator.specs.Answers.{AddsAnswer}
 use Rattle.simulator.specs.Events.{event_of}
 use Rattle.simulator.specs.Kept.{Brings}
 use Rattle.simulator.proofs.Learning.{only_learning}
-use Rattle.fault_sweep.specs.Replayed.{Played, IsOf, GoesOn}
+use Rattle.fault_sweep.specs.Replayed.{IsOf, GoesOn}
 use Rattle.fault_sweep.proofs.Following.{once, says, last_runs, goes_quietly, goes_spoken, still_played}
 use Rattle.fault_sweep.proofs.replay.Replay.happen.Goals as goal
 use Rattle.fault_sweep.proofs.replay.Replay.happen.Goals.{In-Some}

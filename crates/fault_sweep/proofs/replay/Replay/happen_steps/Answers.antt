@@ -1,5 +1,5 @@
 use Rattle.std.specs.Prelude.{IsSome, None, replicate, slice_index_or}
-use Rattle.std.proofs.Common.{◌+◌, ◌-◌, ◌++◌, List, refl, sym, subst}
+use Rattle.std.proofs.Common.{◌+◌, ◌-◌, List, refl, sym, subst}
 use Rattle.std.proofs.lemmas.List.{length-replicate}
 use Rattle.world.specs.Happens.{Step}
 use Rattle.simulator.specs.declared.answer.Answer.{Answer}

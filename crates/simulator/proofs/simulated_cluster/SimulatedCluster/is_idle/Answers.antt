@@ -1,6 +1,6 @@
 use Rattle.std.proofs.Common.{◌≡◌, Bool, true, false, not, None, refl, sym, ◌∙◌, subst}
 use Rattle.simulator.specs.Kept.{TellsNext}
-use Rattle.simulator.proofs.Interrupted.{tells_none}
+use Rattle.simulator.proofs.NextCall.{tells_none}
 use Rattle.simulator.proofs.Owed as owed
 use Rattle.simulator.proofs.Owed.{kept_in}
 use Rattle.simulator.proofs.simulated_cluster.SimulatedCluster.is_idle.Goals as goal

@@ -4,7 +4,7 @@ use Rattle.disk.specs.declared.fault.DiskFault.{DiskFault}
 use Rattle.phases.specs.Calls.{device_call_of}
 use Rattle.simulator.specs.Calls.{is_write}
 use Rattle.simulator.specs.Kept.{TellsNext}
-use Rattle.simulator.proofs.Interrupted.{tells_none, tells_next}
+use Rattle.simulator.proofs.NextCall.{tells_none, tells_next}
 use Rattle.simulator.proofs.Owed as owed
 use Rattle.simulator.proofs.Owed.{kept_in}
 use Rattle.simulator.proofs.simulated_cluster.SimulatedCluster.next_call.Goals as goal
