@@ -1,5 +1,5 @@
 -- What a beat keeps, and when that is what follows from a list of answers.
-use Rattle.std.specs.Prelude.{◌≡◌, ◌<◌, ℕ, List, take, slice_index_or, Option, None}
+use Rattle.std.specs.Prelude.{◌≡◌, ◌<◌, ◌≤◌, ℕ, List, length, take, slice_index_or, Option, None}
 use Rattle.disk.specs.Disk as device
 use Rattle.paxos_block.specs.Places.{place_of, BeatOf, area_place}
 use Rattle.beats.specs.Answers.{Answered, Answers, on, reading_of}
@@ -41,6 +41,7 @@ pub record IsSameBeat (old new : Notes) : Type 0 where
 -- what is kept follows from these answers
 pub record Follows (f : Answers) (n : Notes) : Type 0 where
   pub round : rounds.Follows (duty (setup_of n)) f n.round
+  pub room : n.disks ≤ length n.readings
   pub readings : (e : ℕ) → e < n.disks → slice_index_or n.readings e None ≡ reading_of (f e)
 
 -- The answers lead to this: they are a history of the beat, and what is kept follows from them.

@@ -8,9 +8,10 @@ ghost use Rattle.paxos_block.specs.Places.{area_place};
 ghost use Rattle.attempt.specs.History.{Fits};
 ghost use Rattle.phases.specs.Calls as calls;
 ghost use Rattle.phases.specs.Calls.{call_of_need, IsWithin};
-ghost use Rattle.beats.specs.Answers.{Answered, Answers, heard_as, more, on};
-ghost use Rattle.beats.specs.Kept.{Follows, IsSameBeat, LeadsTo, answer_of, call_due, end_of, end_of_status};
+ghost use Rattle.beats.specs.Answers.{Answered, heard_as, on};
+ghost use Rattle.beats.specs.Kept.{IsSameBeat, LeadsTo, answer_of, call_due, end_of, end_of_status};
 ghost use Rattle.beats.specs.Status.{Setup, status, next_call};
+ghost use Rattle.rounds.specs.Kept.{end_by};
 
 use crate::end::End;
 use heartbeat::{Reading, decode_area, encode_beat};
@@ -100,8 +101,8 @@ impl Beat {
         requires going { self.old.end ≡ None }
         requires stage { self.old.round.stage ≡ Stage.Reading }
         ensures same { IsSameBeat self.old self.new }
-        ensures follows { (f : Answers) → Follows f self.old →
-            Follows (more f self.old.disk (heard_as (device.Told area.now))) self.new }
+        ensures leads { (s : Setup) (answers : List Answered) → LeadsTo s answers self.old →
+            LeadsTo s (answers ++ record { disk = self.old.disk; heard = heard_as (device.Told area.now) } ∷ []) self.new }
     {
         match decode_area(area) {
             Ok(counters) => {
@@ -120,10 +121,7 @@ impl Beat {
             option_map (end_of self.now) result ≡ end_of_status (status s (on heard)) }
         ensures told { result ≡ self.now.end }
     {
-        match self.round.end? {
-            rounds::End::Over { .. } => Some(End::Beaten),
-            rounds::End::NoMajority => Some(End::NoMajority),
-        }
+        ended(self.round.end)
     }
 
     /// What was read on each disk. None where its heartbeat area was not read soundly.
@@ -131,6 +129,16 @@ impl Beat {
         ensures { result ≡ self.now.readings }
     {
         self.readings
+    }
+}
+
+// The end of a round, of a beat's.
+fn ended(end: Option<rounds::End>) -> Option<End>
+    ensures { result ≡ option_map (end_by (λ held. End.Beaten) End.NoMajority) end }
+{
+    match end? {
+        rounds::End::Over { .. } => Some(End::Beaten),
+        rounds::End::NoMajority => Some(End::NoMajority),
     }
 }
 

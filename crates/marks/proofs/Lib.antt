@@ -1,2 +1,2 @@
+pub mod Going
 pub mod Histories
-pub mod Marking

@@ -4,13 +4,13 @@ ghost use Rattle.torn_block.specs.declared.layout.TheConstants.{HOSTS, DISKS, RO
 ghost use Rattle.torn_block.specs.Layout.{cluster_version};
 ghost use Rattle.paxos_block.specs.Places.{row_place};
 ghost use Rattle.paxos_block.specs.Row.{decoded_row};
-ghost use Rattle.attempt.specs.Answers as answers;
-ghost use Rattle.attempt.specs.Answers.{Answered, Answers, more, on};
+ghost use Rattle.attempt.specs.Answers.{Answered, Told, on};
 ghost use Rattle.attempt.specs.History.{Fits};
 ghost use Rattle.phases.specs.Calls.{call_of_need, heard_of, IsWithin};
 ghost use Rattle.phases.specs.Moves.{ReadsAs};
-ghost use Rattle.marks.specs.Kept.{Follows, IsSameMarking, LeadsTo, answer_of, call_due, end_of, end_of_status};
+ghost use Rattle.marks.specs.Kept.{IsSameMarking, LeadsTo, answer_of, call_due, end_of, end_of_status};
 ghost use Rattle.marks.specs.Status.{Setup, is_value, status, next_call};
+ghost use Rattle.rounds.specs.Kept.{end_by};
 
 use crate::end::End;
 use paxos_block::{PBlock, Row, Value, block_place, encode, read_row, row_place};
@@ -101,8 +101,8 @@ impl Marking {
         requires going { self.old.end ≡ None }
         requires stage { self.old.round.stage ≡ Stage.Reading }
         ensures same { IsSameMarking self.old self.new }
-        ensures follows { (f : Answers) → Follows f self.old →
-            Follows (more f self.old.disk (answers.Told (decoded_row bytes.now))) self.new }
+        ensures leads { (s : Setup) (answers : List Answered) → LeadsTo s answers self.old →
+            LeadsTo s (answers ++ record { disk = self.old.disk; heard = Told (decoded_row bytes.now) } ∷ []) self.new }
     {
         let mut row = Row::blank();
         match read_row::<ClusterLayout>(&mut row, bytes) {
@@ -117,8 +117,8 @@ impl Marking {
         requires stage { self.old.round.stage ≡ Stage.Reading }
         requires row { (bytes : List ℕ) × ReadsAs cluster_version (λ value. value) bytes row.now }
         ensures same { IsSameMarking self.old self.new }
-        ensures follows { (f : Answers) (bytes : List ℕ) → ReadsAs cluster_version (λ value. value) bytes row.now → Follows f self.old →
-            Follows (more f self.old.disk (answers.Told (decoded_row bytes))) self.new }
+        ensures leads { (s : Setup) (answers : List Answered) (bytes : List ℕ) → ReadsAs cluster_version (λ value. value) bytes row.now → LeadsTo s answers self.old →
+            LeadsTo s (answers ++ record { disk = self.old.disk; heard = Told (decoded_row bytes) } ∷ []) self.new }
     {
         let cell = row.cell(self.host);
         if !cell.says.mark && holds(&cell.says, &self.value) {
@@ -139,10 +139,17 @@ impl Marking {
             option_map end_of result ≡ end_of_status (status s (on heard)) }
         ensures told { result ≡ self.now.end }
     {
-        match self.round.end? {
-            rounds::End::Over { held } => Some(End::Marked { count: held }),
-            rounds::End::NoMajority => Some(End::NoMajority),
-        }
+        ended(self.round.end)
+    }
+}
+
+// The end of a round, of a marking's.
+fn ended(end: Option<rounds::End>) -> Option<End>
+    ensures { result ≡ option_map (end_by End.Marked End.NoMajority) end }
+{
+    match end? {
+        rounds::End::Over { held } => Some(End::Marked { count: held }),
+        rounds::End::NoMajority => Some(End::NoMajority),
     }
 }
 

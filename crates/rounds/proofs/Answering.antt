@@ -3,6 +3,7 @@ use Rattle.std.proofs.Common.{ℕ, ◌+◌, ◌<◌, ◌≤◌, ◌≡◌, Bool,
 use Rattle.std.specs.Prelude.{◌&&◌, ◌||◌, nat_le, nat_lt, option_map, if◌then◌else◌}
 use Rattle.std.proofs.lemmas.Bool.{leb-true, leb-false, or_right}
 use Rattle.disk.specs.Disk as device
+use Rattle.disk.specs.declared.boot.Boot.{Boot}
 use Rattle.torn_block.specs.declared.layout.TheConstants.{LAST_SEQUENCE}
 use Rattle.torn_block.specs.declared.block.Block128.{Block128}
 use Rattle.torn_block.specs.declared.write_steps.WriteCall.{WriteCall}
@@ -13,14 +14,14 @@ use Rattle.torn_block.specs.Plan.{Plan, told_number, plan_by, need_at, next_afte
 use Rattle.torn_block.specs.Stage.{Write128, next_call as call_behind, call_of}
 use Rattle.torn_block.proofs.PlanLaws.{plan_calls}
 use Rattle.paxos_block.proofs.VoteLemmas.{unspent, spent}
-use Rattle.attempt.specs.Heard.{Heard, Booted, Done, Told, Fault, Answers, more, is_bad, told, heard_by}
+use Rattle.attempt.specs.Heard.{Heard, Booted, Done, Told, Fault, Answers, more, is_bad, told, heard_by, Fits}
 use Rattle.attempt.specs.NextCall.{with_disk}
 use Rattle.phases.specs.Calls.{device_answer}
 use Rattle.phases.specs.Steps.{made, write_due}
 use Rattle.phases.specs.declared.heard.Heard as code_heard
 use Rattle.phases.specs.declared.heard.Heard.TheVariants as answer
 use Rattle.rounds.specs.Status.{Duty, Status, Due, Ended, status, read_in, write_on, call_on, next_in, is_left, is_held, waits}
-use Rattle.rounds.specs.Kept.{IsToWrite, IsWriting, IsAt, IsVisiting, IsPassed, Follows, Stands, FitsStage, at_start, goes_on, drops, passes, begins, writes_on, succeeds, hears, call_at, call_due, end_of_status, end_by}
+use Rattle.rounds.specs.Kept.{IsToWrite, IsWriting, IsAt, IsVisiting, IsPassed, Follows, Stands, at_start, goes_on, drops, passes, begins, writes_on, succeeds, hears, call_at, call_due, end_of_status, end_by}
 use Rattle.rounds.specs.declared.end.End as code_end
 use Rattle.rounds.specs.declared.end.End.TheVariants as end
 use Rattle.rounds.specs.declared.round.Round.{Round}
@@ -47,6 +48,16 @@ need_same p d PutBody = refl
 need_same p d SyncBody = refl
 need_same p d OpenGate = refl
 need_same p d SyncOpened = refl
+
+-- no call of a write is an attach
+no_boot : (A : Type 0) (place boot number : ℕ) (p : Plan) (due : Option WriteCall) → Fits {A = A} (write_due place boot p due) (Booted number) → ⊥
+no_boot A place boot number p None fits = fits
+no_boot A place boot number p (Some CloseGate) fits = fits
+no_boot A place boot number p (Some SyncClosed) fits = fits
+no_boot A place boot number p (Some PutBody) fits = fits
+no_boot A place boot number p (Some SyncBody) fits = fits
+no_boot A place boot number p (Some OpenGate) fits = fits
+no_boot A place boot number p (Some SyncOpened) fits = fits
 
 module _ {A : Type 0} (w : Duty A) where
   -- a round that has heard nothing
@@ -77,7 +88,7 @@ module _ {A : Type 0} (w : Duty A) where
         record { as_many = disks ∙ is.as_many; stands = subst (Stands w (more f n.disk x) new) (sym none) (stays w f n v x new disk lost held here) }
 
     -- the disk was attached
-    attaches : (boot : _) → n.stage ≡ stage.Attaching → Follows w (more f n.disk (Booted boot.number)) (record n { boot = boot; stage = stage.Syncing })
+    attaches : (boot : Boot) → n.stage ≡ stage.Attaching → Follows w (more f n.disk (Booted boot.number)) (record n { boot = boot; stage = stage.Syncing })
     attaches boot st = still (Booted boot.number) (record n { boot = boot; stage = stage.Syncing }) going refl refl refl refl (ap (λ (a : List (Heard A)). a ++ Booted boot.number ∷ []) (at stage.Attaching st))
 
     -- it was synced
@@ -191,20 +202,20 @@ module _ {A : Type 0} (w : Duty A) where
 
     -- ANY OTHER ANSWER
 
-    succeeded : (q : Stage) → n.stage ≡ q → FitsStage q answer.Done → Follows w (more f n.disk Done) (succeeds q n)
+    succeeded : (q : Stage) → n.stage ≡ q → Fits {A = A} (call_at q w.reads w.place n) Done → Follows w (more f n.disk Done) (succeeds q n)
     succeeded stage.Attaching st fits = absurd fits
     succeeded stage.Syncing st fits = syncs st
     succeeded stage.Reading st fits = absurd fits
     succeeded stage.Writing st fits = writes st
 
-    is_attaching : (q : Stage) (boot : _) → FitsStage q (answer.Booted boot) → q ≡ stage.Attaching
-    is_attaching stage.Attaching boot fits = refl
-    is_attaching stage.Syncing boot fits = absurd fits
-    is_attaching stage.Reading boot fits = absurd fits
-    is_attaching stage.Writing boot fits = absurd fits
+    attached : (q : Stage) (boot : Boot) → n.stage ≡ q → Fits {A = A} (call_at q w.reads w.place n) (Booted boot.number) → Follows w (more f n.disk (Booted boot.number)) (record n { boot = boot; stage = stage.Syncing })
+    attached stage.Attaching boot st fits = attaches boot st
+    attached stage.Syncing boot st fits = absurd fits
+    attached stage.Reading boot st fits = absurd fits
+    attached stage.Writing boot st fits = absurd (no_boot A w.place n.boot.number boot.number n.steps n.steps.due fits)
 
-    pub heard : (said : List ℕ → Option A) (x : code_heard.Heard (List ℕ)) → FitsStage n.stage x → ((bytes : _) → x ≡ answer.Told bytes → ⊥) → Follows w (more f n.disk (heard_by said (device_answer x))) (hears n x)
-    heard said (answer.Booted boot) fits other = attaches boot (is_attaching n.stage boot fits)
+    pub heard : (said : List ℕ → Option A) (x : code_heard.Heard (List ℕ)) → Fits (call_at n.stage w.reads w.place n) (heard_by said (device_answer x)) → ((bytes : _) → x ≡ answer.Told bytes → ⊥) → Follows w (more f n.disk (heard_by said (device_answer x))) (hears n x)
+    heard said (answer.Booted boot) fits other = attached n.stage boot refl fits
     heard said answer.Done fits other = succeeded n.stage refl fits
     heard said (answer.Told bytes) fits other = absurd (other bytes refl)
     heard said (answer.Fault fault) fits other = dropped (Fault fault) refl

@@ -31,15 +31,6 @@ call_at stage.Writing reads place n = write_due place n.boot.number n.steps n.st
 abbrev pub call_due : (reads place : ℕ) → Round → ℕ × device.Call
 call_due reads place n = (n.disk, call_at n.stage reads place n)
 
--- an answer of the kind that the call may get
-abbrev pub FitsStage : Stage → code_heard.Heard (List ℕ) → Type 0
-FitsStage stage (answer.Fault fault) = Unit {0}
-FitsStage stage.Attaching (answer.Booted boot) = Unit {0}
-FitsStage stage.Syncing answer.Done = Unit {0}
-FitsStage stage.Writing answer.Done = Unit {0}
-FitsStage stage.Reading (answer.Told bytes) = Unit {0}
-FitsStage stage other = ⊥
-
 -- HOW IT CHANGES
 
 -- before the first answer
