@@ -1,4 +1,4 @@
-ghost use Rattle.std.specs.Prelude.{◌≡◌, ◌<◌, ◌≤◌, ◌+◌, ◌*◌, ◌++◌, ◌∷◌, [], ℕ, List, Some, None, length};
+ghost use Rattle.std.specs.Prelude.{◌≡◌, ◌<◌, ◌≤◌, ◌+◌, ◌*◌, ◌&&◌, ◌++◌, ◌∷◌, [], ℕ, List, Some, None, length, not};
 ghost use Rattle.std.specs.Option.{option_map};
 ghost use Rattle.torn_block.specs.declared.layout.TheConstants.{HOSTS, DISKS, ROW_LENGTH};
 ghost use Rattle.torn_block.specs.Layout.{cluster_version};
@@ -121,7 +121,7 @@ impl Marking {
             LeadsTo s (answers ++ record { disk = self.old.disk; heard = Told (decoded_row bytes) } ∷ []) self.new }
     {
         let cell = row.cell(self.host);
-        if !cell.says.mark && holds(&cell.says, &self.value) {
+        if is_to_mark(&cell.says, &self.value) {
             let marked = PBlock {
                 mark: true,
                 ..cell.says
@@ -153,12 +153,12 @@ fn ended(end: Option<rounds::End>) -> Option<End>
     }
 }
 
-// Whether a block holds this value.
-fn holds(says: &PBlock<Value>, value: &Value) -> bool
-    ensures { result ≡ is_value says.now.inp value.now }
+// Whether a block holds this value without a mark.
+fn is_to_mark(says: &PBlock<Value>, value: &Value) -> bool
+    ensures { result ≡ (not says.now.mark && is_value says.now.inp value.now) }
 {
     match says.inp {
-        Some(inp) => inp == *value,
+        Some(inp) => !says.mark && inp == *value,
         None => false,
     }
 }
