@@ -8,7 +8,7 @@ use Rattle.disk.specs.Disk as device
 use Rattle.torn_block.specs.declared.block.Block128.{Block128}
 use Rattle.torn_block.specs.Block.{number_in, value_of}
 use Rattle.torn_block.specs.Damage.{block_of}
-use Rattle.torn_block.specs.Plan.{IsReading, told_number}
+use Rattle.torn_block.specs.Plan.{IsReading}
 use Rattle.paxos_block.specs.Places.{place_of, BeatOf, area_place}
 use Rattle.paxos_block.specs.Row.{number_or_zero}
 use Rattle.attempt.specs.Heard.{told}
@@ -17,14 +17,13 @@ use Rattle.attempt.proofs.More.{by_disk, on_more}
 use Rattle.phases.specs.Calls as calls
 use Rattle.phases.specs.declared.heard.Heard as code_heard
 use Rattle.phases.specs.declared.heard.Heard.TheVariants as answer
-use Rattle.heartbeat.specs.Beat.{area_said, beat_body, counter_of, counter_at, counters_in}
-use Rattle.beats.specs.Answers.{Heard, Told, Answered, Answers, heard_as, more, on, reading_of, area_in}
+use Rattle.heartbeat.specs.Beat.{area_said, beat_body, counter_at, counters_in}
+use Rattle.beats.specs.Answers.{Heard, Told, Answered, Answers, more, on, reading_of}
 use Rattle.beats.specs.Calls.{heard_of}
 use Rattle.beats.specs.History.{Fits, IsAnswerTo}
 use Rattle.beats.specs.Kept.{Follows, LeadsTo, answer_of, call_due, end_of, readings_of, setup_of}
 use Rattle.beats.specs.Notes.{Notes, notes_in}
-use Rattle.beats.specs.Status.{Setup, End, Beaten, NoMajority, duty, status, next_call, readings}
-use Rattle.beats.specs.declared.end.End as code_end
+use Rattle.beats.specs.Status.{Setup, Beaten, NoMajority, duty, status, next_call, readings}
 use Rattle.beats.specs.declared.end.End.TheVariants as end
 use Rattle.beats.proofs.Histories.{fits_too}
 use Rattle.rounds.specs.Kept as rounds

@@ -5,7 +5,6 @@ use Rattle.torn_block.specs.declared.layout.TheConstants.{HOSTS}
 use Rattle.beats.specs.declared.end.End as code_end
 use Rattle.beats.specs.declared.end.End.TheVariants as end
 use Rattle.rounds.specs.Kept as rounds
-use Rattle.rounds.specs.declared.end.End.TheVariants as round_end
 use Rattle.rounds.specs.declared.round.Round.{Round}
 
 -- its host and its round, what it read on each disk, the round's disks and the one that is visited, and how it ended

@@ -20,7 +20,7 @@ use Rattle.phases.specs.Calls.{device_answer}
 use Rattle.phases.specs.Steps.{made, write_due}
 use Rattle.phases.specs.declared.heard.Heard as code_heard
 use Rattle.phases.specs.declared.heard.Heard.TheVariants as answer
-use Rattle.rounds.specs.Status.{Duty, Status, Due, Ended, status, read_in, write_on, call_on, next_in, is_left, is_held, waits}
+use Rattle.rounds.specs.Status.{Duty, Due, status, read_in, write_on, call_on, next_in, is_left, is_held, waits}
 use Rattle.rounds.specs.Kept.{IsToWrite, IsWriting, IsAt, IsVisiting, IsPassed, Follows, Stands, at_start, goes_on, drops, passes, begins, writes_on, succeeds, hears, call_at, call_due, end_of_status, end_by}
 use Rattle.rounds.specs.declared.end.End as code_end
 use Rattle.rounds.specs.declared.end.End.TheVariants as end

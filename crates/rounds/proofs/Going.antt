@@ -1,13 +1,13 @@
 -- How a round goes on with an answer: what is kept follows from the answers with one more.
-use Rattle.std.proofs.Common.{ℕ, suc, ◌+◌, ◌*◌, ◌<◌, ◌≤◌, ◌≡◌, Bool, true, false, cond, not, Option, Some, None, List, [], ◌∷◌, ◌++◌, length, refl, sym, subst, ap, ◌∙◌, arith, inl, inr}
+use Rattle.std.proofs.Common.{ℕ, suc, ◌+◌, ◌*◌, ◌<◌, ◌≡◌, Bool, true, false, cond, not, Option, Some, None, List, [], ◌∷◌, ◌++◌, length, refl, sym, subst, ap, ◌∙◌, arith, inl, inr}
 use Rattle.std.specs.Prelude.{◌&&◌, ◌||◌, ◌==◌, nat_lt, nat_le, if◌then◌else◌}
-use Rattle.std.proofs.lemmas.Bool.{cases_eq, ltb-true, lt-ltb, le-ltb, leb-true, leb-false, eqb-true, eqb-false}
+use Rattle.std.proofs.lemmas.Bool.{cases_eq, lt-ltb, le-ltb, leb-true, leb-false, eqb-true}
 use Rattle.attempt.specs.Heard.{Heard, Answers, more, is_bad}
 use Rattle.attempt.specs.Numbers.{count}
 use Rattle.attempt.proofs.Firsts.{below_none, below_some, count_same, count_from, count_next}
 use Rattle.attempt.proofs.More.{more_here, more_there}
 use Rattle.attempt.proofs.Lists.{bad_more}
-use Rattle.rounds.specs.Status.{Duty, Status, Due, Ended, status, visited, are_enough, is_stuck, is_left, is_held, waits, read_in, calls_on, due_or}
+use Rattle.rounds.specs.Status.{Duty, Due, Ended, status, visited, are_enough, is_stuck, is_left, is_held, waits, read_in, calls_on, due_or}
 use Rattle.rounds.specs.Kept.{IsPassed, IsVisiting, IsOver, IsAt, Follows, Stands, goes_on}
 use Rattle.rounds.specs.declared.end.End.TheVariants as end
 use Rattle.rounds.specs.declared.round.Round.{Round}

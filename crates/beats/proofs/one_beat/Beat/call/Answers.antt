@@ -1,10 +1,8 @@
-use Rattle.std.proofs.Common.{◌≡◌, ◌∙◌, ap, sym, subst, ℕ, Some}
+use Rattle.std.proofs.Common.{◌∙◌, ap, sym, subst, ℕ, Some}
 use Rattle.paxos_block.specs.Places.{area_place}
 use Rattle.rounds.specs.Kept as rounds
-use Rattle.beats.specs.Answers.{on}
-use Rattle.beats.specs.Kept.{LeadsTo, call_due}
+use Rattle.beats.specs.Kept.{LeadsTo}
 use Rattle.beats.specs.Notes.{Notes}
-use Rattle.beats.specs.Status.{next_call}
 use Rattle.beats.proofs.Beating.{next, still_going}
 use Rattle.beats.proofs.one_beat.Beat.call.Goals as goal
 

@@ -1,4 +1,4 @@
-use Rattle.std.proofs.Common.{◌≡◌, ◌∙◌, ◌++◌, ◌∷◌, [], List, ℕ, ap, sym, subst, refl}
+use Rattle.std.proofs.Common.{◌∙◌, ◌++◌, ◌∷◌, [], List, ℕ, ap, sym, subst, refl}
 use Rattle.attempt.specs.History.{Fits}
 use Rattle.phases.specs.Calls as calls
 use Rattle.phases.specs.declared.heard.Heard as code_heard

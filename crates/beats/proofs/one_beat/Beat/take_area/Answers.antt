@@ -1,5 +1,4 @@
-use Rattle.std.proofs.Common.{◌≡◌, ◌<◌, ◌++◌, ◌∷◌, [], ◌∙◌, ℕ, List, Option, Some, None, ap, sym, subst, length, slice_set, refl, arith}
-use Rattle.heartbeat.specs.Beat.{counters_in, beat_body}
+use Rattle.std.proofs.Common.{◌≡◌, ◌++◌, ◌∷◌, [], ◌∙◌, ℕ, List, Option, Some, None, ap, sym, subst, slice_set, refl, arith}
 use Rattle.beats.specs.Answers.{Told}
 use Rattle.beats.specs.Kept.{IsSameBeat, LeadsTo}
 use Rattle.beats.specs.Notes.{Notes, notes_in}
