@@ -1,121 +1,54 @@
 -- How a beat goes on with an answer: what is kept follows from the answers with one more.
-use Rattle.std.proofs.Common.{ℕ, zero, suc, ◌+◌, ◌*◌, ◌<◌, ◌≤◌, ◌≡◌, Bool, true, false, cond, not, Option, Some, None, List, [], ◌∷◌, ◌++◌, length, take, map, get_or, refl, sym, subst, ap, ◌∙◌, arith, inl, inr}
-use Rattle.std.specs.Prelude.{◌&&◌, ◌||◌, nat_lt, slice_index_or, if◌then◌else◌}
-use Rattle.std.specs.List.{list_any, range_with_len}
-use Rattle.std.proofs.lemmas.Bool.{cases_eq, ltb-true, lt-ltb, false_from_ne_true}
-use Rattle.std.proofs.lemmas.List.Folds.{list_any-append}
-use Rattle.attempt.specs.Numbers.{count}
-use Rattle.attempt.proofs.Firsts.{below_none, below_some, count_same, count_from, count_next}
-use Rattle.attempt.proofs.Lists.{bad_more}
-use Rattle.attempt.proofs.More.{more_here, more_there, by_disk}
-use Rattle.beats.specs.Answers.{Heard, Booted, Done, Told, Fault, Answers, more, is_bad, all_good, reading_of}
-use Rattle.beats.specs.Status.{Setup, Due, Ended, Beaten, NoMajority, status, visited, is_stuck, is_left, waits, readings, due_or}
-use Rattle.beats.specs.Kept.{IsPassed, IsVisiting, IsAt, readings_of}
-use Rattle.beats.specs.declared.notes.Notes.{Notes}
-use Rattle.beats.specs.declared.notes.Stage.{Stage}
-use Rattle.beats.specs.declared.notes.Stage.TheVariants as stage
+use Rattle.std.proofs.Common.{ℕ, zero, suc, ◌+◌, ◌<◌, ◌≤◌, ◌≡◌, Option, Some, None, List, [], ◌∷◌, ◌++◌, length, take, map, get_or, refl, sym, subst, ap, ◌∙◌, arith}
+use Rattle.std.specs.Prelude.{slice_index_or, slice_set}
+use Rattle.std.specs.List.{range_with_len}
+use Rattle.std.specs.Option.{option_map}
+use Rattle.std.proofs.lemmas.List.{length-set, get_or-set_same, get_or-set_other}
+use Rattle.disk.specs.Disk as device
+use Rattle.torn_block.specs.declared.block.Block128.{Block128}
+use Rattle.torn_block.specs.Block.{number_in, value_of}
+use Rattle.torn_block.specs.Damage.{block_of}
+use Rattle.torn_block.specs.Plan.{IsReading}
+use Rattle.paxos_block.specs.Places.{place_of, BeatOf, area_place}
+use Rattle.paxos_block.specs.Row.{number_or_zero}
+use Rattle.attempt.specs.Heard.{told}
+use Rattle.attempt.proofs.Hearing.{history_more}
+use Rattle.attempt.proofs.More.{by_disk, on_more}
+use Rattle.phases.specs.Calls as calls
+use Rattle.phases.specs.declared.heard.Heard as code_heard
+use Rattle.phases.specs.declared.heard.Heard.TheVariants as answer
+use Rattle.heartbeat.specs.Beat.{area_said, beat_body, counter_at, counters_in}
+use Rattle.beats.specs.Answers.{Heard, Told, Answered, Answers, more, on, reading_of}
+use Rattle.beats.specs.Calls.{heard_of}
+use Rattle.beats.specs.History.{Fits, IsAnswerTo}
+use Rattle.beats.specs.Kept.{Follows, LeadsTo, answer_of, call_due, end_of, readings_of, setup_of}
+use Rattle.beats.specs.Notes.{Notes, notes_in}
+use Rattle.beats.specs.Status.{Setup, Beaten, NoMajority, duty, status, next_call, readings}
+use Rattle.beats.specs.declared.end.End.TheVariants as end
+use Rattle.beats.proofs.Histories.{fits_too}
+use Rattle.rounds.specs.Kept as rounds
+use Rattle.rounds.specs.Kept.{IsToWrite, end_of_status, end_by}
+use Rattle.rounds.specs.declared.end.End as round_end
+use Rattle.rounds.specs.declared.round.Round.{Round}
+use Rattle.rounds.specs.declared.round.Stage.{Stage}
+use Rattle.rounds.specs.declared.round.Stage.TheVariants as stage
+use Rattle.rounds.proofs.Answering as rounds_on
 
--- A DISK THAT IS DROPPED
+-- a round that goes on
+pub still_going : (o : Option round_end.End) → option_map (end_by (λ held. end.Beaten) end.NoMajority) o ≡ None → o ≡ None
+still_going None is = refl
+still_going (Some e) is = absurd (cc)
 
--- a disk with a bad answer is not left
-pub bad_not_left : (host : ℕ) (a : List Heard) (x : Heard) → is_bad x ≡ true → is_left host (a ++ x ∷ []) ≡ false
-bad_not_left host a x bad = ap (λ (b : Bool). b && not (is_stuck host (a ++ x ∷ []))) (bad_more a x bad)
+counted : (value : Option (ℕ × List ℕ)) → number_or_zero (number_in value) ≡ counter_at value
+counted None = refl
+counted (Some value) = refl
 
-pub not_left_waits : (host : ℕ) (a : List Heard) → is_left host a ≡ false → waits host a ≡ false
-not_left_waits host a left = ap (λ (b : Bool). b && nat_lt (length a) 9) left
-
--- and its reading stays
-told_bad : (x : Heard) (b : ℕ) → is_bad x ≡ true → reading_of (Booted b ∷ Done ∷ x ∷ []) ≡ None
-told_bad (Booted boot) b bad = absurd (cc)
-told_bad Done b bad = absurd (cc)
-told_bad (Told None) b bad = refl
-told_bad (Told (Some area)) b bad = absurd (cc)
-told_bad (Fault fault) b bad = refl
-
-abbrev pub IsKept : Heard → List Heard → Type 0
-IsKept x a = reading_of (a ++ x ∷ []) ≡ reading_of a
-
-pub reading_kept : (st : Stage) (n : Notes) (a : List Heard) (x : Heard) → IsAt st n a → is_bad x ≡ true → IsKept x a
-reading_kept stage.Attaching n a x at bad = subst (IsKept x) (sym at) refl
-reading_kept stage.Syncing n a x at bad = subst (IsKept x) (sym at) refl
-reading_kept stage.Reading n a x at bad = subst (IsKept x) (sym at) (told_bad x n.boot.number bad)
-reading_kept stage.Writing n a x at bad = subst (IsKept x) (sym at.heard) refl
-
--- ONE ANSWER MORE
-
-module _ (s : Setup) (f : Answers) (n : Notes) (is : IsVisiting s f n) (x : Heard) (new : Notes) (host : new.host ≡ n.host) (disks : new.disks ≡ n.disks) where
-  abbrev g : Answers
-  g = more f n.disk x
-
-  before : (e : ℕ) → e < n.disk → g e ≡ f e
-  before e less = more_there f n.disk x e (λ same. absurd (omega arith))
-
-  pub ahead_still : (e : ℕ) → n.disk < e → g e ≡ []
-  ahead_still e later = more_there f n.disk x e (λ same. absurd (omega arith)) ∙ is.ahead e later
-
-  count_before : count n.disk (λ e. is_left s.host (g e)) ≡ count n.disk (λ e. is_left s.host (f e))
-  count_before = count_same n.disk (λ e. is_left s.host (g e)) (λ e. is_left s.host (f e)) (λ e less. ap (is_left s.host) (before e less))
-
-  past_before : (e : ℕ) → e < n.disk → waits s.host (g e) ≡ false
-  past_before e less = ap (waits s.host) (before e less) ∙ is.passed.past e less
-
-  -- the call was not the last on its disk
-  pub stays : new.disk ≡ n.disk → new.lost ≡ n.lost → ((e : ℕ) → e < s.disks → slice_index_or new.readings e None ≡ reading_of (g e)) → IsAt new.stage new (f n.disk ++ x ∷ []) → IsVisiting s g new
-  stays disk lost read at =
-      record {
-        passed =
-            record {
-              is_host = host ∙ is.passed.is_host;
-              as_many = disks ∙ is.passed.as_many;
-              past = λ e less. past_before e (omega arith);
-              dropped = subst (λ (k : ℕ). count k (λ e. is_left s.host (g e)) + new.lost ≡ k) (sym disk) (let c = count_before in let was = is.passed.dropped in omega arith);
-              readings = read;
-            };
-        ahead = λ e later. ahead_still e (omega arith);
-        enough = (let was = is.enough in omega arith);
-        here = subst (λ (d : ℕ). IsAt new.stage new (g d)) (sym disk) (subst (IsAt new.stage new) (sym (more_here f n.disk x)) at);
-      }
-
-  -- it was
-  pub passes : (b : Bool) → waits s.host (f n.disk ++ x ∷ []) ≡ false → is_left s.host (f n.disk ++ x ∷ []) ≡ b → ((e : ℕ) → e < s.disks → slice_index_or new.readings e None ≡ reading_of (g e)) → (lost : ℕ) → lost ≡ n.lost + cond b 0 1
-      → IsPassed s g new (n.disk + 1) lost
-  passes b done left read lost lost_is =
-      let here = more_here f n.disk x in
-      record {
-        is_host = host ∙ is.passed.is_host;
-        as_many = disks ∙ is.passed.as_many;
-        past = λ e less. elim (cases_eq e n.disk) [
-          | inl same ↦ ap (λ (d : ℕ). waits s.host (g d)) same ∙ ap (waits s.host) here ∙ done
-          | inr off ↦ past_before e (omega arith)
-        ];
-        dropped = counted b (ap (is_left s.host) here ∙ left) lost_is;
-        readings = read;
-      }
-    where
-      counted : (t : Bool) → is_left s.host (g n.disk) ≡ t → lost ≡ n.lost + cond t 0 1 → count (n.disk + 1) (λ e. is_left s.host (g e)) + lost ≡ n.disk + 1
-      counted true is_t lost_t =
-          (let unit : ℕ = 1 in
-          let one : cond (is_left s.host (g n.disk)) 1 0 ≡ unit = ap (λ (t : Bool). cond t 1 0) is_t in
-          let c = count_before in
-          let was = is.passed.dropped in
-          let more_one : n.disk + 1 ≡ suc n.disk = omega arith in
-          subst (λ (k : ℕ). count k (λ e. is_left s.host (g e)) + lost ≡ k) (sym more_one) (omega (arith, one, c, was, lost_t)))
-      counted false is_t lost_t =
-          (let nil : ℕ = 0 in
-          let none : cond (is_left s.host (g n.disk)) 1 0 ≡ nil = ap (λ (t : Bool). cond t 1 0) is_t in
-          let c = count_before in
-          let was = is.passed.dropped in
-          let more_one : n.disk + 1 ≡ suc n.disk = omega arith in
-          subst (λ (k : ℕ). count k (λ e. is_left s.host (g e)) + lost ≡ k) (sym more_one) (omega (arith, none, c, was, lost_t)))
-
-  -- readings that were not changed, and those that were
-  pub read_same : new.readings ≡ n.readings → IsKept x (f n.disk) → (e : ℕ) → e < s.disks → slice_index_or new.readings e None ≡ reading_of (g e)
-  read_same same kept e below =
-      ap (λ (l : List (Option (List ℕ))). slice_index_or l e None) same ∙ is.passed.readings e below
-      ∙ sym (by_disk f n.disk x (λ d a. d ≡ e → reading_of a ≡ reading_of (f e)) (λ at. kept ∙ ap (λ (d : ℕ). reading_of (f d)) at) (λ d off at. ap (λ (d : ℕ). reading_of (f d)) at) e refl)
+-- the own block in an area that was read is to be written
+pub to_write : (s : Setup) (area : List ℕ) (block : Block128) → IsReading (block_of s.host area) block → IsToWrite (duty s) area block beat_body
+to_write s area block reads = record { due = refl; read = reads; sequence = ap number_or_zero reads.number ∙ counted (value_of (block_of s.host area)); writes = refl }
 
 -- the first items of a list, one by one
-pub first_are : (xs : List (Option (List ℕ))) (a k : ℕ) (g : ℕ → Option (List ℕ)) → k ≤ length xs → ((i : ℕ) → i < k → get_or xs i None ≡ g (a + i)) → take k xs ≡ map g (range_with_len a k)
+first_are : (xs : List (Option (List ℕ))) (a k : ℕ) (g : ℕ → Option (List ℕ)) → k ≤ length xs → ((i : ℕ) → i < k → get_or xs i None ≡ g (a + i)) → take k xs ≡ map g (range_with_len a k)
 first_are xs a zero g room same = refl
 first_are [] a (suc k) g room same = absurd (omega arith)
 first_are (x ∷ xs) a (suc k) g room same =
@@ -124,48 +57,118 @@ first_are (x ∷ xs) a (suc k) g room same =
     let rest = first_are xs (a + 1) k g (omega arith) (λ i below. (let later : a + suc i ≡ a + 1 + i = omega arith in same (suc i) (omega arith) ∙ ap g later)) in
     λ i. first i ∷ rest i
 
--- A DISK IS DONE WITH
+-- an answer of the kind that the call may get
+fits_it : (call : device.Call) (heard : code_heard.Heard (List ℕ)) → Fits call (calls.heard_of heard) → Fits call (heard_of heard)
+fits_it call (answer.Booted boot) fits = fits_too call (device.Booted boot.number) fits
+fits_it call answer.Done fits = fits_too call device.Done fits
+fits_it call (answer.Told area) fits = fits_too call (device.Told area.now) fits
+fits_it call (answer.Fault fault) fits = tt
 
-module _ (s : Setup) (f : Answers) (n : Notes) (lost : ℕ) (is : IsPassed s f n (n.disk + 1) lost) (ahead : (e : ℕ) → n.disk < e → f e ≡ []) (below : n.disk < n.disks) where
-  below_all : n.disk < s.disks
-  below_all = (let m = is.as_many in omega arith)
+module _ (host : ℕ) (r : Round) (kept : List (Option (List ℕ))) where
+  abbrev n : Notes
+  n = notes_in host r kept
 
-  fresh_left : (e : ℕ) → n.disk + 1 ≤ e → is_left s.host (f e) ≡ true
-  fresh_left e later = ap (is_left s.host) (ahead e (omega arith)) ∙ refl
+  abbrev s : Setup
+  s = setup_of n
 
-  total : count s.disks (λ e. is_left s.host (f e)) + lost ≡ s.disks
-  total =
-      let c = count_from s.disks (n.disk + 1) (λ e. is_left s.host (f e)) (let b = below_all in omega arith) fresh_left in
-      let was = is.dropped in
-      omega arith
+  module _ (f : Answers) (is : Follows f n) (going : r.end ≡ None) (below : r.disk < r.disks) where
+    -- readings that were not changed
+    same_readings : (x : Heard) → (r.stage ≡ stage.Reading → told x ≡ None) → (e : ℕ) → e < r.disks → slice_index_or kept e None ≡ reading_of (more f r.disk x e)
+    same_readings x none e less =
+        is.readings e less
+        ∙ by_disk f r.disk x (λ d a. d ≡ e → reading_of (f e) ≡ reading_of a)
+        (λ at. ap (λ (d : ℕ). reading_of (f d)) (sym at) ∙ sym (ap (option_map counters_in) (rounds_on.read_kept (duty s) f r is.round going below x none)))
+        (λ d off at. ap (λ (d : ℕ). reading_of (f d)) (sym at))
+        e refl
 
-  status_by : (b : Bool) → nat_lt s.disks (2 * count s.disks (λ e. is_left s.host (f e))) ≡ b → status s f ≡ (if b then due_or (visited s f) (Ended (Beaten (readings s f))) else Ended NoMajority)
-  status_by b e = ap (λ (t : Bool). if t then due_or (visited s f) (Ended (Beaten (readings s f))) else Ended NoMajority) e
+    -- another round, over the same disks
+    then : (x : Heard) (step new : Round) → rounds.Follows (duty s) (more f r.disk x) step → new ≡ step → new.disks ≡ r.disks → rounds.Follows (duty (record { host = host; disks = new.disks })) (more f r.disk x) new
+    then x step new after is_step disks =
+        subst (λ (m : ℕ). rounds.Follows (duty (record { host = host; disks = m })) (more f r.disk x) new) (sym disks) (subst (rounds.Follows (duty s) (more f r.disk x)) (sym is_step) after)
 
-  pub too_few : s.disks ≤ 2 * lost → status s f ≡ Ended NoMajority
-  too_few many = status_by false (false_from_ne_true (nat_lt s.disks (2 * count s.disks (λ e. is_left s.host (f e)))) (λ t. absurd (let l = ltb-true s.disks (2 * count s.disks (λ e. is_left s.host (f e))) t in let c = total in omega arith)))
+    -- it did not tell what was read
+    others : (x : code_heard.Heard (List ℕ)) → Fits (call_due n).1 (heard_of x) → ((bytes : _) → x ≡ answer.Told bytes → ⊥) → (new : Round) → new ≡ rounds.hears r x → new.disks ≡ r.disks → Follows (more f r.disk (heard_of x)) (notes_in host new kept)
+    others x fits other new step disks =
+        let told_none : (y : code_heard.Heard (List ℕ)) → ((bytes : _) → y ≡ answer.Told bytes → ⊥) → told (heard_of y) ≡ None = elim [
+          | answer.Booted boot ↦ λ o. refl
+          | answer.Done ↦ λ o. refl
+          | answer.Told bytes ↦ λ o. absurd (o bytes refl)
+          | answer.Fault fault ↦ λ o. refl
+        ] in
+        record {
+          round = then (heard_of x) (rounds.hears r x) new (rounds_on.heard (duty s) f r is.round going below area_said x fits other) step disks;
+          room = (let was = is.room in omega arith);
+          readings = λ e less. same_readings (heard_of x) (λ st. told_none x other) e (omega arith);
+        }
 
-  enough_by : 2 * lost < s.disks → nat_lt s.disks (2 * count s.disks (λ e. is_left s.host (f e))) ≡ true
-  enough_by few = lt-ltb s.disks (2 * count s.disks (λ e. is_left s.host (f e))) (let c = total in omega arith)
+    -- it told nothing sound
+    damaged : (new : Round) → new ≡ rounds.drops r → new.disks ≡ r.disks → Follows (more f r.disk (Told None)) (notes_in host new kept)
+    damaged new step disks =
+        record {
+          round = then (Told None) (rounds.drops r) new (rounds_on.dropped (duty s) f r is.round going below (Told None) refl) step disks;
+          room = (let was = is.room in omega arith);
+          readings = λ e less. same_readings (Told None) (λ st. refl) e (omega arith);
+        }
 
-  pub over : 2 * lost < s.disks → n.disk + 1 ≡ n.disks → readings_of n ≡ readings s f → status s f ≡ Ended (Beaten (readings_of n))
-  over few last read =
-      let m = is.as_many in
-      let none : visited s f ≡ None = below_none s.disks (λ e. waits s.host (f e)) (λ e less. is.past e (omega arith)) in
-      status_by true (enough_by few)
-      ∙ ap (λ (o : Option ℕ). due_or o (Ended (Beaten (readings s f)))) none
-      ∙ ap (λ (l : List (Option (List ℕ))). Ended (Beaten l)) (sym read)
+    -- it told the area
+    sound : r.stage ≡ stage.Reading → (area : List ℕ) → (block : Block128) → IsReading (block_of host area) block → (new : Round) → new ≡ rounds.begins r block beat_body → new.disks ≡ r.disks
+        → Follows (more f r.disk (Told (Some area))) (notes_in host new (slice_set kept r.disk (Some (counters_in area))))
+    sound st area block reads new step disks =
+        let x : Heard = Told (Some area) in
+        record {
+          round = then x (rounds.begins r block beat_body) new (rounds_on.write (duty s) f r is.round going below st area block beat_body (to_write s area block reads)) step disks;
+          room = (let was = is.room in let long = length-set kept r.disk (Some (counters_in area)) in omega arith);
+          readings = λ e less. by_disk f r.disk x (λ d a. d ≡ e → slice_index_or (slice_set kept r.disk (Some (counters_in area))) e None ≡ reading_of a)
+              (λ at. subst (λ (k : ℕ). slice_index_or (slice_set kept r.disk (Some (counters_in area))) k None ≡ reading_of (f r.disk ++ x ∷ [])) at
+              (get_or-set_same kept r.disk (Some (counters_in area)) None (let was = is.room in omega arith) ∙ sym (ap (option_map counters_in) (rounds_on.read_now (duty s) f r is.round going below x st))))
+              (λ d off at. get_or-set_other kept r.disk e (Some (counters_in area)) None (λ other. off (at ∙ other)) ∙ is.readings e (omega arith) ∙ ap (λ (k : ℕ). reading_of (f k)) (sym at))
+              e refl;
+        }
 
--- a call is due on the disk that is visited
-pub due_here : (s : Setup) (f : Answers) (n : Notes) → IsVisiting s f n → n.disk < n.disks → waits s.host (f n.disk) ≡ true → is_left s.host (f n.disk) ≡ true → status s f ≡ Due n.disk
-due_here s f n is below waiting left =
-    let m = is.passed.as_many in
-    let here : visited s f ≡ Some n.disk = below_some s.disks (λ e. waits s.host (f e)) n.disk (record { below = omega arith; passes = waiting; none = is.passed.past }) in
-    let unit : ℕ = 1 in
-    let one : cond (is_left s.host (f n.disk)) 1 0 ≡ unit = ap (λ (t : Bool). cond t 1 0) left in
-    let c = count_from s.disks (suc n.disk) (λ e. is_left s.host (f e)) (omega arith) (λ e later. ap (is_left s.host) (is.ahead e (omega arith)) ∙ refl) in
-    let was = is.passed.dropped in
-    let few = is.enough in
-    let enough : nat_lt s.disks (2 * count s.disks (λ e. is_left s.host (f e))) ≡ true = lt-ltb s.disks (2 * count s.disks (λ e. is_left s.host (f e))) (omega (arith, c, one, was, few, m)) in
-    ap (λ (t : Bool). if t then due_or (visited s f) (Ended (Beaten (readings s f))) else Ended NoMajority) enough
-    ∙ ap (λ (o : Option ℕ). due_or o (Ended (Beaten (readings s f)))) here
+    call_is : next_call s f ≡ Some (call_due n)
+    call_is = rounds_on.call_is (duty s) f r is.round going below (Beaten (readings s f)) NoMajority
+
+  -- A list of answers leads to it. With one more it leads on.
+  module _ (of : Setup) (answers : List Answered) (led : LeadsTo of answers n) (going : r.end ≡ None) (below : r.disk < r.disks) where
+    pub next : next_call of (on answers) ≡ Some (call_due n)
+    next = subst (λ (t : Setup). next_call t (on answers) ≡ Some (call_due n)) led.of (call_is (on answers) led.follows going below)
+
+    leads : (x : Heard) → Fits (call_due n).1 x → (new : Round) (read : List (Option (List ℕ))) → new.disks ≡ r.disks → Follows (more (on answers) r.disk x) (notes_in host new read) → LeadsTo of (answers ++ record { disk = r.disk; heard = x } ∷ []) (notes_in host new read)
+    leads x fits new read disks follows =
+        let answered : Answered = record { disk = r.disk; heard = x } in
+        record {
+          of = ap (λ (m : ℕ). record { host = host; disks = m }) disks ∙ led.of;
+          history = history_more (next_call of) answers answered led.history (subst (λ (o : Option (ℕ × device.Call)). IsAnswerTo o answered) (sym next) (refl, fits));
+          follows = subst (λ (g : Answers). Follows g (notes_in host new read)) (sym (on_more answers answered)) follows;
+        }
+
+    pub hears : (x : code_heard.Heard (List ℕ)) → Fits (call_due n).1 (calls.heard_of x) → ((bytes : _) → x ≡ answer.Told bytes → ⊥) → (new : Round) → new ≡ rounds.hears r x → new.disks ≡ r.disks → LeadsTo of (answers ++ answer_of n x ∷ []) (notes_in host new kept)
+    hears x fits other new step disks =
+        let fits_too = fits_it (call_due n).1 x fits in
+        leads (heard_of x) fits_too new kept disks (others (on answers) led.follows going below x fits_too other new step disks)
+
+    -- what was read fits
+    fits_read : r.stage ≡ stage.Reading → (o : Option (List ℕ)) → Fits (call_due n).1 (Told o)
+    fits_read st o = subst (λ (q : Stage). Fits (rounds.call_at q area_place (place_of (BeatOf host)) r) (Told o)) (sym st) tt
+
+    pub reads_damage : r.stage ≡ stage.Reading → (new : Round) → new ≡ rounds.drops r → new.disks ≡ r.disks → LeadsTo of (answers ++ record { disk = r.disk; heard = Told None } ∷ []) (notes_in host new kept)
+    reads_damage st new step disks = leads (Told None) (fits_read st None) new kept disks (damaged (on answers) led.follows going below new step disks)
+
+    pub reads : r.stage ≡ stage.Reading → (area : List ℕ) → (block : Block128) → IsReading (block_of host area) block → (new : Round) → new ≡ rounds.begins r block beat_body → new.disks ≡ r.disks
+        → LeadsTo of (answers ++ record { disk = r.disk; heard = Told (Some area) } ∷ []) (notes_in host new (slice_set kept r.disk (Some (counters_in area))))
+    reads st area block are new step disks =
+        leads (Told (Some area)) (fits_read st (Some area)) new (slice_set kept r.disk (Some (counters_in area))) disks (sound (on answers) led.follows going below st area block are new step disks)
+
+  -- how it stands
+  pub status_is : (of : Setup) (answers : List Answered) → LeadsTo of answers n → r.disk < r.disks → option_map (end_of n) n.end ≡ end_of_status (status of (on answers))
+  status_is of answers led below =
+      let f = on answers in
+      let read : readings_of n ≡ readings s f =
+      first_are kept 0 r.disks (λ d. reading_of (f d)) led.follows.room (λ i less. (let z : 0 + i ≡ i = omega arith in led.follows.readings i less ∙ ap (λ (k : ℕ). reading_of (f k)) (sym z))) in
+      subst (λ (t : Setup). option_map (end_of n) n.end ≡ end_of_status (status t f)) led.of
+      (by_end r.end ∙ rounds_on.end_is (duty s) (λ held. Beaten (readings_of n)) (Beaten (readings s f)) NoMajority f r led.follows.round below (λ held some stands. ap Beaten read))
+    where
+      by_end : (e : Option round_end.End) → option_map (end_of n) (option_map (end_by (λ held. end.Beaten) end.NoMajority) e) ≡ option_map (end_by (λ held. Beaten (readings_of n)) NoMajority) e
+      by_end None = refl
+      by_end (Some (round_end.TheVariants.Over held)) = refl
+      by_end (Some round_end.TheVariants.NoMajority) = refl

@@ -3,10 +3,8 @@
 
 mod end;
 mod law;
-mod notes;
 mod one_beat;
 
 pub use end::End;
 pub use law::nine_calls_a_disk;
-pub use notes::{PLACES, Readings};
-pub use one_beat::Beat;
+pub use one_beat::{Beat, PLACES, Readings};

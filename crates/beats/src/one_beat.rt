@@ -1,18 +1,31 @@
 ghost use Rattle.std.specs.Prelude.{◌≡◌, ◌<◌, ◌≤◌, ◌+◌, ◌*◌, ◌++◌, ◌∷◌, [], List, Some, None, length};
 ghost use Rattle.std.specs.Option.{option_map};
+ghost use Rattle.disk.specs.Disk as device;
 ghost use Rattle.torn_block.specs.declared.layout.TheConstants.{HOSTS, DISKS, ROW_LENGTH};
+ghost use Rattle.torn_block.specs.Damage.{block_of};
+ghost use Rattle.torn_block.specs.Plan.{IsReading};
 ghost use Rattle.paxos_block.specs.Places.{area_place};
 ghost use Rattle.attempt.specs.History.{Fits};
 ghost use Rattle.phases.specs.Calls as calls;
 ghost use Rattle.phases.specs.Calls.{call_of_need, IsWithin};
-ghost use Rattle.beats.specs.Answers.{Answered, on};
+ghost use Rattle.beats.specs.Answers.{Answered, heard_as, on};
 ghost use Rattle.beats.specs.Kept.{IsSameBeat, LeadsTo, answer_of, call_due, end_of, end_of_status};
 ghost use Rattle.beats.specs.Status.{Setup, status, next_call};
+ghost use Rattle.rounds.specs.Kept.{end_by};
 
 use crate::end::End;
-use crate::notes::{Notes, Readings};
+use heartbeat::{Reading, decode_area, encode_beat};
+use paxos_block::{AREA_PLACE, beat_place};
 use phases::{Heard, Need};
+use rounds::{Round, Stage};
 use std::marker::Model;
+use torn_block::{BLOCK_LENGTH, Block128, ClusterLayout, DISKS, HOSTS, ROW_LENGTH, read_block};
+
+/// The most disks of a cluster.
+pub const PLACES: usize = DISKS as usize;
+
+/// What was read of the heartbeat areas, by the disks' numbers.
+pub type Readings = [Reading; PLACES];
 
 /// A beat of a host: on each disk it reads the heartbeat area and writes the host's own block there, with the next
 /// sequence number.
@@ -21,18 +34,20 @@ use std::marker::Model;
 /// number.
 #[derive(Drop)]
 pub struct Beat {
-    notes: Notes,
+    host: u8,
+    round: Round,
+    /// None for a disk whose area was not read soundly.
+    readings: Readings,
 }
 
 impl Model for Beat {
-    ghost use Rattle.beats.specs.declared.notes.Notes.{Notes};
-    ghost use Rattle.beats.specs.Kept.{IsSound};
+    ghost use Rattle.beats.specs.Notes.{Notes, IsSound, notes_in};
 
     ghost Value = { Notes };
 
-    ghost view = { λ beat. beat.notes };
+    ghost view = { λ beat. notes_in beat.host beat.round beat.readings };
 
-    ghost invariant = { λ beat. IsSound beat.notes };
+    ghost invariant = { λ beat. IsSound beat.host beat.round };
 }
 
 impl Beat {
@@ -45,7 +60,9 @@ impl Beat {
         ensures going { result.end ≡ None }
     {
         Beat {
-            notes: Notes::new(host, disks),
+            host,
+            round: Round::new(disks),
+            readings: [None; PLACES],
         }
     }
 
@@ -59,10 +76,8 @@ impl Beat {
         ensures range { IsWithin (area_place + ROW_LENGTH) result.call }
         ensures disk { result.disk < self.now.disks }
     {
-        Need {
-            disk: self.notes.disk,
-            call: self.notes.call(),
-        }
+        self.round
+            .call(AREA_PLACE, beat_place::<ClusterLayout>(self.host))
     }
 
     /// Hears the answer to the call that is due.
@@ -75,7 +90,29 @@ impl Beat {
             length (answers ++ answer_of self.old heard.now ∷ []) ≤ 9 * s.disks }
         ensures same { IsSameBeat self.old self.new }
     {
-        self.notes.hear(heard);
+        match heard {
+            Heard::Told(area) => self.take_area(area),
+            _ => self.round.hear(heard),
+        }
+    }
+
+    // The area was read. If it is sound its counters are kept, even if the disk is dropped later.
+    fn take_area(&mut self, area: &[u8; ROW_LENGTH])
+        requires going { self.old.end ≡ None }
+        requires stage { self.old.round.stage ≡ Stage.Reading }
+        ensures same { IsSameBeat self.old self.new }
+        ensures leads { (s : Setup) (answers : List Answered) → LeadsTo s answers self.old →
+            LeadsTo s (answers ++ record { disk = self.old.disk; heard = heard_as (device.Told area.now) } ∷ []) self.new }
+    {
+        match decode_area(area) {
+            Ok(counters) => {
+                let disk = usize::from(self.round.disk);
+                self.readings[disk] = Some(counters);
+                self.round
+                    .write(&own_block(self.host, area), &encode_beat());
+            }
+            Err(_) => self.round.drop_disk(),
+        }
     }
 
     /// How it has ended, if it has.
@@ -84,13 +121,32 @@ impl Beat {
             option_map (end_of self.now) result ≡ end_of_status (status s (on heard)) }
         ensures told { result ≡ self.now.end }
     {
-        self.notes.end
+        ended(self.round.end)
     }
 
     /// What was read on each disk. None where its heartbeat area was not read soundly.
     pub fn readings(&self) -> Readings
         ensures { result ≡ self.now.readings }
     {
-        self.notes.readings
+        self.readings
     }
+}
+
+// The end of a round, of a beat's.
+fn ended(end: Option<rounds::End>) -> Option<End>
+    ensures { result ≡ option_map (end_by (λ held. End.Beaten) End.NoMajority) end }
+{
+    match end? {
+        rounds::End::Over { .. } => Some(End::Beaten),
+        rounds::End::NoMajority => Some(End::NoMajority),
+    }
+}
+
+// The host's own block in an area.
+fn own_block(host: u8, area: &[u8; ROW_LENGTH]) -> Block128
+    requires { host < HOSTS }
+    ensures { IsReading (block_of host area.now) result }
+{
+    let place = BLOCK_LENGTH * usize::from(host);
+    read_block::<ClusterLayout>(&area[place..place + BLOCK_LENGTH])
 }

@@ -1,8 +1,8 @@
 -- What a host knows is what its learner knows, once each value that it offers is judged by its spelling.
 use Rattle.std.proofs.Common.{◌≡◌, ◌≤◌, ◌-◌, ◌*◌, ◌&&◌, ℕ, Bool, true, false, zero, suc, List, [], ◌∷◌, ◌++◌, ◌<◌, get_or, length, map, Option, Some, None, refl, sym, ◌∙◌, ap, ap₂, not, subst, arith, length-append, if◌then◌else◌}
 use Rattle.std.specs.Prelude.{bytes_eq, is_some, nat_lt, nat_le, slice_get, take}
-use Rattle.beats.specs.declared.notes.Notes as beat_notes
-use Rattle.marks.specs.declared.notes.Notes as mark_notes
+use Rattle.beats.specs.Notes as beat_notes
+use Rattle.marks.specs.Notes as mark_notes
 use Rattle.marks.specs.declared.end.End as mark_end
 use Rattle.marks.specs.declared.end.End.TheVariants as mark_ends
 use Rattle.marks.specs.Kept as mark_kept

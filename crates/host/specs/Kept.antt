@@ -9,9 +9,9 @@ use Rattle.slot_log.specs.Shape.{Shape}
 use Rattle.heartbeat.specs.Suggesting.{Readings}
 use Rattle.beats.specs.Answers as beat_answers
 use Rattle.beats.specs.Kept as beat_kept
-use Rattle.beats.specs.declared.notes.Notes.{Notes}
+use Rattle.beats.specs.Notes.{Notes}
 use Rattle.marks.specs.Kept as mark_kept
-use Rattle.marks.specs.declared.notes.Notes as mark_notes
+use Rattle.marks.specs.Notes as mark_notes
 use Rattle.looks.specs.Kept as look_kept
 use Rattle.looks.specs.declared.notes.Notes as look_notes
 use Rattle.slot_log.specs.Kept as learners

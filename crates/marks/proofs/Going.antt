@@ -1,130 +1,141 @@
 -- How a marking goes on with an answer: what is kept follows from the answers with one more.
-use Rattle.std.proofs.Common.{ℕ, zero, suc, ◌+◌, ◌*◌, ◌<◌, ◌≤◌, ◌≡◌, Bool, true, false, cond, not, Option, Some, None, List, [], ◌∷◌, ◌++◌, length, refl, sym, subst, ap, ◌∙◌, arith, inl, inr}
-use Rattle.std.specs.Prelude.{◌&&◌, ◌||◌, nat_lt, nat_le, if◌then◌else◌}
-use Rattle.std.proofs.lemmas.Bool.{cases_eq, ltb-true, lt-ltb, false_from_ne_true}
-use Rattle.disk.specs.declared.boot.Boot.{Boot}
-use Rattle.torn_block.specs.Plan.{Plan}
-use Rattle.attempt.specs.Answers.{Heard, Answers, more, is_bad}
+use Rattle.std.proofs.Common.{ℕ, ◌<◌, ◌≡◌, true, false, not, Option, Some, None, List, [], ◌∷◌, ◌++◌, refl, sym, subst, ap, ◌∙◌}
+use Rattle.std.specs.Prelude.{◌&&◌, is_some}
+use Rattle.std.specs.Option.{option_map}
+use Rattle.disk.specs.Disk as device
+use Rattle.torn_block.specs.declared.block.Block128.{Block128}
+use Rattle.torn_block.specs.Plan.{IsReading, told_number}
+use Rattle.paxos_block.specs.Places.{place_of, VoteOf, row_place}
+use Rattle.paxos_block.specs.Saying.{Said as PBlock, MaySay, body_saying}
+use Rattle.paxos_block.specs.Row.{DecodedBlock, IsSaid, seen_at, number_or_zero, decoded_row}
+use Rattle.paxos_block.specs.layouts.Saying.{said_as}
+use Rattle.attempt.specs.Answers.{Heard, Told, Answered, Answers, heard_as, more, on}
+use Rattle.attempt.specs.History.{Fits, IsAnswerTo}
 use Rattle.attempt.specs.Numbers.{count}
-use Rattle.attempt.proofs.Firsts.{below_none, below_some, count_same, count_from, count_next}
-use Rattle.attempt.proofs.More.{more_here, more_there}
-use Rattle.attempt.proofs.Lists.{bad_more}
-use Rattle.marks.specs.Status.{Setup, Due, Ended, Marked, NoMajority, status, visited, is_stuck, is_left, is_marked, waits, own_block, calls_on, due_or}
-use Rattle.marks.specs.Kept.{IsPassed, IsVisiting, IsAt, setup_of}
-use Rattle.marks.specs.declared.notes.Notes.{Notes}
-use Rattle.marks.specs.declared.notes.Stage.{Stage}
+use Rattle.attempt.proofs.Hearing.{history_more}
+use Rattle.attempt.proofs.More.{on_more}
+use Rattle.phases.specs.Calls.{device_answer, heard_of}
+use Rattle.phases.specs.declared.heard.Heard as code_heard
+use Rattle.phases.specs.declared.heard.Heard.TheVariants as answer
+use Rattle.marks.specs.Kept.{Follows, LeadsTo, answer_of, call_due, end_of, setup_of}
+use Rattle.marks.specs.Notes.{Notes, notes_in}
+use Rattle.marks.specs.Status.{Setup, Marked, NoMajority, duty, status, next_call, is_marked, is_value, with_mark}
+use Rattle.marks.specs.declared.end.End.TheVariants as end
+use Rattle.rounds.specs.Kept as rounds
+use Rattle.rounds.specs.Kept.{end_of_status, end_by}
+use Rattle.rounds.specs.declared.end.End as round_end
+use Rattle.rounds.specs.declared.end.End.TheVariants as round_ends
+use Rattle.rounds.specs.declared.round.Round.{Round}
+use Rattle.rounds.specs.declared.round.Stage.{Stage}
+use Rattle.rounds.specs.declared.round.Stage.TheVariants as stage
+use Rattle.rounds.proofs.Answering as rounds_on
 
--- A DISK THAT IS DROPPED
+-- a round that goes on
+pub still_going : (o : Option round_end.End) → option_map (end_by end.Marked end.NoMajority) o ≡ None → o ≡ None
+still_going None is = refl
+still_going (Some e) is = absurd (cc)
 
--- a disk with a bad answer is not left
-pub bad_not_left : (s : Setup) (a : List Heard) (x : Heard) → is_bad x ≡ true → is_left s (a ++ x ∷ []) ≡ false
-bad_not_left s a x bad = ap (λ (b : Bool). b && not (is_stuck s (a ++ x ∷ []))) (bad_more a x bad)
+-- WHAT MAY BE MARKED
 
--- one that is not left waits for nothing, and does not count
-pub not_left_waits : (s : Setup) (a : List Heard) → is_left s a ≡ false → waits s a ≡ false
-not_left_waits s a left = ap (λ (b : Bool). b && nat_lt (length a) (calls_on s a)) left
+-- what holds a value has an input
+has_input : (inp : Option (List ℕ)) (value : List ℕ) → is_value inp value ≡ true → is_some inp ≡ true
+has_input None value holds = absurd (cc)
+has_input (Some inp) value holds = refl
 
-pub not_left_marked : (s : Setup) (a : List Heard) → is_left s a ≡ false → is_marked s a ≡ false
-not_left_marked s a left = ap (λ (b : Bool). b && ((own_block s a).says.mark || nat_le 9 (length a))) left
+-- a block that was read may be said with a mark where it holds a value
+pub may_mark_it : (host : ℕ) (read : Option (ℕ × List ℕ)) (says : PBlock) (value : List ℕ) → IsSaid host read says → is_value says.inp value ≡ true → MaySay host (with_mark says)
+may_mark_it host None says value said holds =
+    let none : false ≡ true = sym (ap (λ (x : PBlock). is_value x.inp value) said) ∙ holds in
+    absurd (cc)
+may_mark_it host (Some read) says value said holds =
+    record { mbal = said.1.mbal; vote = said.1.vote; mark = has_input says.inp value holds }
+
+-- an input is its bytes
+same_input : (o : Option (List ℕ)) → option_map (λ value. value) o ≡ o
+same_input None = refl
+same_input (Some value) = refl
+
+pub said_same : (says : PBlock) → said_as (λ value. value) says ≡ says
+said_same says = ap (λ (o : Option (List ℕ)). record says { inp = o }) (same_input says.inp)
+
+pub says_shown : (says seen : PBlock) → said_as (λ value. value) says ≡ seen → says ≡ seen
+says_shown says seen is = sym (said_same says) ∙ is
+
+-- an answer as the definitions of an attempt see it
+heard_same : (x : code_heard.Heard (List ℕ)) → heard_as (device_answer x) ≡ heard_of x
+heard_same (answer.Booted boot) = refl
+heard_same answer.Done = refl
+heard_same (answer.Told bytes) = refl
+heard_same (answer.Fault fault) = refl
 
 -- ONE ANSWER MORE
 
-module _ (f : Answers) (n : Notes) (is : IsVisiting f n) (x : Heard) where
+module _ (host slot : ℕ) (value : List ℕ) (r : Round) where
+  abbrev n : Notes
+  n = notes_in host slot value r
+
   abbrev s : Setup
   s = setup_of n
 
-  abbrev g : Answers
-  g = more f n.disk x
+  -- A list of answers leads to it. With one more it leads on.
+  module _ (of : Setup) (answers : List Answered) (led : LeadsTo of answers n) (going : r.end ≡ None) (below : r.disk < r.disks) where
+    abbrev f : Answers
+    f = on answers
 
-  before : (e : ℕ) → e < n.disk → g e ≡ f e
-  before e less = more_there f n.disk x e (λ same. absurd (omega arith))
+    pub next : next_call of f ≡ Some (call_due n)
+    next =
+        subst (λ (t : Setup). next_call t f ≡ Some (call_due n)) led.of
+        (rounds_on.call_is (duty s) f r led.follows going below (Marked (count s.disks (λ d. is_marked s (f d)))) NoMajority)
 
-  pub ahead_still : (e : ℕ) → n.disk < e → g e ≡ []
-  ahead_still e later = more_there f n.disk x e (λ same. absurd (omega arith)) ∙ is.ahead e later
+    leads : (x : Heard) → Fits (call_due n).1 x → (step new : Round) → new ≡ step → new.disks ≡ r.disks → rounds.Follows (duty s) (more f r.disk x) step → LeadsTo of (answers ++ record { disk = r.disk; heard = x } ∷ []) (notes_in host slot value new)
+    leads x fits step new is_step disks after =
+        let answered : Answered = record { disk = r.disk; heard = x } in
+        let then : Follows (more f r.disk x) (notes_in host slot value new) =
+        subst (λ (m : ℕ). rounds.Follows (duty (record { host = host; slot = slot; disks = m; value = value })) (more f r.disk x) new) (sym disks) (subst (rounds.Follows (duty s) (more f r.disk x)) (sym is_step) after) in
+        record {
+          of = ap (λ (m : ℕ). record { host = host; slot = slot; disks = m; value = value }) disks ∙ led.of;
+          history = history_more (next_call of) answers answered led.history (subst (λ (o : Option (ℕ × device.Call)). IsAnswerTo o answered) (sym next) (refl, fits));
+          follows = subst (λ (g : Answers). Follows g (notes_in host slot value new)) (sym (on_more answers answered)) then;
+        }
 
-  left_before : count n.disk (λ e. is_left s (g e)) ≡ count n.disk (λ e. is_left s (f e))
-  left_before = count_same n.disk (λ e. is_left s (g e)) (λ e. is_left s (f e)) (λ e less. ap (is_left s) (before e less))
+    -- the answer did not tell what was read
+    pub hears : (x : code_heard.Heard (List ℕ)) → Fits (call_due n).1 (heard_of x) → ((bytes : _) → x ≡ answer.Told bytes → ⊥) → (new : Round) → new ≡ rounds.hears r x → new.disks ≡ r.disks → LeadsTo of (answers ++ answer_of n x ∷ []) (notes_in host slot value new)
+    hears x fits other new step disks =
+        subst (λ (y : Heard). LeadsTo of (answers ++ record { disk = r.disk; heard = y } ∷ []) (notes_in host slot value new)) (heard_same x)
+        (let fits_too = subst (Fits (call_due n).1) (sym (heard_same x)) fits in
+        leads (heard_as (device_answer x)) fits_too (rounds.hears r x) new step disks (rounds_on.heard (duty s) f r led.follows going below decoded_row x fits_too other))
 
-  marked_before : count n.disk (λ e. is_marked s (g e)) ≡ count n.disk (λ e. is_marked s (f e))
-  marked_before = count_same n.disk (λ e. is_marked s (g e)) (λ e. is_marked s (f e)) (λ e less. ap (is_marked s) (before e less))
+    module _ (st : r.stage ≡ stage.Reading) where
+      -- what was read fits
+      fits_read : (o : Option (List DecodedBlock)) → Fits (call_due n).1 (Told o)
+      fits_read o = subst (λ (q : Stage). Fits (rounds.call_at q (row_place slot) (place_of (VoteOf slot host)) r) (Told o)) (sym st) tt
 
-  past_before : (e : ℕ) → e < n.disk → waits s (g e) ≡ false
-  past_before e less = ap (waits s) (before e less) ∙ is.passed.past e less
+      -- nothing sound
+      pub reads_damage : (new : Round) → new ≡ rounds.drops r → new.disks ≡ r.disks → LeadsTo of (answers ++ record { disk = r.disk; heard = Told None } ∷ []) (notes_in host slot value new)
+      reads_damage new step disks = leads (Told None) (fits_read None) (rounds.drops r) new step disks (rounds_on.dropped (duty s) f r led.follows going below (Told None) refl)
 
-  -- the call was not the last on its disk
-  pub stays : (boot : Boot) (stage : Stage) (steps : Plan) → IsAt stage (record n { boot = boot; stage = stage; steps = steps }) (f n.disk ++ x ∷ []) → IsVisiting g (record n { boot = boot; stage = stage; steps = steps })
-  stays boot stage steps at =
-      let new : Notes = record n { boot = boot; stage = stage; steps = steps } in
-      record {
-        passed = record { past = past_before; dropped = ap (λ (k : ℕ). k + n.lost) left_before ∙ is.passed.dropped; marks = marked_before ∙ is.passed.marks };
-        ahead = ahead_still;
-        enough = is.enough;
-        here = subst (IsAt stage new) (sym (more_here f n.disk x)) at;
-      }
+      -- a row with this block, which is to be written or not
+      module _ (row : List DecodedBlock) (says : PBlock) (shown : says ≡ (seen_at row host).says) (new : Round) (disks : new.disks ≡ r.disks) where
+        pub writes : (block : Block128) → IsReading (seen_at row host).bytes block → number_or_zero (told_number block) ≡ (seen_at row host).sequence → (not says.mark && is_value says.inp value) ≡ true → new ≡ rounds.begins r block (body_saying (with_mark says))
+            → LeadsTo of (answers ++ record { disk = r.disk; heard = Told (Some row) } ∷ []) (notes_in host slot value new)
+        writes block read sequence due step =
+            leads (Told (Some row)) (fits_read (Some row)) (rounds.begins r block (body_saying (with_mark says))) new step disks
+            (rounds_on.write (duty s) f r led.follows going below st row block (body_saying (with_mark says))
+            (record { due = ap (λ (x : PBlock). not x.mark && is_value x.inp value) (sym shown) ∙ due; read = read; sequence = sequence; writes = ap (λ (x : PBlock). body_saying (with_mark x)) shown }))
 
-  -- it was
-  pub passes : (b m : Bool) → waits s (f n.disk ++ x ∷ []) ≡ false → is_left s (f n.disk ++ x ∷ []) ≡ b → is_marked s (f n.disk ++ x ∷ []) ≡ m → (lost marked : ℕ) → lost ≡ n.lost + cond b 0 1 → marked ≡ n.marked + cond m 1 0
-      → IsPassed s g (n.disk + 1) lost marked
-  passes b m done left marks lost marked lost_is marked_is =
-      let here = more_here f n.disk x in
-      record {
-        past = λ e less. elim (cases_eq e n.disk) [
-          | inl same ↦ ap (λ (d : ℕ). waits s (g d)) same ∙ ap (waits s) here ∙ done
-          | inr off ↦ past_before e (omega arith)
-        ];
-        dropped = counted b (count_next n.disk (λ e. is_left s (g e)) b (ap (is_left s) here ∙ left)) lost_is;
-        marks = count_next n.disk (λ e. is_marked s (g e)) m (ap (is_marked s) here ∙ marks) ∙ ap (λ (k : ℕ). k + cond m 1 0) (marked_before ∙ is.passed.marks) ∙ sym marked_is;
-      }
+        pub passes : (not says.mark && is_value says.inp value) ≡ false → new ≡ rounds.passes r says.mark → LeadsTo of (answers ++ record { disk = r.disk; heard = Told (Some row) } ∷ []) (notes_in host slot value new)
+        passes none step =
+            leads (Told (Some row)) (fits_read (Some row)) (rounds.passes r says.mark) new step disks
+            (rounds_on.pass (duty s) f r led.follows going below st row says.mark (ap (λ (x : PBlock). not x.mark && is_value x.inp value) (sym shown) ∙ none) (ap (λ (x : PBlock). x.mark) (sym shown)))
+
+  -- how it stands
+  pub status_is : (of : Setup) (answers : List Answered) → LeadsTo of answers n → r.disk < r.disks → option_map end_of n.end ≡ end_of_status (status of (on answers))
+  status_is of answers led below =
+      let f = on answers in
+      subst (λ (t : Setup). option_map end_of n.end ≡ end_of_status (status t f)) led.of
+      (by_end r.end ∙ rounds_on.end_is (duty s) Marked (Marked (count s.disks (λ d. is_marked s (f d)))) NoMajority f r led.follows below (λ held some stands. ap Marked (sym stands.count)))
     where
-      counted : (t : Bool) → count (n.disk + 1) (λ e. is_left s (g e)) ≡ count n.disk (λ e. is_left s (g e)) + cond t 1 0 → lost ≡ n.lost + cond t 0 1 → count (n.disk + 1) (λ e. is_left s (g e)) + lost ≡ n.disk + 1
-      counted true next lost_t = (let c = left_before in let was = is.passed.dropped in omega (arith, next, c, was, lost_t))
-      counted false next lost_t = (let c = left_before in let was = is.passed.dropped in omega (arith, next, c, was, lost_t))
-
--- A DISK IS DONE WITH
-
-module _ (f : Answers) (n : Notes) (lost marked : ℕ) (is : IsPassed (setup_of n) f (n.disk + 1) lost marked) (ahead : (e : ℕ) → n.disk < e → f e ≡ []) (below : n.disk < n.disks) where
-  abbrev of : Setup
-  of = setup_of n
-
-  fresh_left : (e : ℕ) → n.disk + 1 ≤ e → is_left of (f e) ≡ true
-  fresh_left e later = ap (is_left of) (ahead e (omega arith)) ∙ refl
-
-  total : count n.disks (λ e. is_left of (f e)) + lost ≡ n.disks
-  total =
-      let c = count_from n.disks (n.disk + 1) (λ e. is_left of (f e)) (omega arith) fresh_left in
-      let was = is.dropped in
-      omega arith
-
-  abbrev ended : Bool → Type 0
-  ended b = status of f ≡ (if b then due_or (visited of f) (Ended (Marked (count n.disks (λ e. is_marked of (f e))))) else Ended NoMajority)
-
-  status_by : (b : Bool) → nat_lt n.disks (2 * count n.disks (λ e. is_left of (f e))) ≡ b → ended b
-  status_by b e = ap (λ (t : Bool). if t then due_or (visited of f) (Ended (Marked (count n.disks (λ e. is_marked of (f e))))) else Ended NoMajority) e
-
-  pub too_few : n.disks ≤ 2 * lost → status of f ≡ Ended NoMajority
-  too_few many = status_by false (false_from_ne_true (nat_lt n.disks (2 * count n.disks (λ e. is_left of (f e)))) (λ t. absurd (let l = ltb-true n.disks (2 * count n.disks (λ e. is_left of (f e))) t in let c = total in omega arith)))
-
-  enough_by : 2 * lost < n.disks → nat_lt n.disks (2 * count n.disks (λ e. is_left of (f e))) ≡ true
-  enough_by few = lt-ltb n.disks (2 * count n.disks (λ e. is_left of (f e))) (let c = total in omega arith)
-
-  pub over : 2 * lost < n.disks → n.disk + 1 ≡ n.disks → status of f ≡ Ended (Marked marked)
-  over few last =
-      let none : visited of f ≡ None = below_none n.disks (λ e. waits of (f e)) (λ e less. is.past e (omega arith)) in
-      let all : count n.disks (λ e. is_marked of (f e)) ≡ marked = ap (λ (k : ℕ). count k (λ e. is_marked of (f e))) (sym last) ∙ is.marks in
-      status_by true (enough_by few)
-      ∙ ap (λ (o : Option ℕ). due_or o (Ended (Marked (count n.disks (λ e. is_marked of (f e)))))) none
-      ∙ ap (λ (k : ℕ). Ended (Marked k)) all
-
--- a call is due on the disk that is visited
-pub due_here : (f : Answers) (n : Notes) → IsVisiting f n → n.disk < n.disks → waits (setup_of n) (f n.disk) ≡ true → is_left (setup_of n) (f n.disk) ≡ true → status (setup_of n) f ≡ Due n.disk
-due_here f n is below waiting left =
-    let s = setup_of n in
-    let here : visited s f ≡ Some n.disk = below_some n.disks (λ e. waits s (f e)) n.disk (record { below = below; passes = waiting; none = is.passed.past }) in
-    let unit : ℕ = 1 in
-    let one : cond (is_left s (f n.disk)) 1 0 ≡ unit = ap (λ (t : Bool). cond t 1 0) left in
-    let c = count_from n.disks (suc n.disk) (λ e. is_left s (f e)) (omega arith) (λ e later. ap (is_left s) (is.ahead e (omega arith)) ∙ refl) in
-    let was = is.passed.dropped in
-    let few = is.enough in
-    let enough : nat_lt n.disks (2 * count n.disks (λ e. is_left s (f e))) ≡ true = lt-ltb n.disks (2 * count n.disks (λ e. is_left s (f e))) (omega (arith, c, one, was, few)) in
-    ap (λ (t : Bool). if t then due_or (visited s f) (Ended (Marked (count n.disks (λ e. is_marked s (f e))))) else Ended NoMajority) enough
-    ∙ ap (λ (o : Option ℕ). due_or o (Ended (Marked (count n.disks (λ e. is_marked s (f e)))))) here
+      by_end : (e : Option round_end.End) → option_map end_of (option_map (end_by end.Marked end.NoMajority) e) ≡ option_map (end_by Marked NoMajority) e
+      by_end None = refl
+      by_end (Some (round_ends.Over held)) = refl
+      by_end (Some round_ends.NoMajority) = refl

@@ -3,7 +3,6 @@
 
 mod end;
 mod law;
-mod notes;
 mod one_marking;
 
 pub use end::End;

@@ -1,18 +1,23 @@
-ghost use Rattle.std.specs.Prelude.{◌≡◌, ◌<◌, ◌≤◌, ◌+◌, ◌*◌, ◌++◌, ◌∷◌, [], List, Some, None, length};
+ghost use Rattle.std.specs.Prelude.{◌≡◌, ◌<◌, ◌≤◌, ◌+◌, ◌*◌, ◌&&◌, ◌++◌, ◌∷◌, [], ℕ, List, Some, None, length, not};
 ghost use Rattle.std.specs.Option.{option_map};
 ghost use Rattle.torn_block.specs.declared.layout.TheConstants.{HOSTS, DISKS, ROW_LENGTH};
+ghost use Rattle.torn_block.specs.Layout.{cluster_version};
 ghost use Rattle.paxos_block.specs.Places.{row_place};
-ghost use Rattle.attempt.specs.Answers.{Answered, on};
+ghost use Rattle.paxos_block.specs.Row.{decoded_row};
+ghost use Rattle.attempt.specs.Answers.{Answered, Told, on};
 ghost use Rattle.attempt.specs.History.{Fits};
 ghost use Rattle.phases.specs.Calls.{call_of_need, heard_of, IsWithin};
+ghost use Rattle.phases.specs.Moves.{ReadsAs};
 ghost use Rattle.marks.specs.Kept.{IsSameMarking, LeadsTo, answer_of, call_due, end_of, end_of_status};
-ghost use Rattle.marks.specs.Status.{Setup, status, next_call};
+ghost use Rattle.marks.specs.Status.{Setup, is_value, status, next_call};
+ghost use Rattle.rounds.specs.Kept.{end_by};
 
 use crate::end::End;
-use crate::notes::Notes;
-use paxos_block::Value;
+use paxos_block::{PBlock, Row, Value, block_place, encode, read_row, row_place};
 use phases::{Heard, Need};
+use rounds::{Round, Stage};
 use std::marker::Model;
+use torn_block::{ClusterLayout, ROW_LENGTH};
 
 /// A marking of a slot whose value the host has learned: on each disk it reads the slot's row, and where the host's own
 /// block holds the value it is written anew, the same but for its mark.
@@ -21,18 +26,21 @@ use std::marker::Model;
 /// number.
 #[derive(Drop)]
 pub struct Marking {
-    notes: Notes,
+    host: u8,
+    slot: u16,
+    /// What was learned of the slot.
+    value: Value,
+    round: Round,
 }
 
 impl Model for Marking {
-    ghost use Rattle.marks.specs.declared.notes.Notes.{Notes};
-    ghost use Rattle.marks.specs.Kept.{IsSound};
+    ghost use Rattle.marks.specs.Notes.{Notes, IsSound, notes_in};
 
     ghost Value = { Notes };
 
-    ghost view = { λ marking. marking.notes };
+    ghost view = { λ marking. notes_in marking.host marking.slot marking.value marking.round };
 
-    ghost invariant = { λ marking. IsSound marking.notes };
+    ghost invariant = { λ marking. IsSound marking.host marking.round };
 }
 
 impl Marking {
@@ -46,7 +54,10 @@ impl Marking {
         ensures slot { result.slot ≡ slot }
     {
         Marking {
-            notes: Notes::new(host, slot, disks, value),
+            host,
+            slot,
+            value,
+            round: Round::new(disks),
         }
     }
 
@@ -60,10 +71,11 @@ impl Marking {
         ensures range { IsWithin (row_place self.now.slot + ROW_LENGTH) result.call }
         ensures disk { result.disk < self.now.disks }
     {
-        Need {
-            disk: self.notes.disk,
-            call: self.notes.call(),
-        }
+        let slot = u32::from(self.slot);
+        self.round.call(
+            row_place::<ClusterLayout>(slot),
+            block_place::<ClusterLayout>(slot, self.host),
+        )
     }
 
     /// Hears the answer to the call that is due.
@@ -76,7 +88,49 @@ impl Marking {
             length (answers ++ answer_of self.old heard.now ∷ []) ≤ 9 * s.disks }
         ensures same { IsSameMarking self.old self.new }
     {
-        self.notes.hear(heard);
+        match heard {
+            Heard::Told(bytes) => self.hear_row(bytes),
+            _ => self.round.hear(heard),
+        }
+    }
+
+    // The bytes of the row were read. The row is a local variable here, and not in the caller: a function sets up its locals at
+    // each call.
+    #[inline(never)]
+    fn hear_row(&mut self, bytes: &[u8; ROW_LENGTH])
+        requires going { self.old.end ≡ None }
+        requires stage { self.old.round.stage ≡ Stage.Reading }
+        ensures same { IsSameMarking self.old self.new }
+        ensures leads { (s : Setup) (answers : List Answered) → LeadsTo s answers self.old →
+            LeadsTo s (answers ++ record { disk = self.old.disk; heard = Told (decoded_row bytes.now) } ∷ []) self.new }
+    {
+        let mut row = Row::blank();
+        match read_row::<ClusterLayout>(&mut row, bytes) {
+            Ok(()) => self.take_row(&row),
+            Err(_) => self.round.drop_disk(),
+        }
+    }
+
+    // The row was read. The own block is written where it holds the value without a mark.
+    fn take_row(&mut self, row: &Row<Value>)
+        requires going { self.old.end ≡ None }
+        requires stage { self.old.round.stage ≡ Stage.Reading }
+        requires row { (bytes : List ℕ) × ReadsAs cluster_version (λ value. value) bytes row.now }
+        ensures same { IsSameMarking self.old self.new }
+        ensures leads { (s : Setup) (answers : List Answered) (bytes : List ℕ) → ReadsAs cluster_version (λ value. value) bytes row.now → LeadsTo s answers self.old →
+            LeadsTo s (answers ++ record { disk = self.old.disk; heard = Told (decoded_row bytes) } ∷ []) self.new }
+    {
+        let cell = row.cell(self.host);
+        if is_to_mark(&cell.says, &self.value) {
+            let marked = PBlock {
+                mark: true,
+                ..cell.says
+            };
+            self.round
+                .write(&cell.block, &encode::<ClusterLayout>(self.host, &marked));
+        } else {
+            self.round.pass(cell.says.mark);
+        }
     }
 
     /// How it has ended, if it has.
@@ -85,6 +139,26 @@ impl Marking {
             option_map end_of result ≡ end_of_status (status s (on heard)) }
         ensures told { result ≡ self.now.end }
     {
-        self.notes.end
+        ended(self.round.end)
+    }
+}
+
+// The end of a round, of a marking's.
+fn ended(end: Option<rounds::End>) -> Option<End>
+    ensures { result ≡ option_map (end_by End.Marked End.NoMajority) end }
+{
+    match end? {
+        rounds::End::Over { held } => Some(End::Marked { count: held }),
+        rounds::End::NoMajority => Some(End::NoMajority),
+    }
+}
+
+// Whether a block holds this value without a mark.
+fn is_to_mark(says: &PBlock<Value>, value: &Value) -> bool
+    ensures { result ≡ (not says.now.mark && is_value says.now.inp value.now) }
+{
+    match says.inp {
+        Some(inp) => !says.mark && inp == *value,
+        None => false,
     }
 }

@@ -1,13 +1,14 @@
-use Rattle.std.proofs.Common.{◌≡◌, ◌∙◌, ap, sym, subst, Some, None, arith}
-use Rattle.beats.specs.Answers.{on}
-use Rattle.beats.specs.declared.notes.Notes.{Notes}
+use Rattle.std.proofs.Common.{◌∙◌, ap, sym, subst, ℕ, Some}
+use Rattle.paxos_block.specs.Places.{area_place}
+use Rattle.rounds.specs.Kept as rounds
 use Rattle.beats.specs.Kept.{LeadsTo}
-use Rattle.beats.proofs.Answering.{call_is}
+use Rattle.beats.specs.Notes.{Notes}
+use Rattle.beats.proofs.Beating.{next, still_going}
 use Rattle.beats.proofs.one_beat.Beat.call.Goals as goal
 
 pub returns-clause-next : goal.returns-clause-next
 returns-clause-next c s heard leads =
-    let n = c.self.inside.notes in
-    let before = subst (LeadsTo s heard) (sym c.self.view_is) leads in
-    let going : n.end ≡ None = ap (λ (m : Notes). m.end) c.self.view_is ∙ c.requires in
-    call_is s (on heard) n before.follows going (omega arith) ∙ ap Some (sym c.call.ensures.due)
+    let p = c.self.inside in
+    let led = subst (LeadsTo s heard) (sym c.self.view_is) leads in
+    next p.host p.round p.readings s heard led (still_going p.round.end (ap (λ (m : Notes). m.end) c.self.view_is ∙ c.requires)) c.self.invariant.sound.visits_one
+    ∙ ap (λ (place : ℕ). Some (rounds.call_due area_place place p.round)) (sym c.beat_place.ensures) ∙ ap Some (sym c.call.ensures.due)

@@ -1,15 +1,16 @@
-use Rattle.std.proofs.Common.{◌≡◌, sym, subst}
+use Rattle.std.proofs.Common.{◌≡◌, ◌∙◌, ap, sym, subst}
 use Rattle.std.specs.Option.{option_map}
 use Rattle.beats.specs.Answers.{on}
 use Rattle.beats.specs.Kept.{LeadsTo, end_of, end_of_status}
+use Rattle.beats.specs.Notes.{Notes, notes_in}
 use Rattle.beats.specs.Status.{status}
-use Rattle.beats.specs.declared.notes.Notes.{Notes}
-use Rattle.beats.proofs.Answering.{status_is}
+use Rattle.beats.proofs.Beating.{status_is}
 use Rattle.beats.proofs.one_beat.Beat.end.Goals as goal
 
 pub returns-clause-end : goal.returns-clause-end
 returns-clause-end c s heard leads =
-    let n = c.self.inside.notes in
-    let before = subst (LeadsTo s heard) (sym c.self.view_is) leads in
-    subst (λ (m : Notes). option_map (end_of m) n.end ≡ end_of_status (status s (on heard))) c.self.view_is
-    (status_is s (on heard) n before.follows c.self.invariant.visits_one)
+    let p = c.self.inside in
+    let n = notes_in p.host p.round p.readings in
+    let led = subst (LeadsTo s heard) (sym c.self.view_is) leads in
+    subst (λ (m : Notes). option_map (end_of m) c.ended.result ≡ end_of_status (status s (on heard))) c.self.view_is
+    (ap (option_map (end_of n)) c.ended.ensures ∙ status_is p.host p.round p.readings s heard led c.self.invariant.sound.visits_one)

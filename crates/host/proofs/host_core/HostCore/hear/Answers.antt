@@ -1,6 +1,6 @@
 use Rattle.std.proofs.Common.{◌≡◌, ◌∙◌, Option, None, sym, ap, subst}
-use Rattle.beats.specs.declared.notes.Notes.{Notes}
-use Rattle.marks.specs.declared.notes.Notes as mark_notes
+use Rattle.beats.specs.Notes.{Notes}
+use Rattle.marks.specs.Notes as mark_notes
 use Rattle.host.specs.Host.{Memory}
 use Rattle.host.specs.Kept.{Kept, LeadsTo, BeatLeadsTo, MarkingLeadsTo, due_call}
 use Rattle.host.proofs.Hosts.{from_attempt, no_beat_nine, no_marking_nine, none_is}

@@ -1,14 +1,17 @@
-use Rattle.std.proofs.Common.{◌≡◌, ◌∙◌, ap, sym, subst, Some, None}
-use Rattle.attempt.specs.Answers.{on}
-use Rattle.marks.specs.Status.{Setup, next_call}
-use Rattle.marks.specs.declared.notes.Notes.{Notes}
-use Rattle.marks.specs.Kept.{LeadsTo, call_due}
-use Rattle.marks.proofs.Answering.{call_is}
+use Rattle.std.proofs.Common.{◌≡◌, ◌∙◌, ap, ap₂, sym, subst, ℕ, Some, arith}
+use Rattle.paxos_block.specs.Places.{place_of, row_place, VoteOf}
+use Rattle.marks.specs.Kept.{LeadsTo}
+use Rattle.marks.specs.Notes.{Notes}
+use Rattle.rounds.specs.Kept as rounds
+use Rattle.marks.proofs.Going.{next, still_going}
 use Rattle.marks.proofs.one_marking.Marking.call.Goals as goal
 
 pub returns-clause-next : goal.returns-clause-next
 returns-clause-next c s heard leads =
-    let n = c.self.inside.notes in
-    let before = subst (LeadsTo s heard) (sym c.self.view_is) leads in
-    let going : n.end ≡ None = ap (λ (m : Notes). m.end) c.self.view_is ∙ c.requires in
-    subst (λ (t : Setup). next_call t (on heard) ≡ Some (call_due n)) before.of (call_is (on heard) n before.follows going c.self.invariant.visits_one) ∙ ap Some (sym c.call.ensures.due)
+    let p = c.self.inside in
+    let led = subst (LeadsTo s heard) (sym c.self.view_is) leads in
+    let at : p.slot ≡ c.from-slot.result = omega arith in
+    let reads = c.row_place.ensures ∙ ap row_place (sym at) in
+    let place = c.block_place.ensures ∙ ap (λ (slot : ℕ). place_of (VoteOf slot p.host)) (sym at) in
+    next p.host p.slot p.value p.round s heard led (still_going p.round.end (ap (λ (m : Notes). m.end) c.self.view_is ∙ c.requires)) c.self.invariant.sound.visits_one
+    ∙ ap₂ (λ (reads place : ℕ). Some (rounds.call_due reads place p.round)) (sym reads) (sym place) ∙ ap Some (sym c.call.ensures.due)

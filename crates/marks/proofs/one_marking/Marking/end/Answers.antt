@@ -1,14 +1,11 @@
-use Rattle.std.proofs.Common.{◌≡◌, sym, subst}
+use Rattle.std.proofs.Common.{◌∙◌, ap, sym, subst}
 use Rattle.std.specs.Option.{option_map}
-use Rattle.attempt.specs.Answers.{on}
-use Rattle.marks.specs.Kept.{LeadsTo, end_of, end_of_status}
-use Rattle.marks.specs.Status.{Setup, status}
-use Rattle.marks.proofs.Answering.{status_is}
+use Rattle.marks.specs.Kept.{LeadsTo, end_of}
+use Rattle.marks.proofs.Going.{status_is}
 use Rattle.marks.proofs.one_marking.Marking.end.Goals as goal
 
 pub returns-clause-end : goal.returns-clause-end
 returns-clause-end c s heard leads =
-    let n = c.self.inside.notes in
-    let before = subst (LeadsTo s heard) (sym c.self.view_is) leads in
-    subst (λ (t : Setup). option_map end_of n.end ≡ end_of_status (status t (on heard))) before.of
-    (status_is (on heard) n before.follows c.self.invariant.visits_one)
+    let p = c.self.inside in
+    let led = subst (LeadsTo s heard) (sym c.self.view_is) leads in
+    ap (option_map end_of) c.ended.ensures ∙ status_is p.host p.slot p.value p.round s heard led c.self.invariant.sound.visits_one

@@ -1,32 +1,34 @@
-use Rattle.std.proofs.Common.{◌≡◌, ◌∙◌, ap, sym, subst, ℕ, Option, Some, None, ◌++◌, ◌∷◌, [], refl}
-use Rattle.disk.specs.Disk as device
-use Rattle.attempt.specs.Answers.{Answers, on}
-use Rattle.attempt.specs.History.{Fits, IsAnswerTo}
+use Rattle.std.proofs.Common.{◌∙◌, ◌++◌, ◌∷◌, [], List, ℕ, ap, sym, subst}
+use Rattle.attempt.specs.Answers.{Answered}
+use Rattle.attempt.specs.History.{Fits}
 use Rattle.phases.specs.Calls.{heard_of}
-use Rattle.marks.specs.Status.{Setup, next_call}
-use Rattle.marks.specs.declared.notes.Notes.{Notes}
-use Rattle.marks.specs.Kept.{LeadsTo, Follows, answer_of, call_due}
-use Rattle.marks.proofs.Answering.{call_is}
-use Rattle.attempt.proofs.Hearing.{history_more}
+use Rattle.phases.specs.declared.heard.Heard as code_heard
+use Rattle.marks.specs.Kept.{IsSameMarking, LeadsTo, answer_of, call_due}
+use Rattle.marks.specs.Notes.{Notes, notes_in}
+use Rattle.marks.specs.Status.{Setup}
+use Rattle.marks.proofs.Going.{hears, still_going}
 use Rattle.marks.proofs.Histories.{bound}
-use Rattle.attempt.proofs.More.{on_more}
 use Rattle.marks.proofs.one_marking.Marking.hear.Goals as goal
 
-pub returns-clause-leads : goal.returns-clause-leads
-returns-clause-leads c s answers leads =
-    let n = c.self.inside.notes in
-    let x = answer_of n c.args.heard.now in
-    let before = subst (LeadsTo s answers) (sym c.self.view_is) leads in
-    let going : n.end ≡ None = ap (λ (m : Notes). m.end) c.self.view_is ∙ c.requires.going in
-    let fits = subst (λ (m : Notes). Fits (call_due m).1 (heard_of c.args.heard.now)) (sym c.self.view_is) c.requires.fits in
-    let next = subst (λ (t : Setup). next_call t (on answers) ≡ Some (call_due n)) before.of (call_is (on answers) n before.follows going c.self.invariant.visits_one) in
-    let answered : IsAnswerTo (Some (call_due n)) x = (refl, fits) in
-    subst (λ (m : Notes). LeadsTo s (answers ++ answer_of m c.args.heard.now ∷ []) c.hear.new.self) c.self.view_is
-    (record {
-      of = c.hear.ensures.same ∙ before.of;
-      history = history_more (next_call s) answers x before.history (subst (λ (o : Option (ℕ × device.Call)). IsAnswerTo o x) (sym next) answered);
-      follows = subst (λ (g : Answers). Follows g c.hear.new.self) (sym (on_more answers x)) (c.hear.ensures.follows (on answers) before.follows);
-    })
+pub returns-in-Told-clause-leads : goal.returns-in-Told-clause-leads
+returns-in-Told-clause-leads c s answers leads =
+    subst (λ (x : code_heard.Heard (List ℕ)). LeadsTo s (answers ++ answer_of c.args.self.now x ∷ []) c.hear_row.new.self) (sym c.in-Told.is) (c.hear_row.ensures.leads s answers leads)
 
-pub returns-clause-bound : goal.returns-clause-bound
-returns-clause-bound c s answers leads = bound s (answers ++ answer_of c.args.self.now c.args.heard.now ∷ []) (returns-clause-leads c s answers leads).history
+pub returns-in-Told-clause-bound : goal.returns-in-Told-clause-bound
+returns-in-Told-clause-bound c s answers leads = bound s (answers ++ answer_of c.args.self.now c.args.heard.now ∷ []) (returns-in-Told-clause-leads c s answers leads).history
+
+pub returns-in_default : goal.returns-in_default
+returns-in_default c =
+    let p = c.self.inside in
+    let new : Notes = notes_in p.host p.slot p.value c.hear.new.self in
+    let leads : (s : Setup) (answers : List Answered) → LeadsTo s answers c.args.self.now → LeadsTo s (answers ++ answer_of c.args.self.now c.args.heard.now ∷ []) new = λ s answers leads.
+    (let led = subst (LeadsTo s answers) (sym c.self.view_is) leads in
+    let going = still_going p.round.end (ap (λ (m : Notes). m.end) c.self.view_is ∙ c.requires.going) in
+    let fits = subst (λ (m : Notes). Fits (call_due m).1 (heard_of c.args.heard.now)) (sym c.self.view_is) c.requires.fits in
+    subst (λ (m : Notes). LeadsTo s (answers ++ answer_of m c.args.heard.now ∷ []) new) c.self.view_is
+    (hears p.host p.slot p.value p.round s answers led going c.self.invariant.sound.visits_one c.args.heard.now fits c.in_default.not-Told c.hear.new.self c.hear.ensures.step c.hear.ensures.disks)) in
+    record {
+      leads = leads;
+      bound = λ s answers led. bound s (answers ++ answer_of c.args.self.now c.args.heard.now ∷ []) (leads s answers led).history;
+      same = subst (λ (m : Notes). IsSameMarking m new) c.self.view_is (ap (λ (m : ℕ). record { host = p.host; slot = p.slot; disks = m; value = p.value }) c.hear.ensures.disks);
+    }
