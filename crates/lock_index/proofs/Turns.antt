@@ -1,5 +1,5 @@
 -- Whose turn it is, and what a grant leaves of a queue.
-use Rattle.std.proofs.Common.{◌≡◌, ◌≤◌, ◌<◌, ◌+◌, ℕ, suc, Bool, true, false, cond, not, ◌&&◌, List, [], ◌∷◌, ◌++◌, length, Some, None, IsSome, refl, sym, ap, ◌∙◌, arith}
+use Rattle.std.proofs.Common.{◌≡◌, ◌<◌, ◌+◌, ℕ, suc, Bool, true, false, cond, not, ◌&&◌, List, [], ◌∷◌, ◌++◌, length, Some, None, refl, sym, ap, ◌∙◌, arith}
 use Rattle.std.specs.List.{filter, find}
 use Rattle.std.proofs.lemmas.Bool.{eq-eqb}
 use Rattle.std.proofs.lemmas.List.{append-nil}
@@ -8,7 +8,7 @@ use Rattle.lock_index.specs.declared.record.LockRecord.{LockRecord}
 use Rattle.lock_command.specs.declared.state.LockState.{LockState}
 use Rattle.lock_command.specs.declared.state.LockState.TheVariants.{Granted, Converting, Waiting}
 use Rattle.lock_index.specs.State.{is_converting, is_waiting, goal_of}
-use Rattle.lock_index.specs.Locks.{is_on, is_lock, lock_in, without, put, converts_on, waits_on, conversions, waiting, queue, head_of, option_or, admits, granted, grant_from, settled, IsDistinct}
+use Rattle.lock_index.specs.Locks.{is_on, is_lock, without, put, converts_on, waits_on, conversions, waiting, queue, head_of, option_or, admits, granted, grant_from, settled, IsDistinct}
 use Rattle.lock_index.proofs.Parts.{filter-filter}
 use Rattle.lock_index.proofs.Numbered.{numbered, numbered-cons, numbered-append, numbered-parts, without_absent}
 
@@ -116,31 +116,3 @@ length-queue-granted locks name r distinct turn =
     let before : length (queue locks name) ≡ suc (length first.0) = ap length first.1 in
     let after : length (queue (put locks (granted r)) name) ≡ length first.0 = ap length (queue-granted locks name r first.0 distinct first.1) in
     omega arith
-
--- what a search finds, a search for its lock number finds too
-pub found_lock : (P : LockRecord → Bool) (locks : List LockRecord) (r : LockRecord) → find P locks ≡ Some r → IsSome (lock_in locks r.lock)
-found_lock P [] r h = let no : ⊥ = cc in absurd no
-found_lock P (x ∷ xs) r h =
-    elim (P x) as (λ b. cond b (Some x) (find P xs) ≡ Some r → IsSome (cond (is_lock r.lock x) (Some x) (find (is_lock r.lock) xs))) [
-      | true ↦ λ e.
-          let same : x ≡ r = cc in
-          let own : is_lock r.lock x ≡ true = ap (λ y. is_lock r.lock y) same ∙ is_own r in
-          rw own refl
-      | false ↦ λ e. elim (is_lock r.lock x) as (λ b. IsSome (cond b (Some x) (find (is_lock r.lock) xs))) [ true ↦ refl | false ↦ found_lock P xs r e ]
-    ] h
-
-length-filter-le : {X : Type 0} (P : X → Bool) (xs : List X) → length (filter P xs) ≤ length xs
-length-filter-le P [] = omega arith
-length-filter-le P (x ∷ xs) = elim (P x) as (λ b. length (cond b (x ∷ filter P xs) (filter P xs)) ≤ suc (length xs)) [
-  | true ↦ omega (arith, length-filter-le P xs)
-  | false ↦ omega (arith, length-filter-le P xs)
-]
-
--- to take a lock away that has a record makes the list shorter
-pub length-without : (locks : List LockRecord) (lock : ℕ) → IsSome (lock_in locks lock) → length (without locks lock) + 1 ≤ length locks
-length-without [] lock there = let no : ⊥ = cc in absurd no
-length-without (r ∷ rest) lock there =
-    elim (is_lock lock r) as (λ b. IsSome (cond b (Some r) (find (is_lock lock) rest)) → length (cond (not b) (r ∷ without rest lock) (without rest lock)) + 1 ≤ suc (length rest)) [
-      | true ↦ λ e. omega (arith, length-filter-le (λ o. not (is_lock lock o)) rest)
-      | false ↦ λ e. omega (arith, length-without rest lock e)
-    ] there
