@@ -27,11 +27,11 @@ one_for h place (Submitting command) slot reply = omega arith
 one_for h place Recovering slot reply = omega arith
 
 -- no beat, marking or look is under way
-abbrev Rests : Memory → Type 0
+abbrev pub Rests : Memory → Type 0
 Rests m = (m.beats.heard ≡ None) × (m.marking ≡ None) × (m.looking ≡ None)
 
 -- so none has to keep quiet
-quiet : (m : Memory) → Rests m → IsSilentInBeat m m.beats.heard
+pub quiet : (m : Memory) → Rests m → IsSilentInBeat m m.beats.heard
 quiet m rest = subst (IsSilentInBeat m) (sym rest.0) (subst (IsSilentInMarking m) (sym rest.1) (subst (IsSilentInLook m) (sym rest.2) tt))
 
 module _ (c : Shape) (h place : ℕ) (sub : Option Command) (t : Doing) (kept : IsKeptFor t.operation sub) (n : ℕ) where
@@ -50,7 +50,7 @@ module _ (c : Shape) (h place : ℕ) (sub : Option Command) (t : Doing) (kept : 
   going_if m rest tries true is more = begun m rest tries more (ltb-true (length m.learned) c.slots is)
   going_if m rest tries false is more = full m rest t.operation more
 
-  going : (m : Memory) → Rests m → (tries : ℕ) → n ≤ length m.learned → So (goes_on c m t.operation tries)
+  pub going : (m : Memory) → Rests m → (tries : ℕ) → n ≤ length m.learned → So (goes_on c m t.operation tries)
   going m rest tries more = going_if m rest tries (nat_lt (length m.learned) c.slots) refl more
 
   refused : (m : Memory) → Rests m → (r : Refusal) → n ≤ length m.learned → So (says m (Refused r))

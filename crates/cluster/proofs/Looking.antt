@@ -5,7 +5,7 @@ use Rattle.attempt.specs.Looking.{OnlyReads}
 use Rattle.beats.specs.Answers as beat_answers
 use Rattle.slot_log.specs.Shape.{Shape}
 use Rattle.host.specs.Host.{Doing, Marking, Memory, idles, next_of, next_doing}
-use Rattle.world.specs.Entry.{Look, Called}
+use Rattle.world.specs.Entry.{Called}
 use Rattle.world.proofs.Looks.{reads_only}
 use Rattle.cluster_tie.specs.Parts.{Placed, Own, adds}
 use Rattle.cluster.specs.declared.fault.HostFault.{HostFault}
@@ -14,7 +14,10 @@ use Rattle.cluster.specs.Cluster.{IsStep, AreSteps, GoesOn}
 use Rattle.cluster.specs.Looks.{IsReading, AreReadings, WritesNothing}
 use Rattle.cluster.specs.Operations.{Stops, LookingOn, IsCarriedInMarking, IsCarriedBeside, IsCarried, Carries}
 use Rattle.cluster.specs.Seat.{host_in, due_in}
-use Rattle.cluster.proofs.Operating.{IsUnderWay, Tries, Beats, Marks, Looks, due_task, steps_on, looking_by}
+use Rattle.cluster.specs.Tasks.{begun_by, under_way}
+use Rattle.cluster.specs.declared.task.Task.{Task}
+use Rattle.cluster.specs.declared.task.Task.TheVariants as task
+use Rattle.cluster.proofs.Operating.{IsUnderWay, Tries, Beats, Marks, Looks, due_task, steps_on, task_begun}
 
 -- the call that is due only reads
 reads_next : (c : Shape) (own new : Own) → Carries c LookingOn own → IsStep c own new → OnlyReads (due_in c own).1
@@ -58,16 +61,19 @@ all_read c own (x ∷ xs) carries steps = (reading steps.0, all_read c (adds own
         subst IsReading (sym (ap (λ (p : Placed). p.1) same)) (reads_next c own (adds own x.0 x.1) carries step)
 
 -- a look that has begun
-pub looked : (c : Shape) (old begun new : Own) (at : ℕ) → idles (host_in c old) ≡ true → begun ≡ adds old at (Look old.number) → GoesOn c begun new → WritesNothing old new
-looked c old begun new at idle is goes = record {
-  added = (at, Look old.number) ∷ goes.added;
-  is = ap (λ (o : Own). o.entries) goes.is ∙ ap (λ (o : Own). o.entries ++ goes.added) is ∙ append_assoc old.entries ((at, Look old.number) ∷ []) goes.added;
-  reads = (tt, all_read c begun goes.added (looking_by c old begun at idle is) goes.steps);
+pub looked : (c : Shape) (t : Task) (old begun new : Own) (at : ℕ) → t ≡ task.Look → idles (host_in c old) ≡ true → begun ≡ adds old at (begun_by old.number t) → GoesOn c begun new → WritesNothing old new
+looked c t old begun new at look idle is goes = record {
+  added = (at, begun_by old.number t) ∷ goes.added;
+  is = ap (λ (o : Own). o.entries) goes.is ∙ ap (λ (o : Own). o.entries ++ goes.added) is ∙ append_assoc old.entries ((at, begun_by old.number t) ∷ []) goes.added;
+  reads = (
+    subst (λ (u : Task). IsReading (begun_by old.number u)) (sym look) tt,
+    all_read c begun goes.added (subst (λ (u : Task). Carries c (under_way u) begun) look (task_begun c t old begun at idle is)) goes.steps,
+  );
 }
 
 -- and one that has stopped
-pub stopped : (c : Shape) (f : HostFault) (old begun new : Own) (at : ℕ) → idles (host_in c old) ≡ true → begun ≡ adds old at (Look old.number) → Stops c f begun new → WritesNothing old new
-stopped c f old begun new at idle is stops = looked c old begun new at idle is (goes f stops)
+pub stopped : (c : Shape) (t : Task) (f : HostFault) (old begun new : Own) (at : ℕ) → t ≡ task.Look → idles (host_in c old) ≡ true → begun ≡ adds old at (begun_by old.number t) → Stops c f begun new → WritesNothing old new
+stopped c t f old begun new at look idle is stops = looked c t old begun new at look idle is (goes f stops)
   where
     goes : (g : HostFault) → Stops c g begun new → GoesOn c begun new
     goes (fault.Refused r) s = s.0

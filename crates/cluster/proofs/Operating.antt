@@ -27,12 +27,18 @@ use Rattle.cluster.specs.declared.fault.HostFault.{HostFault}
 use Rattle.cluster.specs.declared.fault.HostFault.TheVariants as fault
 use Rattle.cluster.specs.declared.receipt.Receipt.{Receipt}
 use Rattle.cluster.specs.Cluster.{IsStep, Ends, AreSteps, GoesOn}
+use Rattle.cluster.specs.declared.operate.Resumed.{Resumed}
+use Rattle.cluster.specs.declared.operate.Resumed.TheVariants as resumed
 use Rattle.cluster.specs.declared.operate.Resumed.TheVariants.{Submitted}
+use Rattle.cluster.specs.Tasks.{begun_by, said_by, under_way}
+use Rattle.cluster.specs.declared.task.Task.{Task}
+use Rattle.cluster.specs.declared.task.Task.TheVariants as task
 use Rattle.cluster.specs.Operations.{IsLast, HasAnswered, Stops, HostTask, Attempting, Beating, MarkingSlot, LookingOn, IsAnswer, IsCarriedInLook, IsCarriedInMarking, IsCarriedBeside, IsCarried, HasReceipt, Carries, IsRefusedBy}
 use Rattle.cluster.specs.Receipts.{receipt_by, receipts_of, doing_of}
 use Rattle.cluster.specs.Seat.{host_in, due_in, IsSilentInLook, IsSilentInMarking, IsSilentInBeat, IsDoing}
 use Rattle.cluster.proofs.Adding.{host_adds, receipts_adds}
 use Rattle.cluster.proofs.Goes.{more}
+use Rattle.cluster.proofs.Heard.{Rests}
 
 -- WHAT MAY BE ANSWERED
 
@@ -58,10 +64,6 @@ recovers Recovering learned is = refl
 
 abbrev So : HostTask → Memory → Type 0
 So task m = IsCarried task m m.doing
-
--- no beat, marking or look is under way
-abbrev Rests : Memory → Type 0
-Rests m = (m.beats.heard ≡ None) × (m.marking ≡ None) × (m.looking ≡ None)
 
 -- so the task is over
 over : (task : HostTask) (m : Memory) → Rests m → IsAnswer task m.learned m.said → IsCarriedBeside task m m.beats.heard
@@ -303,71 +305,46 @@ idle_rests m idle = go m.doing idle
     go None is = by_beat m.beats.heard m.marking m.looking is
     go (Some t) is = absurd (cc is)
 
--- an operation begins at an idle host
-begun : (c : Shape) (o : Operation) (tries : ℕ) (own : Own) (at : ℕ) (e : Filled) → ((m : Memory) → host_step c own.number (Running m) e ≡ Running (goes_on c m o tries)) → (host : Host) → host_in c own ≡ host → idles host ≡ true → Carries c (Attempting o) (adds own at e)
-begun c o tries own at e step Stopped is idle = absurd (cc idle)
-begun c o tries own at e step (Running m) is idle =
-    let now : host_in c (adds own at e) ≡ Running (goes_on c m o tries) = host_adds c own at e ∙ ap (λ (s : Host). host_step c own.number s e) is ∙ step m in
-    record { memory = goes_on c m o tries; is = now; doing = going c o m tries (idle_rests m idle); receipt = none (nat_lt (length m.learned) c.slots) }
+-- where it begins with something, it carries that out
+begun : (c : Shape) (k : HostTask) (own : Own) (at : ℕ) (e : Filled) (goes : Memory → Memory) → ((m : Memory) → host_step c own.number (Running m) e ≡ Running (goes m)) → ((m : Memory) → Rests m → So k (goes m))
+    → ((m : Memory) → HasReceipt c (adds own at e) k (goes m).said) → (host : Host) → host_in c own ≡ host → idles host ≡ true → Carries c k (adds own at e)
+begun c k own at e goes step so receipt Stopped is idle = absurd (cc idle)
+begun c k own at e goes step so receipt (Running m) is idle = record {
+  memory = goes m;
+  is = host_adds c own at e ∙ ap (λ (s : Host). host_step c own.number s e) is ∙ step m;
+  doing = so m (idle_rests m idle);
+  receipt = receipt m;
+}
+
+-- no receipt yet
+none_begun : (c : Shape) (new : Own) (o : Operation) (tries : ℕ) (m : Memory) → HasReceipt c new (Attempting o) (goes_on c m o tries).said
+none_begun c new Recovering tries m = tt
+none_begun c new (Submitting command) tries m = go (nat_lt (length m.learned) c.slots)
   where
-    none_by : (p : Operation) (learned : ℕ) (new : Own) → HasReceipt c new (Attempting p) (Some (full_answer p learned))
-    none_by (Submitting command) learned new = tt
-    none_by Recovering learned new = tt
+    go : (b : Bool) → HasReceipt c new (Attempting (Submitting command)) (if b then begins m (Submitting command) tries else says m (full_answer (Submitting command) (length m.learned))).said
+    go true = tt
+    go false = tt
 
-    none_yet : (p : Operation) (new : Own) → HasReceipt c new (Attempting p) None
-    none_yet (Submitting command) new = tt
-    none_yet Recovering new = tt
-
-    none : (b : Bool) → HasReceipt c (adds own at e) (Attempting o) (if b then begins m o tries else says m (full_answer o (length m.learned))).said
-    none true = none_yet o (adds own at e)
-    none false = none_by o (length m.learned) (adds own at e)
-
-pub submitted : (c : Shape) (command : Command) (tries : ℕ) (own : Own) (at : ℕ) → idles (host_in c own) ≡ true → Carries c (Attempting (Submitting command)) (adds own at (Submit own.number command tries))
-submitted c command tries own at idle = begun c (Submitting command) tries own at (Submit own.number command tries) (λ m. refl) (host_in c own) refl idle
-
-pub recovering : (c : Shape) (tries : ℕ) (own : Own) (at : ℕ) → idles (host_in c own) ≡ true → Carries c (Attempting Recovering) (adds own at (Recover own.number tries))
-recovering c tries own at idle = begun c Recovering tries own at (Recover own.number tries) (λ m. refl) (host_in c own) refl idle
-
--- or a beat does
-beating : (c : Shape) (own : Own) (at : ℕ) (host : Host) → host_in c own ≡ host → idles host ≡ true → Carries c Beating (adds own at (Beat own.number))
-beating c own at Stopped is idle = absurd (cc idle)
-beating c own at (Running m) is idle =
-    let e : Filled = Beat own.number in
-    record { memory = starts_beat m; is = host_adds c own at e ∙ ap (λ (s : Host). host_step c own.number s e) is; doing = (refl, refl, (idle_rests m idle).1, (idle_rests m idle).2); receipt = tt }
-
--- or a marking does
-marking : (c : Shape) (slot : ℕ) (own : Own) (at : ℕ) (host : Host) → host_in c own ≡ host → idles host ≡ true → Carries c MarkingSlot (adds own at (Mark own.number slot))
-marking c slot own at Stopped is idle = absurd (cc idle)
-marking c slot own at (Running m) is idle =
-    let e : Filled = Mark own.number slot in
-    record { memory = starts_marking m slot; is = host_adds c own at e ∙ ap (λ (s : Host). host_step c own.number s e) is; doing = go (nat_lt slot (length m.learned)); receipt = tt }
+marking_so : (m : Memory) (slot : ℕ) → Rests m → So MarkingSlot (starts_marking m slot)
+marking_so m slot rest = go (nat_lt slot (length m.learned))
   where
     go : (b : Bool) → So MarkingSlot (if b then with_marking m (Some (record { slot = slot; heard = [] })) None else with_marking m m.marking (Some (Refused refusal.NotLearned)))
-    go true = subst (IsCarriedBeside MarkingSlot (with_marking m (Some (record { slot = slot; heard = [] })) None)) (sym (idle_rests m idle).0) (refl, refl, (idle_rests m idle).2)
-    go false = over MarkingSlot (with_marking m m.marking (Some (Refused refusal.NotLearned))) (idle_rests m idle) tt
+    go true = subst (IsCarriedBeside MarkingSlot (with_marking m (Some (record { slot = slot; heard = [] })) None)) (sym rest.0) (refl, refl, rest.2)
+    go false = over MarkingSlot (with_marking m m.marking (Some (Refused refusal.NotLearned))) rest tt
 
--- or a look does
-looking : (c : Shape) (own : Own) (at : ℕ) (host : Host) → host_in c own ≡ host → idles host ≡ true → Carries c LookingOn (adds own at (Look own.number))
-looking c own at Stopped is idle = absurd (cc idle)
-looking c own at (Running m) is idle =
-    let e : Filled = Look own.number in
-    let rest = idle_rests m idle in
-    record { memory = starts_look c m; is = host_adds c own at e ∙ ap (λ (s : Host). host_step c own.number s e) is; doing = look_next c m rest.0 rest.1 0; receipt = tt }
+begun_at : (c : Shape) (t : Task) (own : Own) (at : ℕ) → idles (host_in c own) ≡ true → Carries c (under_way t) (adds own at (begun_by own.number t))
+begun_at c (task.Submit command tries) own at =
+    begun c (Attempting (Submitting command)) own at (Submit own.number command tries) (λ m. goes_on c m (Submitting command) tries) (λ m. refl) (λ m. going c (Submitting command) m tries)
+    (none_begun c (adds own at (Submit own.number command tries)) (Submitting command) tries) (host_in c own) refl
+begun_at c (task.Recover tries) own at =
+    begun c (Attempting Recovering) own at (Recover own.number tries) (λ m. goes_on c m Recovering tries) (λ m. refl) (λ m. going c Recovering m tries)
+    (none_begun c (adds own at (Recover own.number tries)) Recovering tries) (host_in c own) refl
+begun_at c task.Look own at = begun c LookingOn own at (Look own.number) (λ m. starts_look c m) (λ m. refl) (λ m rest. look_next c m rest.0 rest.1 0) (λ m. tt) (host_in c own) refl
+begun_at c task.Beat own at = begun c Beating own at (Beat own.number) starts_beat (λ m. refl) (λ m rest. (refl, refl, rest.1, rest.2)) (λ m. tt) (host_in c own) refl
+begun_at c (task.Mark slot) own at = begun c MarkingSlot own at (Mark own.number slot) (λ m. starts_marking m slot) (λ m. refl) (λ m. marking_so m slot) (λ m. tt) (host_in c own) refl
 
-pub marking_slot_by : (c : Shape) (slot : ℕ) (own new : Own) (at : ℕ) → idles (host_in c own) ≡ true → new ≡ adds own at (Mark own.number slot) → Carries c MarkingSlot new
-marking_slot_by c slot own new at idle is = subst (Carries c MarkingSlot) (sym is) (marking c slot own at (host_in c own) refl idle)
-
-pub submitted_by : (c : Shape) (command : Command) (tries : ℕ) (own new : Own) (at : ℕ) → idles (host_in c own) ≡ true → new ≡ adds own at (Submit own.number command tries) → Carries c (Attempting (Submitting command)) new
-submitted_by c command tries own new at idle is = subst (Carries c (Attempting (Submitting command))) (sym is) (submitted c command tries own at idle)
-
-pub recovering_by : (c : Shape) (tries : ℕ) (own new : Own) (at : ℕ) → idles (host_in c own) ≡ true → new ≡ adds own at (Recover own.number tries) → Carries c (Attempting Recovering) new
-recovering_by c tries own new at idle is = subst (Carries c (Attempting Recovering)) (sym is) (recovering c tries own at idle)
-
-pub looking_by : (c : Shape) (own new : Own) (at : ℕ) → idles (host_in c own) ≡ true → new ≡ adds own at (Look own.number) → Carries c LookingOn new
-looking_by c own new at idle is = subst (Carries c LookingOn) (sym is) (looking c own at (host_in c own) refl idle)
-
-pub beating_by : (c : Shape) (own new : Own) (at : ℕ) → idles (host_in c own) ≡ true → new ≡ adds own at (Beat own.number) → Carries c Beating new
-beating_by c own new at idle is = subst (Carries c Beating) (sym is) (beating c own at (host_in c own) refl idle)
+pub task_begun : (c : Shape) (t : Task) (own new : Own) (at : ℕ) → idles (host_in c own) ≡ true → new ≡ adds own at (begun_by own.number t) → Carries c (under_way t) new
+task_begun c t own new at idle is = subst (Carries c (under_way t)) (sym is) (begun_at c t own at idle)
 
 -- AT THE END
 
@@ -415,73 +392,19 @@ answered c task own carries idle = subst (λ (s : Host). IsAnswer task (learned_
     go (Some t) k is = absurd (cc is)
 
 -- and what it has said answers the task
-pub answered_by : (c : Shape) (task : HostTask) (own : Own) → Carries c task own → (said : HostAnswer) → said_of (host_in c own) ≡ Some said → IsAnswer task (learned_of (host_in c own)) (Some said)
+answered_by : (c : Shape) (task : HostTask) (own : Own) → Carries c task own → (said : HostAnswer) → said_of (host_in c own) ≡ Some said → IsAnswer task (learned_of (host_in c own)) (Some said)
 answered_by c task own carries said is = subst (λ (s : Option HostAnswer). IsAnswer task (learned_of (host_in c own)) s) is (answered c task own carries (said_idle c task own carries said is))
 
--- a submission does nothing else
-pub only_acks : (c : Shape) (command : Command) (own : Own) → Carries c (Attempting (Submitting command)) own → (n : ℕ) → said_of (host_in c own) ≡ Some (Recovered n) → ⊥
-only_acks c command own carries n is = answered_by c (Attempting (Submitting command)) own carries (Recovered n) is
+-- what the task gave is that
+said_is : (c : Shape) (own : Own) (gave : Resumed) → HasAnswered c gave own → said_of (host_in c own) ≡ said_by gave
+said_is c own (Submitted receipt) has = has.1
+said_is c own (resumed.Recovered n) has = has.1
+said_is c own (resumed.Looked n) has = has.1
+said_is c own (resumed.Beaten host) has = has.1
+said_is c own (resumed.Marked count) has = has.1
 
-pub acks_unbeaten : (c : Shape) (command : Command) (own : Own) → Carries c (Attempting (Submitting command)) own → (host : ℕ) → said_of (host_in c own) ≡ Some (Beaten host) → ⊥
-acks_unbeaten c command own carries host is = answered_by c (Attempting (Submitting command)) own carries (Beaten host) is
-
-pub acks_unmarked : (c : Shape) (command : Command) (own : Own) → Carries c (Attempting (Submitting command)) own → (count : ℕ) → said_of (host_in c own) ≡ Some (Marked count) → ⊥
-acks_unmarked c command own carries count is = answered_by c (Attempting (Submitting command)) own carries (Marked count) is
-
-pub acks_unlooked : (c : Shape) (command : Command) (own : Own) → Carries c (Attempting (Submitting command)) own → (n : ℕ) → said_of (host_in c own) ≡ Some (Looked n) → ⊥
-acks_unlooked c command own carries n is = answered_by c (Attempting (Submitting command)) own carries (Looked n) is
-
--- nor does a recovery
-pub only_recovers : (c : Shape) (own : Own) → Carries c (Attempting Recovering) own → (slot : ℕ) (reply : Reply) → said_of (host_in c own) ≡ Some (Ack slot reply) → ⊥
-only_recovers c own carries slot reply is = answered_by c (Attempting Recovering) own carries (Ack slot reply) is
-
-pub recovers_unbeaten : (c : Shape) (own : Own) → Carries c (Attempting Recovering) own → (host : ℕ) → said_of (host_in c own) ≡ Some (Beaten host) → ⊥
-recovers_unbeaten c own carries host is = answered_by c (Attempting Recovering) own carries (Beaten host) is
-
-pub recovers_unmarked : (c : Shape) (own : Own) → Carries c (Attempting Recovering) own → (count : ℕ) → said_of (host_in c own) ≡ Some (Marked count) → ⊥
-recovers_unmarked c own carries count is = answered_by c (Attempting Recovering) own carries (Marked count) is
-
-pub recovers_unlooked : (c : Shape) (own : Own) → Carries c (Attempting Recovering) own → (n : ℕ) → said_of (host_in c own) ≡ Some (Looked n) → ⊥
-recovers_unlooked c own carries n is = answered_by c (Attempting Recovering) own carries (Looked n) is
-
--- nor a look
-pub looks_unacknowledged : (c : Shape) (own : Own) → Carries c LookingOn own → (slot : ℕ) (reply : Reply) → said_of (host_in c own) ≡ Some (Ack slot reply) → ⊥
-looks_unacknowledged c own carries slot reply is = answered_by c LookingOn own carries (Ack slot reply) is
-
-pub looks_unrecovered : (c : Shape) (own : Own) → Carries c LookingOn own → (n : ℕ) → said_of (host_in c own) ≡ Some (Recovered n) → ⊥
-looks_unrecovered c own carries n is = answered_by c LookingOn own carries (Recovered n) is
-
-pub looks_unbeaten : (c : Shape) (own : Own) → Carries c LookingOn own → (host : ℕ) → said_of (host_in c own) ≡ Some (Beaten host) → ⊥
-looks_unbeaten c own carries host is = answered_by c LookingOn own carries (Beaten host) is
-
-pub looks_unmarked : (c : Shape) (own : Own) → Carries c LookingOn own → (count : ℕ) → said_of (host_in c own) ≡ Some (Marked count) → ⊥
-looks_unmarked c own carries count is = answered_by c LookingOn own carries (Marked count) is
-
--- nor a beat
-pub beats_unacknowledged : (c : Shape) (own : Own) → Carries c Beating own → (slot : ℕ) (reply : Reply) → said_of (host_in c own) ≡ Some (Ack slot reply) → ⊥
-beats_unacknowledged c own carries slot reply is = answered_by c Beating own carries (Ack slot reply) is
-
-pub beats_unrecovered : (c : Shape) (own : Own) → Carries c Beating own → (n : ℕ) → said_of (host_in c own) ≡ Some (Recovered n) → ⊥
-beats_unrecovered c own carries n is = answered_by c Beating own carries (Recovered n) is
-
-pub beats_unmarked : (c : Shape) (own : Own) → Carries c Beating own → (count : ℕ) → said_of (host_in c own) ≡ Some (Marked count) → ⊥
-beats_unmarked c own carries count is = answered_by c Beating own carries (Marked count) is
-
-pub beats_unlooked : (c : Shape) (own : Own) → Carries c Beating own → (n : ℕ) → said_of (host_in c own) ≡ Some (Looked n) → ⊥
-beats_unlooked c own carries n is = answered_by c Beating own carries (Looked n) is
-
--- nor a marking
-pub marks_unacknowledged : (c : Shape) (own : Own) → Carries c MarkingSlot own → (slot : ℕ) (reply : Reply) → said_of (host_in c own) ≡ Some (Ack slot reply) → ⊥
-marks_unacknowledged c own carries slot reply is = answered_by c MarkingSlot own carries (Ack slot reply) is
-
-pub marks_unrecovered : (c : Shape) (own : Own) → Carries c MarkingSlot own → (n : ℕ) → said_of (host_in c own) ≡ Some (Recovered n) → ⊥
-marks_unrecovered c own carries n is = answered_by c MarkingSlot own carries (Recovered n) is
-
-pub marks_unlooked : (c : Shape) (own : Own) → Carries c MarkingSlot own → (n : ℕ) → said_of (host_in c own) ≡ Some (Looked n) → ⊥
-marks_unlooked c own carries n is = answered_by c MarkingSlot own carries (Looked n) is
-
-pub marks_unbeaten : (c : Shape) (own : Own) → Carries c MarkingSlot own → (host : ℕ) → said_of (host_in c own) ≡ Some (Beaten host) → ⊥
-marks_unbeaten c own carries host is = answered_by c MarkingSlot own carries (Beaten host) is
+pub gave_its : (c : Shape) (task : HostTask) (own : Own) → Carries c task own → idles (host_in c own) ≡ true → (gave : Resumed) → HasAnswered c gave own → IsAnswer task (learned_of (host_in c own)) (said_by gave)
+gave_its c task own carries idle gave has = subst (IsAnswer task (learned_of (host_in c own))) (said_is c own gave has) (answered c task own carries idle)
 
 -- the last receipt is that of the acknowledgement
 pub record IsAcked (c : Shape) (own : Own) (slot : ℕ) (reply : Reply) : Type 0 where
@@ -495,10 +418,10 @@ acked_for c command own carries slot reply is =
 
 pub acked : (c : Shape) (task : HostTask) (own : Own) → Carries c task own → (slot : ℕ) (reply : Reply) → said_of (host_in c own) ≡ Some (Ack slot reply) → IsAcked c own slot reply
 acked c (Attempting (Submitting command)) own carries slot reply is = let r = acked_for c command own carries slot reply is in record { command = command; place = r.0; last = r.1 }
-acked c (Attempting Recovering) own carries slot reply is = absurd (only_recovers c own carries slot reply is)
-acked c LookingOn own carries slot reply is = absurd (looks_unacknowledged c own carries slot reply is)
-acked c Beating own carries slot reply is = absurd (beats_unacknowledged c own carries slot reply is)
-acked c MarkingSlot own carries slot reply is = absurd (marks_unacknowledged c own carries slot reply is)
+acked c (Attempting Recovering) own carries slot reply is = absurd (answered_by c (Attempting Recovering) own carries (Ack slot reply) is)
+acked c LookingOn own carries slot reply is = absurd (answered_by c LookingOn own carries (Ack slot reply) is)
+acked c Beating own carries slot reply is = absurd (answered_by c Beating own carries (Ack slot reply) is)
+acked c MarkingSlot own carries slot reply is = absurd (answered_by c MarkingSlot own carries (Ack slot reply) is)
 
 -- a step that was refused, or could not be made, stops the task
 pub stops : (c : Shape) (o : HostTask) (f : HostFault) (old mid new : Own) → Carries c o old → GoesOn c old mid → idles (host_in c mid) ≡ false → Ends c f mid new → Stops c f old new

@@ -17,6 +17,7 @@ mod operate;
 mod receipt;
 mod restart;
 mod seat;
+mod task;
 mod touched;
 
 pub use book::DiskBook;

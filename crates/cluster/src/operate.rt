@@ -1,11 +1,12 @@
 ghost use Rattle.std.specs.Prelude.{◌≡◌, ◌⊎◌, ◌<◌, ◌≤◌, ◌+◌, true, false, length, IfOk, IfErr, OnOk, OnErr};
 ghost use Rattle.lock_command.specs.Command.{is_submittable};
-ghost use Rattle.host.specs.Host.{idles};
+ghost use Rattle.host.specs.Host.{idles, learned_of};
 ghost use Rattle.world.specs.Entry.{Submit, Recover, Look, Beat, Mark};
 ghost use Rattle.cluster.specs.Cluster.{GoesOn};
 ghost use Rattle.cluster.specs.Looks.{WritesNothing};
-ghost use Rattle.cluster.specs.Operations.{HasAnswered, CarriesOne, Fails, IsRefusedBy, Operates, Restarts, Stops};
+ghost use Rattle.cluster.specs.Operations.{Carries, CarriesOne, Fails, HasAnswered, IsAnswer, IsRefusedBy, Operates, Restarts, Stops};
 ghost use Rattle.cluster.specs.Seat.{host_in};
+ghost use Rattle.cluster.specs.Tasks.{MayBegin, begun_by, said_by, under_way};
 
 use crate::cluster::Cluster;
 use crate::cluster_name::ClusterName;
@@ -13,6 +14,7 @@ use crate::fault::HostFault;
 use crate::gate::Gate;
 use crate::receipt::Receipt;
 use crate::seat::HostSeat;
+use crate::task::Task;
 use disk::Disk;
 use host::HostAnswer;
 use lock_command::Command;
@@ -49,12 +51,11 @@ impl<'a, N: ClusterName, D: Disk + Drop> Cluster<'a, N, D> {
         ensures command { IfOk result (λ receipt. (receipt.command ≡ command) × (receipt.host ≡ seat.old.number)) }
         ensures err { IfErr result (λ fault. Fails N.shape (Submit seat.old.number command tries) fault seat.old seat.new) }
     {
-        self.journal.lock(rt).submit(seat, command, tries)?;
-        self.go_on(rt, seat, gate)?;
-        match outcome(seat)? {
+        // Called for its contract only: the command's numbers are in their ranges.
+        let _spelling = command.encode();
+        match self.carry_out(rt, seat, gate, &Task::Submit { command, tries })? {
             Resumed::Submitted(receipt) => Ok(receipt),
-            Resumed::Recovered(_) | Resumed::Looked(_) | Resumed::Beaten(_) | Resumed::Marked(_) =>
-                unreachable!(),
+            _ => unreachable!(),
         }
     }
 
@@ -72,12 +73,9 @@ impl<'a, N: ClusterName, D: Disk + Drop> Cluster<'a, N, D> {
         ensures answer { IfOk result (λ n. HasAnswered N.shape (Resumed.Recovered n) seat.new) }
         ensures err { IfErr result (λ fault. Fails N.shape (Recover seat.old.number tries) fault seat.old seat.new) }
     {
-        self.journal.lock(rt).recover(seat, tries)?;
-        self.go_on(rt, seat, gate)?;
-        match outcome(seat)? {
+        match self.carry_out(rt, seat, gate, &Task::Recover { tries })? {
             Resumed::Recovered(length) => Ok(length),
-            Resumed::Submitted(_) | Resumed::Looked(_) | Resumed::Beaten(_) | Resumed::Marked(_) =>
-                unreachable!(),
+            _ => unreachable!(),
         }
     }
 
@@ -95,14 +93,9 @@ impl<'a, N: ClusterName, D: Disk + Drop> Cluster<'a, N, D> {
         ensures err { IfErr result (λ fault. Fails N.shape (Look seat.old.number) fault seat.old seat.new) }
         ensures writes_nothing { WritesNothing seat.old seat.new }
     {
-        self.journal.lock(rt).look(seat)?;
-        self.go_on(rt, seat, gate)?;
-        match outcome(seat)? {
+        match self.carry_out(rt, seat, gate, &Task::Look)? {
             Resumed::Looked(length) => Ok(length),
-            Resumed::Submitted(_)
-            | Resumed::Recovered(_)
-            | Resumed::Beaten(_)
-            | Resumed::Marked(_) => unreachable!(),
+            _ => unreachable!(),
         }
     }
 
@@ -119,14 +112,9 @@ impl<'a, N: ClusterName, D: Disk + Drop> Cluster<'a, N, D> {
         ensures answer { IfOk result (λ host. HasAnswered N.shape (Resumed.Beaten host) seat.new) }
         ensures err { IfErr result (λ fault. Fails N.shape (Beat seat.old.number) fault seat.old seat.new) }
     {
-        self.journal.lock(rt).beat(seat)?;
-        self.go_on(rt, seat, gate)?;
-        match outcome(seat)? {
+        match self.carry_out(rt, seat, gate, &Task::Beat)? {
             Resumed::Beaten(host) => Ok(host),
-            Resumed::Submitted(_)
-            | Resumed::Recovered(_)
-            | Resumed::Looked(_)
-            | Resumed::Marked(_) => unreachable!(),
+            _ => unreachable!(),
         }
     }
 
@@ -145,14 +133,9 @@ impl<'a, N: ClusterName, D: Disk + Drop> Cluster<'a, N, D> {
         ensures answer { IfOk result (λ count. HasAnswered N.shape (Resumed.Marked count) seat.new) }
         ensures err { IfErr result (λ fault. Fails N.shape (Mark seat.old.number slot) fault seat.old seat.new) }
     {
-        self.journal.lock(rt).mark(seat, slot)?;
-        self.go_on(rt, seat, gate)?;
-        match outcome(seat)? {
+        match self.carry_out(rt, seat, gate, &Task::Mark { slot })? {
             Resumed::Marked(count) => Ok(count),
-            Resumed::Submitted(_)
-            | Resumed::Recovered(_)
-            | Resumed::Looked(_)
-            | Resumed::Beaten(_) => unreachable!(),
+            _ => unreachable!(),
         }
     }
 
@@ -185,6 +168,28 @@ impl<'a, N: ClusterName, D: Disk + Drop> Cluster<'a, N, D> {
         ensures causes { IfErr result (λ fault. (fault ≡ HostFault.JournalFull) ⊎ (fault ≡ HostFault.NoMemory)) }
     {
         self.journal.lock(rt).restart(alloc, seat)
+    }
+
+    // Begins a task, and steps until it is over.
+    fn carry_out<G: Gate>(
+        &self,
+        rt: &impl Wait,
+        seat: &mut HostSeat<N>,
+        gate: &mut G,
+        task: &Task,
+    ) -> Result<Resumed, HostFault>
+        requires idle { idles (host_in N.shape seat.old) ≡ true }
+        requires may { MayBegin N.shape seat.old.number task.now }
+        ensures steps { OnOk result (Operates N.shape (begun_by seat.old.number task.now) seat.old seat.new) }
+        ensures carried { OnOk result (Carries N.shape (under_way task.now) seat.new) }
+        ensures answer { IfOk result (λ gave. HasAnswered N.shape gave seat.new) }
+        ensures its { IfOk result (λ gave. IsAnswer (under_way task.now) (learned_of (host_in N.shape seat.new)) (said_by gave)) }
+        ensures err { IfErr result (λ fault. Fails N.shape (begun_by seat.old.number task.now) fault seat.old seat.new) }
+        ensures look { task.now ≡ Task.Look → WritesNothing seat.old seat.new }
+    {
+        self.journal.lock(rt).begin(seat, task)?;
+        self.go_on(rt, seat, gate)?;
+        outcome(seat)
     }
 
     // Steps until the operation is over.

@@ -32,7 +32,7 @@ use Rattle.dlm_images.specs.Tasks.{MayBegin, StaysWithin, begun_with}
 use Rattle.dlm_images.specs.declared.task.Task.{Task}
 use Rattle.dlm_images.specs.declared.task.Task.TheVariants as tasks
 use Rattle.dlm_images.specs.Marking.{HasMarkedFrom, RecoversAndMarks, calls_of, leaves_a_mark}
-use Rattle.dlm_images.proofs.Driving.{answered, idle_apart, leads_then, known_then, same_shape, marked_ends, looked_reads}
+use Rattle.dlm_images.proofs.Driving.{by_test, answered, idle_apart, leads_then, known_then, same_shape, marked_ends, looked_reads}
 use Rattle.dlm_images.proofs.Ending.{IsApart, apart_still}
 
 -- A call that is due is one of an attempt, a marking or a look: where none is under way, none is made.
@@ -72,10 +72,6 @@ record IsAttempt (c : Shape) (h : ℕ) (m : Memory) (t : Doing) : Type 0 where
 abbrev IsGoingIn : Shape → ℕ → Memory → Option Doing → Type 0
 IsGoingIn c h m None = Unit {0}
 IsGoingIn c h m (Some t) = IsAttempt c h m t
-
-by_test : (P : Memory → Type 0) (b : Bool) (m n : Memory) → (b ≡ true → P m) → (b ≡ false → P n) → P (if b then m else n)
-by_test P true m n p q = p refl
-by_test P false m n p q = q refl
 
 -- WHAT AN ANSWER COSTS
 

@@ -17,12 +17,12 @@ use Rattle.beats.specs.declared.notes.Notes.{Notes as BeatNotes}
 use Rattle.phases.specs.Calls.{heard_of}
 use Rattle.phases.specs.declared.heard.Heard as code_heard
 use Rattle.slot_log.specs.Shape.{Shape}
-use Rattle.host.specs.Host.{Operation, Submitting, Recovering, Doing, Memory, Beats, Marking, hears, hears_from, hears_beside, hears_apart, hears_marking, marking_by, marking_with, marking_of, with_marking, starts_marking, goes_on, begins, by_status, takes, after_learning, is_submitted, learns, with_heard, with_floor, tries_again, rests, is_idle_in, next_doing, next_beside, next_marking, next_look, Looking, hears_look, look_by, look_of, looking_with, looks_on, starts_look, takes_marked, with_looking}
-use Rattle.host.specs.Kept.{Kept, LeadsTo, BeatLeadsTo, is_idle}
+use Rattle.host.specs.Host.{Operation, Submitting, Recovering, Doing, Memory, Beats, Marking, hears, hears_from, hears_beside, hears_apart, marking_by, marking_with, marking_of, with_marking, starts_marking, goes_on, begins, by_status, takes, after_learning, is_submitted, learns, with_heard, with_floor, tries_again, rests, is_idle_in, next_doing, next_beside, next_marking, next_look, Looking, hears_look, look_by, look_of, looking_with, looks_on, starts_look, takes_marked, with_looking}
+use Rattle.host.specs.Kept.{Kept, LeadsTo, BeatLeadsTo, is_idle, option_list}
 use Rattle.marks.specs.Status as mark
 use Rattle.slot_log.specs.declared.outcome.Refusal.TheVariants as refusal
 use Rattle.host.specs.declared.answer.HostAnswer.TheVariants.{Looked, Refused}
-use Rattle.host.proofs.Hosts.{idle_is, heard_same, beats-goes_on, beats-hears, apart_heard, learned-goes_on}
+use Rattle.host.proofs.Hosts.{idle_is, heard_same, beats-goes_on, beats-hears, apart_heard, learned-by_status, learned-takes}
 use Rattle.std.specs.Prelude.{is_some, map}
 use Rattle.std.proofs.Common.{true≢false}
 use Rattle.disk.specs.Disk as device
@@ -50,15 +50,15 @@ left_in c m = left_with c (length m.learned) m.doing
 abbrev pub Fewer : Shape → ℕ → Memory → Type 0
 Fewer c n m = left_in c m < n
 
-by_test : (P : Memory → Type 0) (b : Bool) (m n : Memory) → (b ≡ true → P m) → P n → P (if b then m else n)
+pub by_test : (P : Memory → Type 0) (b : Bool) (m n : Memory) → (b ≡ true → P m) → (b ≡ false → P n) → P (if b then m else n)
 by_test P true m n p q = p refl
-by_test P false m n p q = q
+by_test P false m n p q = q refl
 
 goes_on_fewer : (c : Shape) (m : Memory) (o : Operation) (tries n learned : ℕ) → length m.learned ≡ learned + 1 → (c.slots - learned + (tries - 1)) * 119 + 1 < n → 0 < n → Fewer c n (goes_on c m o tries)
 goes_on_fewer c m o tries n learned one room some =
     by_test (Fewer c n) (nat_lt (length m.learned) c.slots) (begins m o tries) _
     (λ is. let lt : length m.learned < c.slots = ltb-true (length m.learned) c.slots is in omega (arith, one, lt, room))
-    some
+    (λ is. some)
 
 after_learning_fewer : (c : Shape) (m : Memory) (t : Doing) (command : Command) (b : Bool) (n : ℕ) → (c.slots - length m.learned + (t.tries - 1)) * 119 + 1 < n → 0 < n → Fewer c n (after_learning c m t command b)
 after_learning_fewer c m t command true n room some = some
@@ -99,21 +99,18 @@ abbrev pub left_marking : Option Marking → ℕ
 left_marking None = 0
 left_marking (Some t) = 1 + (63 - length t.heard)
 
-marked_by : (m : Memory) (t : Marking) (st : mark.Status) → left_marking (marking_by m t st).marking ≤ left_marking (Some t)
-marked_by m t (mark.Due disk) = omega arith
-marked_by m t (mark.Ended (mark.Marked count)) = omega arith
-marked_by m t (mark.Ended mark.NoMajority) = omega arith
+-- a marking that ends or goes on has no more to hear, and changes nothing else; no attempt begins
+record MarksOn (m : Memory) (t : Marking) (new : Memory) : Type 0 where
+  less : left_marking new.marking ≤ left_marking (Some t)
+  rests : new.doing ≡ None
+  beats : new.beats ≡ m.beats
+  learned : new.learned ≡ m.learned
+  looking : new.looking ≡ m.looking
 
--- a marking ends or goes on, and no attempt begins
-rests_by : (m : Memory) (t : Marking) (st : mark.Status) → (marking_by m t st).doing ≡ None
-rests_by m t (mark.Due disk) = refl
-rests_by m t (mark.Ended (mark.Marked count)) = refl
-rests_by m t (mark.Ended mark.NoMajority) = refl
-
-beats_by : (m : Memory) (t : Marking) (st : mark.Status) → (marking_by m t st).beats ≡ m.beats
-beats_by m t (mark.Due disk) = refl
-beats_by m t (mark.Ended (mark.Marked count)) = refl
-beats_by m t (mark.Ended mark.NoMajority) = refl
+marks_on : (m : Memory) (t : Marking) (st : mark.Status) → MarksOn m t (marking_by m t st)
+marks_on m t (mark.Due disk) = record { less = omega arith; rests = refl; beats = refl; learned = refl; looking = refl }
+marks_on m t (mark.Ended (mark.Marked count)) = record { less = omega arith; rests = refl; beats = refl; learned = refl; looking = refl }
+marks_on m t (mark.Ended mark.NoMajority) = record { less = omega arith; rests = refl; beats = refl; learned = refl; looking = refl }
 
 -- nor does one where a look ends or goes on
 record IsQuiet (old new : Memory) : Type 0 where
@@ -144,11 +141,11 @@ quiet_hearing c m (Some t) x none = look_quiet c m (looking_with t x) (look.stat
 
 rests_hearing : (c : Shape) (h : ℕ) (m : Memory) (o : Option Marking) (x : Answered) → m.doing ≡ None → (hears_apart c h m o x).doing ≡ None
 rests_hearing c h m None x none = (quiet_hearing c m m.looking x none).rests
-rests_hearing c h m (Some t) x none = rests_by m (marking_with t x) (mark.status (marking_of c h m t.slot) (on (marking_with t x).heard))
+rests_hearing c h m (Some t) x none = (marks_on m (marking_with t x) (mark.status (marking_of c h m t.slot) (on (marking_with t x).heard))).rests
 
 beats_hearing : (c : Shape) (h : ℕ) (m : Memory) (o : Option Marking) (x : Answered) → m.doing ≡ None → (hears_apart c h m o x).beats ≡ m.beats
 beats_hearing c h m None x none = (quiet_hearing c m m.looking x none).beats
-beats_hearing c h m (Some t) x none = beats_by m (marking_with t x) (mark.status (marking_of c h m t.slot) (on (marking_with t x).heard))
+beats_hearing c h m (Some t) x none = (marks_on m (marking_with t x) (mark.status (marking_of c h m t.slot) (on (marking_with t x).heard))).beats
 
 -- THE ANSWERS THAT A LOOK MAY STILL HEAR
 
@@ -165,7 +162,7 @@ on_less : (c : Shape) (m : Memory) (first learned n : ℕ) → length m.learned 
 on_less c m first learned n one room some =
     by_test (LooksLess c n) (nat_lt (length m.learned) c.slots) (with_looking m (Some (record { first = first; heard = [] })) None) (with_looking m None (Some (Looked (length m.learned))))
     (λ is. let lt : length m.learned < c.slots = ltb-true (length m.learned) c.slots is in omega (arith, one, lt, room))
-    some
+    (λ is. some)
 
 marked_less : (c : Shape) (m : Memory) (disk n : ℕ) (o : Option Command) → (c.slots - length m.learned) * 14 + 2 < n → 0 < n → LooksLess c n (takes_marked c m disk o)
 marked_less c m disk n None room some = some
@@ -186,26 +183,15 @@ look_less c m (Some t) x few some two =
     look_less_by c m (looking_with t x) n (look.status (look_of c m t.first) (on (looking_with t x).heard)) (omega (arith, one, long, few)) (omega (arith, long, few)) (omega (arith, long, few))
 
 -- an attempt leaves what was learned
-grows_again : (m : Memory) (o : Operation) (tries : ℕ) → length m.learned ≤ length (tries_again m o tries).learned
-grows_again m o tries = by_test (λ (n : Memory). length m.learned ≤ length n.learned) (nat_le tries 1) _ (begins m o (tries - 1)) (λ is. omega arith) (omega arith)
-
-grows_learning : (c : Shape) (m : Memory) (t : Doing) (command : Command) (b : Bool) → length m.learned ≤ length (after_learning c m t command b).learned
-grows_learning c m t command true = (let one = length-append m.learned (command ∷ []) in omega arith)
-grows_learning c m t command false =
-    let one = length-append m.learned (command ∷ []) in
-    let same = ap length (learned-goes_on c (learns m command) t.operation t.tries) in
-    omega arith
-
 grows_taking : (c : Shape) (m : Memory) (t : Doing) (ballot : ℕ) (value : List ℕ) (o : Option Command) → length m.learned ≤ length (takes c m t ballot value o).learned
-grows_taking c m t ballot value None = omega arith
-grows_taking c m t ballot value (Some command) = grows_learning c m t command (is_submitted t.operation value)
+grows_taking c m t ballot value o = let all = ap length (learned-takes c m t ballot value o) ∙ length-append m.learned (option_list o) in omega (arith, all)
 
 grows_by : (c : Shape) (m : Memory) (t : Doing) (ballot : ℕ) (s : Status) → length m.learned ≤ length (by_status c m t ballot s).learned
 grows_by c m t ballot (Due p d) = omega arith
 grows_by c m t ballot (Ended (attempt.Committed value)) = grows_taking c m t ballot value (decoded value)
 grows_by c m t ballot (Ended (attempt.Decided value)) = grows_taking c m t ballot value (decoded value)
 grows_by c m t ballot (Ended attempt.Empty) = omega arith
-grows_by c m t ballot (Ended (attempt.Outrun mbal)) = grows_again (with_floor (with_floor m ballot) mbal) t.operation t.tries
+grows_by c m t ballot (Ended (attempt.Outrun mbal)) = let same = ap length (learned-by_status c m t ballot (Ended (attempt.Outrun mbal)) refl) in omega (arith, same)
 grows_by c m t ballot (Ended attempt.NoMajority) = omega arith
 grows_by c m t ballot (Ended attempt.BallotsSpent) = omega arith
 
@@ -300,16 +286,6 @@ pub record IsHeardBy (now new : Kept) (x : Answered) : Type 0 where
   pub nine : (c : Shape) (h : ℕ) (m : Memory) → LeadsTo c h m now → IsMarkedWithinNine c m.marking
   pub two : (c : Shape) (h : ℕ) (m : Memory) → LeadsTo c h m now → IsLookedWithinTwo c m.looking
 
--- what a marking hears leaves it less to do
-less_marking : (c : Shape) (h : ℕ) (m : Memory) (o : Option Marking) (x : Answered) → c.disks ≤ 7 → is_some o ≡ true → IsMarkedWithinNine c o → left_marking (hears_marking c h m o x).marking < left_marking o
-less_marking c h m None x few some nine = absurd (cc)
-less_marking c h m (Some t) x few some nine =
-    let one : length (t.heard ++ x ∷ []) ≡ length t.heard + 1 = length-append t.heard (x ∷ []) in
-    let long : length t.heard < 9 * c.disks = nine in
-    let at_most : left_marking (hears_marking c h m (Some t) x).marking ≤ left_marking (Some (marking_with t x)) =
-    marked_by m (marking_with t x) (mark.status (marking_of c h m t.slot) (on (marking_with t x).heard)) in
-    omega (arith, one, long, few, at_most)
-
 is_looking : (m : Memory) → m.beats.heard ≡ None → m.marking ≡ None → is_idle_in m None ≡ false → is_some m.looking ≡ true
 is_looking m rest unmarking busy = go m.beats.heard m.marking m.looking rest unmarking busy
   where
@@ -318,11 +294,6 @@ is_looking m rest unmarking busy = go m.beats.heard m.marking m.looking rest unm
     go None None (Some t) rest unmarking busy = refl
     go None (Some t) l rest unmarking busy = absurd (cc)
     go (Some heard) o l rest unmarking busy = absurd (cc)
-
-looks_still : (m : Memory) (t : Marking) (st : mark.Status) → ((marking_by m t st).learned ≡ m.learned) × ((marking_by m t st).looking ≡ m.looking)
-looks_still m t (mark.Due disk) = (refl, refl)
-looks_still m t (mark.Ended (mark.Marked count)) = (refl, refl)
-looks_still m t (mark.Ended mark.NoMajority) = (refl, refl)
 
 -- what a marking or a look hears leaves it less to do
 less_apart : (c : Shape) (h : ℕ) (m : Memory) (o : Option Marking) (x : Answered) → m.doing ≡ None → m.beats.heard ≡ None → m.marking ≡ o → c.disks ≤ 7 → is_idle_in m None ≡ false → IsMarkedWithinNine c o → IsLookedWithinTwo c m.looking
@@ -333,12 +304,13 @@ less_apart c h m None x doing rest is few busy nine two =
     omega (arith, less, none)
 less_apart c h m (Some t) x doing rest is few busy nine two =
     let u = marking_with t x in
-    let st = mark.status (marking_of c h m t.slot) (on u.heard) in
-    let less : left_marking (marking_by m u st).marking < left_marking (Some t) = less_marking c h m (Some t) x few refl nine in
-    let still = looks_still m u st in
-    let same : left_looking c (length (marking_by m u st).learned) (marking_by m u st).looking ≡ left_looking c (length m.learned) m.looking =
-    ap (λ (l : List Command). left_looking c (length l) (marking_by m u st).looking) still.0 ∙ ap (left_looking c (length m.learned)) still.1 in
-    omega (arith, less, same)
+    let n = marking_by m u (mark.status (marking_of c h m t.slot) (on u.heard)) in
+    let marks : MarksOn m u n = marks_on m u (mark.status (marking_of c h m t.slot) (on u.heard)) in
+    let one : length u.heard ≡ length t.heard + 1 = length-append t.heard (x ∷ []) in
+    let long : length t.heard < 9 * c.disks = nine in
+    let same : left_looking c (length n.learned) n.looking ≡ left_looking c (length m.learned) m.looking =
+    ap (λ (l : List Command). left_looking c (length l) n.looking) marks.learned ∙ ap (left_looking c (length m.learned)) marks.looking in
+    omega (arith, marks.less, one, long, few, same)
 
 none_left : (c : Shape) (m : Memory) → m.doing ≡ None → left_in c m ≡ 0
 none_left c m none = ap (left_with c (length m.learned)) none
@@ -480,14 +452,14 @@ record BeginsWell (m n : Memory) : Type 0 where
 operation_begins : (c : Shape) (m : Memory) (o : Operation) (tries : ℕ) → tries ≤ 255 → BeginsWell m (goes_on c m o tries)
 operation_begins c m o tries few = record {
   beats = beats-goes_on c m o tries;
-  tries = by_test (λ (n : Memory). tries_in n.doing ≤ 255) (nat_lt (length m.learned) c.slots) (begins m o tries) _ (λ is. few) (omega arith);
+  tries = by_test (λ (n : Memory). tries_in n.doing ≤ 255) (nat_lt (length m.learned) c.slots) (begins m o tries) _ (λ is. few) (λ is. omega arith);
 }
 
 marking_begins : (m : Memory) (slot : ℕ) → BeginsWell m (starts_marking m slot)
 marking_begins m slot =
     by_test (BeginsWell m) (nat_lt slot (length m.learned)) (with_marking m (Some (record { slot = slot; heard = [] })) None) (with_marking m m.marking (Some (Refused refusal.NotLearned)))
     (λ is. record { beats = refl; tries = omega arith })
-    (record { beats = refl; tries = omega arith })
+    (λ is. record { beats = refl; tries = omega arith })
 
 look_begins : (c : Shape) (m : Memory) → BeginsWell m (starts_look c m)
 look_begins c m = let quiet : IsQuiet m (starts_look c m) = on_quiet c m m 0 refl refl in record { beats = quiet.beats; tries = no_tries (starts_look c m).doing quiet.rests }

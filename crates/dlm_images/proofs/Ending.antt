@@ -2,15 +2,13 @@
 use Rattle.std.proofs.Common.{◌≡◌, ℕ, Bool, true, false, List, [], ◌∷◌, ◌++◌, length, nat_lt, nat_le, Option, Some, None, refl, sym, ◌∙◌, ap, subst, if◌then◌else◌}
 use Rattle.std.proofs.lemmas.Slice.Eq.{bytes_eq-Decides}
 use Rattle.std.specs.Option.{option_or}
-use Rattle.paxos_block.specs.declared.ballot.TheConstants.{LAST_BALLOT}
 use Rattle.attempt.specs.Answers as answers
 use Rattle.attempt.specs.Answers.{Answered, on}
-use Rattle.attempt.specs.Calls.{Phase, Opening, One, Two}
 use Rattle.attempt.specs.Setup.{Setup}
 use Rattle.attempt.specs.Status as attempt
-use Rattle.attempt.specs.Status.{Status, Due, Ended, status, taken, through, next_or, unless_outrun, unless_decided, proposing, voting, promising, balloting}
-use Rattle.attempt.specs.Visits.{visited, is_left_at, are_enough}
-use Rattle.attempt.specs.Proposal.{ballot, proposal, decided, others_mbal, best}
+use Rattle.attempt.specs.Status.{Status, Due, Ended, status, taken}
+use Rattle.attempt.specs.Proposal.{best}
+use Rattle.attempt.proofs.Statuses.{HasNone, told_by}
 use Rattle.lock_command.specs.declared.command.Command.{Command}
 use Rattle.lock_command.specs.Command.{spelling, Fits as FitsCommand}
 use Rattle.lock_command.specs.Reading.{decoded, checked}
@@ -27,57 +25,13 @@ use Rattle.dlm_images.specs.Operations.{Ends, EndsMarking, EndsLook}
 
 -- NO INPUT, NO PROPOSAL
 
+none_proposed : (first other : Option (List ℕ)) → option_or first other ≡ None → other ≡ None
+none_proposed None other is = is
+none_proposed (Some x) other is = absurd (cc)
+
 -- an attempt that has an input does not end without a proposal
-abbrev HasInput : Setup → Status → Type 0
-HasInput s (Due phase disk) = Unit {0}
-HasInput s (Ended (attempt.Committed value)) = Unit {0}
-HasInput s (Ended (attempt.Decided value)) = Unit {0}
-HasInput s (Ended attempt.Empty) = s.input ≡ None
-HasInput s (Ended (attempt.Outrun mbal)) = Unit {0}
-HasInput s (Ended attempt.NoMajority) = Unit {0}
-HasInput s (Ended attempt.BallotsSpent) = Unit {0}
-
-module _ (s : Setup) (f : answers.Answers) where
-  by_next : (p : Phase) (o : Option ℕ) (rest : Status) → HasInput s rest → HasInput s (next_or p o rest)
-  by_next p None rest has = has
-  by_next p (Some d) rest has = tt
-
-  by_test : (b : Bool) (x y : Status) → HasInput s x → HasInput s y → HasInput s (if b then x else y)
-  by_test true x y has_x has_y = has_x
-  by_test false x y has_x has_y = has_y
-
-  by_through : (p : Phase) (rest : Status) → HasInput s rest → HasInput s (through s p f rest)
-  by_through p rest has =
-      let at = visited s p f in
-      by_test (are_enough s (is_left_at at s p f)) (next_or p at rest) (Ended attempt.NoMajority) (by_next p at rest has) tt
-
-  by_outrun : (p : Phase) (rest : Status) → HasInput s rest → HasInput s (unless_outrun s p f rest)
-  by_outrun p rest has = by_test (nat_lt (ballot s f) (others_mbal s p f)) (Ended (attempt.Outrun (others_mbal s p f))) rest tt has
-
-  by_voting : (value : List ℕ) → HasInput s (voting s f value)
-  by_voting value = by_outrun Two (through s Two f (Ended (attempt.Committed value))) (by_through Two (Ended (attempt.Committed value)) tt)
-
-  none_else : (first other : Option (List ℕ)) → option_or first other ≡ None → other ≡ None
-  none_else None other is = is
-  none_else (Some x) other is = absurd (cc)
-
-  by_proposing : (o : Option (List ℕ)) → (o ≡ None → s.input ≡ None) → HasInput s (proposing o (voting s f))
-  by_proposing None none = none refl
-  by_proposing (Some value) none = by_voting value
-
-  by_promising : HasInput s (promising s f)
-  by_promising =
-      by_outrun One (through s One f (proposing (proposal s f) (voting s f)))
-      (by_through One (proposing (proposal s f) (voting s f)) (by_proposing (proposal s f) (none_else (best s f).inp s.input)))
-
-  by_decided : (o : Option (List ℕ)) (rest : Status) → HasInput s rest → HasInput s (unless_decided o rest)
-  by_decided None rest has = has
-  by_decided (Some value) rest has = tt
-
-  pub has_input : HasInput s (status s f)
-  has_input =
-      by_through Opening (unless_decided (decided s f) (balloting s f))
-      (by_decided (decided s f) (balloting s f) (by_test (nat_lt LAST_BALLOT (ballot s f)) (Ended attempt.BallotsSpent) (promising s f) tt by_promising))
+no_input : (s : Setup) (f : answers.Answers) → status s f ≡ Ended attempt.Empty → s.input ≡ None
+no_input s f is = let none : HasNone s f = told_by s f (Ended attempt.Empty) is in none_proposed (best s f).inp s.input none.none
 
 -- A COMMAND READS BACK
 
@@ -151,14 +105,14 @@ empty_of : (o : Operation) (m : Memory) → input_of o ≡ None → Ends o m.lea
 empty_of (Submitting command) m none = absurd (cc)
 empty_of Recovering m none = refl
 
-status_of : (c : Shape) (m : Memory) (t : Doing) (ballot : ℕ) (s : Setup) (at : Status) → s.input ≡ input_of t.operation → HasInput s at → ReadsBack t.operation → IsOf t.operation (by_status c m t ballot at)
-status_of c m t ballot s (Due phase disk) same has back = refl
-status_of c m t ballot s (Ended (attempt.Committed value)) same has back = taken_of c m t ballot value back (decoded value) refl
-status_of c m t ballot s (Ended (attempt.Decided value)) same has back = taken_of c m t ballot value back (decoded value) refl
-status_of c m t ballot s (Ended attempt.Empty) same has back = empty_of t.operation (with_floor m ballot) (sym same ∙ has)
-status_of c m t ballot s (Ended (attempt.Outrun mbal)) same has back = tries_of (with_floor (with_floor m ballot) mbal) t.operation t.tries
-status_of c m t ballot s (Ended attempt.NoMajority) same has back = refusal_of t.operation m.learned refusal.NoMajority
-status_of c m t ballot s (Ended attempt.BallotsSpent) same has back = refusal_of t.operation m.learned refusal.BallotsSpent
+status_of : (c : Shape) (m : Memory) (t : Doing) (ballot : ℕ) (at : Status) → (at ≡ Ended attempt.Empty → input_of t.operation ≡ None) → ReadsBack t.operation → IsOf t.operation (by_status c m t ballot at)
+status_of c m t ballot (Due phase disk) only back = refl
+status_of c m t ballot (Ended (attempt.Committed value)) only back = taken_of c m t ballot value back (decoded value) refl
+status_of c m t ballot (Ended (attempt.Decided value)) only back = taken_of c m t ballot value back (decoded value) refl
+status_of c m t ballot (Ended attempt.Empty) only back = empty_of t.operation (with_floor m ballot) (only refl)
+status_of c m t ballot (Ended (attempt.Outrun mbal)) only back = tries_of (with_floor (with_floor m ballot) mbal) t.operation t.tries
+status_of c m t ballot (Ended attempt.NoMajority) only back = refusal_of t.operation m.learned refusal.NoMajority
+status_of c m t ballot (Ended attempt.BallotsSpent) only back = refusal_of t.operation m.learned refusal.BallotsSpent
 
 -- what a host knows once its attempt has heard this answer, or else its marking or its look
 abbrev pub hears_one : Shape → ℕ → Memory → Option Doing → Answered → Memory
@@ -190,7 +144,7 @@ hears_of c h m o (Some t) x back alone is goes =
     let s : Setup = setup_of c h m t.operation in
     let heard = on (t.heard ++ x ∷ []) in
     subst (λ (p : Operation). IsOf p (hears c h m (Some t) x)) goes
-    (status_of c m (with_heard t x) (taken s heard) s (status s heard) refl (has_input s heard) (subst ReadsBack (sym goes) back))
+    (status_of c m (with_heard t x) (taken s heard) (status s heard) (no_input s heard) (subst ReadsBack (sym goes) back))
 
 -- no marking and no look begins meanwhile
 pub apart_one : (c : Shape) (h : ℕ) (m : Memory) (doing : Option Doing) (x : Answered) → IsApart m → IsApart (hears_one c h m doing x)

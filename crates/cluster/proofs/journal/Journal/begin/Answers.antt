@@ -1,32 +1,37 @@
-use Rattle.std.proofs.Common.{◌≡◌, ◌++◌, ◌∷◌, [], sym, ap, subst, ◌∙◌, arith}
-use Rattle.world.specs.Plain.{plains}
-use Rattle.world.specs.World.{world, MayFollow, IsFreshRun}
-use Rattle.world.proofs.Runs as runs
-use Rattle.cluster_tie.specs.Parts.{of_host}
-use Rattle.cluster.specs.Journal.{JournalState}
-use Rattle.cluster.proofs.Journals.{plains_more, keeps_tokens}
+use Rattle.std.proofs.Common.{ℕ, Option, length, refl, sym, ap, subst, ◌∙◌}
+use Rattle.lock_command.specs.declared.command.Command.{Command}
+use Rattle.host.specs.Host.{idles}
+use Rattle.cluster_tie.specs.Parts.{Own}
+use Rattle.cluster.specs.Seat.{host_in}
+use Rattle.cluster.specs.Tasks.{MayBegin}
+use Rattle.cluster.proofs.Begun.{begun_task, idle_there, may_follow, Begins}
 use Rattle.cluster.proofs.journal.Journal.begin.Goals as goal
 
-pub invariant_of-self-2 : goal.invariant_of-self-2
-invariant_of-self-2 g c =
+pub keep-requires : goal.keep-requires
+keep-requires g c =
     let shape = g.N.ClusterName.shape in
-    let j = c.self.invariant in
-    let p = c.push_reserved.ensures in
-    let a = c.append_host.ensures in
-    let ok = c.in_ok-has_room.ensures.ok in
-    let host = c.args.host.now in
-    let log = c.self.inside.tie in
-    let e = g.E.TiedEntry.entry in
-    let may = subst (λ (s : JournalState). host.entries ≡ of_host host.number s.log → MayFollow shape (world shape s.log) e) (sym c.self.view_is) c.requires.may a.parts in
+    let own = c.seat.inside.tie in
+    let log = c.args.self.now.log in
+    let idle = ap (λ (o : Own). idles (host_in shape o)) c.seat.view_is ∙ c.requires.idle in
+    let may = subst (λ (o : Own). MayBegin shape o.number c.args.task.now) (sym c.seat.view_is) c.requires.may in
     record {
-      config = j.config;
-      kept = p.items ∙ (λ i. (c.has_room.ensures.items ∙ j.kept) i ++ c.requires.told i ∷ []) ∙ sym (plains_more log e) ∙ ap plains (sym a.journal);
-      run = subst (IsFreshRun shape) (sym a.journal) (runs.fresh_more shape log e j.run may);
-      room = omega (arith, p.len, p.capacity, ok.0);
-      most = omega (arith, p.len, ok.1);
-      total = j.total;
-      parts = j.parts;
-      enough = j.enough;
-      empty = j.empty;
-      tokens = keeps_tokens _ _ _ _ a.journal j.tokens;
+      entry = refl;
+      host = c.host-host.ensures ∙ c.seat.invariant.running.leads.learner.is_host;
+      may = λ part. may_follow shape log own.number c.args.task.now (idle_there shape log own idle part) may;
     }
+
+pub start-requires-clause-may : goal.start-requires-clause-may
+start-requires-clause-may g c =
+    let number = ap (λ (o : Own). o.number) c.seat.view_is in
+    subst (λ (h : ℕ). MayBegin g.N.ClusterName.shape h c.args.task.now) (sym (c.seat.invariant.running.leads.learner.is_host ∙ number)) c.requires.may
+
+pub invariant_of-seat-2 : goal.invariant_of-seat-2
+invariant_of-seat-2 g c =
+    let shape = g.N.ClusterName.shape in
+    let s = c.seat.invariant in
+    let own = c.seat.inside.tie in
+    let core = c.seat.inside.core in
+    let idle = ap (λ (o : Own). idles (host_in shape o)) c.seat.view_is ∙ c.requires.idle in
+    let b = begun_task shape own core c.start.new.core c.seat.inside.submitting (length c.args.self.now.log) c.args.task.now s.running idle (c.start.ensures shape own.number) in
+    let k = subst (λ (p : Own × Option Command). Begins shape own p.0 core c.start.new.core p.1) (λ i. (sym c.in_ok-keep.ensures.tie i, sym c.command-seat-inside.ensures i)) b in
+    record { running = k.running; acks = s.acks ∙ k.acks; few = k.few (length c.seat.inside.acks.items) s.few; room = s.room }
