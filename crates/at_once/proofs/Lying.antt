@@ -10,7 +10,7 @@ use Rattle.torn_block.specs.declared.layout.TheConstants.{HOSTS, ROW_LENGTH, HEA
 use Rattle.torn_block.specs.declared.write_steps.WriteCall.TheVariants.{CloseGate, SyncClosed, PutBody, SyncBody, OpenGate, SyncOpened}
 use Rattle.paxos_block.specs.Places.{BeatOf, VoteOf, row_place, image_length, IsWithin}
 use Rattle.paxos_block.specs.Row.{DecodedBlock}
-use Rattle.attempt.specs.Calls.{Kind, Attaching, Syncing, Reading, Putting, Opening}
+use Rattle.attempt.specs.Calls.{Kind, Attaching, Syncing, Reading, Putting, Opening, seventeen}
 use Rattle.attempt.specs.Answers.{Heard, Answers, on, row_in, seen_block, boot_of}
 use Rattle.attempt.specs.NextCall.{call_by, with_disk}
 use Rattle.attempt.specs.Setup.{Setup}
@@ -131,12 +131,12 @@ module _ (slots : ℕ) (s : beat.Setup) where
   kind_reads a beat.Attaching = tt
   kind_reads a beat.Syncing = tt
   kind_reads a beat.Reading = (omega arith, omega arith)
-  kind_reads a (beat.Putting CloseGate) = tt
-  kind_reads a (beat.Putting SyncClosed) = tt
-  kind_reads a (beat.Putting PutBody) = tt
-  kind_reads a (beat.Putting SyncBody) = tt
-  kind_reads a (beat.Putting OpenGate) = tt
-  kind_reads a (beat.Putting SyncOpened) = tt
+  kind_reads a (beat.Putting p CloseGate) = tt
+  kind_reads a (beat.Putting p SyncClosed) = tt
+  kind_reads a (beat.Putting p PutBody) = tt
+  kind_reads a (beat.Putting p SyncBody) = tt
+  kind_reads a (beat.Putting p OpenGate) = tt
+  kind_reads a (beat.Putting p SyncOpened) = tt
 
   call_reads : (a : List beat_answers.Heard) (o : Option beat.Kind) (d k : ℕ) (call : Call) → with_disk d (option_map (beat.call_by s a) o) ≡ Some (k, call) → ReadLies slots call
   call_reads a None d k call is = absurd (cc)
@@ -145,7 +145,7 @@ module _ (slots : ℕ) (s : beat.Setup) where
       subst (ReadLies slots) (ap (λ (q : ℕ × Call). q.1) pair) (kind_reads a kind)
 
   status_reads : (f : beat_answers.Answers) (st : beat.Status) (k : ℕ) (call : Call) → beat.next_in s f st ≡ Some (k, call) → ReadLies slots call
-  status_reads f (beat.Due d) k call is = call_reads (f d) (slice_get beat.nine (length (f d))) d k call is
+  status_reads f (beat.Due d) k call is = call_reads (f d) (slice_get seventeen (length (f d))) d k call is
   status_reads f (beat.Ended end) k call is = absurd (cc)
 
 -- and a look

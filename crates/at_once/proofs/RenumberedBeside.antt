@@ -41,10 +41,10 @@ module _ (s : beat.Setup) (losses : ℕ → ℕ) (f : beat_answers.Answers) wher
   area : (d : ℕ) → area_in (g d) ≡ area_in (f d)
   area d = told_at (losses d) (f d) 2
 
-  stuck : (d : ℕ) → beat.is_stuck s.host (g d) ≡ beat.is_stuck s.host (f d)
+  stuck : (d : ℕ) → beat.is_stuck s (g d) ≡ beat.is_stuck s (f d)
   stuck d = λ i. (len d i == 3) && nat_le LAST_SEQUENCE (counter_of (own_block_in s.host (area d i)))
 
-  left : (d : ℕ) → beat.is_left s.host (g d) ≡ beat.is_left s.host (f d)
+  left : (d : ℕ) → beat.is_left s (g d) ≡ beat.is_left s (f d)
   left d = λ i. good d i && not (stuck d i)
 
   visiting : beat.visited s g ≡ beat.visited s f
@@ -61,7 +61,7 @@ module _ (s : beat.Setup) (losses : ℕ → ℕ) (f : beat_answers.Answers) wher
   calling d beat.Attaching = refl
   calling d beat.Syncing = λ i. device.Sync (booted d i)
   calling d beat.Reading = λ i. device.Read (booted d i) area_place ROW_LENGTH
-  calling d (beat.Putting call) =
+  calling d (beat.Putting p call) =
       (λ i. call_of call (record { version = cluster_version; place = place_of (BeatOf s.host); block = own_block_in s.host (area d i); body = beat_body }) (booted d i))
       ∙ call_of_later (losses d) call (beat.write_on s (f d)) (boot_of (f d))
 
@@ -70,7 +70,7 @@ module _ (s : beat.Setup) (losses : ℕ → ℕ) (f : beat_answers.Answers) wher
   calling_so d (Some kind) = ap (λ (c : device.Call). Some c) (calling d kind)
 
   calls : (d : ℕ) → beat.call_on s (g d) ≡ option_map (call_later (losses d)) (beat.call_on s (f d))
-  calls d = ap (λ (n : ℕ). option_map (beat.call_by s (g d)) (slice_get beat.nine n)) (len d) ∙ calling_so d (slice_get beat.nine (length (f d)))
+  calls d = ap (λ (n : ℕ). option_map (beat.call_by s (g d)) (slice_get attempt.seventeen n)) (len d) ∙ calling_so d (slice_get attempt.seventeen (length (f d)))
 
   by_status : (st : beat.Status) → beat.next_in s g st ≡ due_later losses (beat.next_in s f st)
   by_status (beat.Due d) = ap (with_disk d) (calls d) ∙ with_disk_later losses d (beat.call_on s (f d))

@@ -89,7 +89,7 @@ module _ (h : ℕ) (below : h < HOSTS) (k : ℕ) (call : Call) where
   beat_kind s a beat.Attaching is = tt
   beat_kind s a beat.Syncing is = tt
   beat_kind s a beat.Reading is = tt
-  beat_kind s a (beat.Putting put) is =
+  beat_kind s a (beat.Putting p put) is =
       let w = beat.write_on s a in
       puts_own w.place h (BeatOf s.host) refl is below w.block w.body (beat_answers.boot_of a) put
 
@@ -98,7 +98,7 @@ module _ (h : ℕ) (below : h < HOSTS) (k : ℕ) (call : Call) where
   beat_by s a d (Some kind) is due = same_call h d k (beat.call_by s a kind) call due (beat_kind s a kind is)
 
   beat_in : (s : beat.Setup) (f : beat_answers.Answers) (st : beat.Status) → s.host ≡ h → beat.next_in s f st ≡ Some (k, call) → IsOwn h call
-  beat_in s f (beat.Due d) is due = beat_by s (f d) d (slice_get beat.nine (length (f d))) is due
+  beat_in s f (beat.Due d) is due = beat_by s (f d) d (slice_get seventeen (length (f d))) is due
   beat_in s f (beat.Ended end) is due = absurd (cc)
 
   look_kind : (s : look.Setup) (a : List Heard) (b : Bool) → IsOwn h (if b then Attach else Read (boot_of a) (row_place s.slot) ROW_LENGTH)

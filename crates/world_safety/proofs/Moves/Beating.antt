@@ -15,6 +15,7 @@ use Rattle.paxos_block.specs.Places.{VoteOf, BeatOf, place_of, IsImage, IsWithin
 use Rattle.paxos_block.proofs.PlaceLemmas.{stays_image}
 use Rattle.attempt.proofs.Lists.{by_eq}
 use Rattle.heartbeat.specs.Beat.{beat_body}
+use Rattle.attempt.specs.Calls.{seventeen}
 use Rattle.attempt.specs.NextCall.{with_disk}
 use Rattle.beats.specs.Answers as beat_answers
 use Rattle.beats.specs.Status as beat
@@ -73,7 +74,7 @@ kind_within : (s : beat.Setup) (a : List beat_answers.Heard) (kind : beat.Kind) 
 kind_within s a beat.Attaching = tt
 kind_within s a beat.Syncing = tt
 kind_within s a beat.Reading = tt
-kind_within s a (beat.Putting call) = put_within s a _ call
+kind_within s a (beat.Putting p call) = put_within s a _ call
 
 call_within : (s : beat.Setup) (a : List beat_answers.Heard) (o : Option beat.Kind) (d k : ℕ) (call : Call) → with_disk d (option_map (beat.call_by s a) o) ≡ Some (k, call) → IsWithin (BeatOf s.host) call
 call_within s a None d k call is = absurd (cc)
@@ -82,7 +83,7 @@ call_within s a (Some kind) d k call is =
     subst (IsWithin (BeatOf s.host)) (ap (λ (q : ℕ × Call). q.1) pair) (kind_within s a kind)
 
 status_within : (s : beat.Setup) (f : beat_answers.Answers) (st : beat.Status) (k : ℕ) (call : Call) → beat.next_in s f st ≡ Some (k, call) → IsWithin (BeatOf s.host) call
-status_within s f (beat.Due d) k call is = call_within s (f d) (slice_get beat.nine (length (f d))) d k call is
+status_within s f (beat.Due d) k call is = call_within s (f d) (slice_get seventeen (length (f d))) d k call is
 status_within s f (beat.Ended end) k call is = absurd (cc)
 
 -- a call of a beat is within the host's heartbeat block
