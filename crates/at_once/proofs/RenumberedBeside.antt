@@ -42,7 +42,7 @@ module _ (s : beat.Setup) (losses : ℕ → ℕ) (f : beat_answers.Answers) wher
   area d = told_at (losses d) (f d) 2
 
   stuck : (d : ℕ) → beat.is_stuck s (g d) ≡ beat.is_stuck s (f d)
-  stuck d = λ i. (len d i == 3) && nat_le LAST_SEQUENCE (counter_of (own_block_in s.host (area d i)))
+  stuck d = λ i. (len d i == 3) && true && nat_le LAST_SEQUENCE (counter_of (own_block_in s.host (area d i)))
 
   left : (d : ℕ) → beat.is_left s (g d) ≡ beat.is_left s (f d)
   left d = λ i. good d i && not (stuck d i)
