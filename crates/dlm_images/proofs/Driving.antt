@@ -13,7 +13,7 @@ use Rattle.lock_command.specs.declared.command.Command.{Command}
 use Rattle.lock_command.specs.Reading.{decoded}
 use Rattle.beats.specs.Answers.{Answered as Beaten}
 use Rattle.beats.specs.Calls.{device_answer}
-use Rattle.beats.specs.declared.notes.Notes.{Notes as BeatNotes}
+use Rattle.beats.specs.Notes.{Notes as BeatNotes}
 use Rattle.phases.specs.Calls.{heard_of}
 use Rattle.phases.specs.declared.heard.Heard as code_heard
 use Rattle.slot_log.specs.Shape.{Shape}
