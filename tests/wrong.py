@@ -4,11 +4,14 @@
     wrong.py                what is due, and why; and whether each edit of wrong/ and of must-fail/ can still be applied
     wrong.py try CRATE..    has the checker try all of wrong/ in these crates (`all`: in each), and records in wrong/tried that it refused each
     wrong.py note CRATE..   records the same of what `rt ci` or `rt must-fail` printed on standard input, over a copy of these very crates
-    wrong.py put            puts a copy of each edit that is due into must-fail/, where `rt ci` tries it
+    wrong.py put            puts a copy of the edits that are due into must-fail/, where `rt ci` tries them: as many crates as have 100 together
     wrong.py back           takes these copies out again
 
 A crate is due where its src/, specs/, proofs/ or wrong/ differ from what wrong/tried says was tried, but for lines that are comments. In turn, one crate in twelve is due each day,
 for a change of the crates below it could let a wrong body through. With WRONG=all in the environment each crate is due.
+
+A run of the gate has a limited time. So `put` leaves out the crates that have too many edits, and says which. They stay due, and each day `put` begins with another crate.
+With WRONG=all none is left out.
 """
 import datetime
 import hashlib
@@ -21,6 +24,8 @@ import tempfile
 
 TOP = os.path.dirname(os.path.dirname(os.path.realpath(__file__)))
 TURNS = 12
+# So many edits of wrong/ one run of the gate tries at most.
+LIMIT = int(os.environ.get("WRONG_LIMIT", "100"))
 
 
 def edits_of(crate, part="wrong"):
@@ -99,6 +104,19 @@ def due():
     return found
 
 
+def parted(found):
+    """Of the crates that are due, those that one run of the gate tries, and those that stay due."""
+    if os.environ.get("WRONG") == "all" or not found:
+        return found, []
+    first = day() % len(found)
+    taken, left, room = [], [], LIMIT
+    for crate, why in found[first:] + found[:first]:
+        many = len(edits_of(crate))
+        (taken if many <= room else left).append((crate, why))
+        room -= many if many <= room else 0
+    return taken, left
+
+
 def why_unfit(crate, edit):
     """Why an edit cannot be applied, if it cannot: each `old:` text has to stand once in its file, as the pairs before it left that."""
     texts, path, old, pairs = {}, None, None, 0
@@ -134,7 +152,10 @@ def unfit():
 
 
 def put():
-    for crate, why in due():
+    taken, left = parted(due())
+    for crate, why in left:
+        print(f"wrong.py: {crate}: {len(edits_of(crate))} wrong bodies stay due, since no more fit in one run: {why}")
+    for crate, why in taken:
         os.makedirs(f"{TOP}/crates/{crate}/must-fail", exist_ok=True)
         for edit in edits_of(crate):
             shutil.copyfile(f"{TOP}/crates/{crate}/wrong/{edit}", f"{TOP}/crates/{crate}/must-fail/{edit}")

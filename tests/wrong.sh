@@ -131,6 +131,22 @@ ends 0 "what is due is put into must-fail/" "$wrong" put
 ends 0 "and taken out again" "$wrong" back
 ends 0 "nothing else is changed" cmp -- "$work/before" <(find "$work/crates" | sort)
 
+# Two crates of four edits fit in a run that has room for five, and each day another is the first.
+echo 'one three' | tee -- "$work/crates/"{c,d}/src/lib.rt > /dev/null
+for day in 12 13 14; do
+    WRONG_LIMIT=5 WRONG_DAY=$day ends 0 "as many are put as fit" "$wrong" put
+    grep -o '^wrong.py: .: 2 more' "$work/told" >> "$work/fitted"
+    ends 0 "the others stay due" test "$(grep -c 'wrong bodies stay due' "$work/told")" -ge 1
+    ends 0 "and taken out again" "$wrong" back
+done
+for crate in b c d; do
+    ends 0 "$crate is put within three days" grep -q "^wrong.py: $crate: 2 more" "$work/fitted"
+done
+WRONG=all WRONG_LIMIT=5 ends 0 "WRONG=all leaves none out" "$wrong" put
+ends 0 "each crate is put" test "$(grep -c ' more wrong bodies' "$work/told")" -eq 9
+ends 0 "and taken out again" "$wrong" back
+echo 'one two' | tee -- "$work/crates/"{c,d}/src/lib.rt > /dev/null
+
 echo 'one and one' > "$work/crates/b/src/lib.rt"
 ends 1 "an edit whose old text stands twice" "$wrong" put
 ends 0 "nothing was put" cmp -- "$work/before" <(find "$work/crates" | sort)

@@ -1,16 +1,18 @@
 -- What a host does between its operations, and within them, is what it may do.
 use Rattle.std.specs.Prelude.{IsTrue}
-use Rattle.std.proofs.Common.{ℕ, ◌≡◌, true, List, [], ◌∷◌, ◌++◌, refl, sym, subst, ap, ◌∙◌}
+use Rattle.std.proofs.Common.{ℕ, ◌≡◌, List, [], ◌∷◌, ◌++◌, refl, sym, subst, ap, ◌∙◌}
 use Rattle.disk.specs.Disk.{Call, Answer}
 use Rattle.slot_log.specs.Shape.{Shape}
-use Rattle.host.specs.Host.{Operation, Submitting, Recovering, Memory, Host, Stopped, Running, fresh, is_idle, is_stopped, goes_on, starts_look, starts_marking}
-use Rattle.host.specs.Kept.{Kept, LeadsTo}
-use Rattle.host.specs.Kept as keeping
-use Rattle.world.specs.Entry.{Filled, Start, Look, Mark, host_step, host_after, started}
-use Rattle.dlm_images.specs.Operations.{Made, after_call, after_made, AreDue}
+use Rattle.host.specs.Host.{Operation, Submitting, Recovering, Memory, Host, Stopped, Running, fresh, is_stopped, goes_on, looks_on, starts_marking}
+use Rattle.host.specs.Host as hosts
+use Rattle.host.specs.declared.task.Task.{Task}
+use Rattle.host.specs.declared.task.Task.TheVariants.{Look, Mark}
+use Rattle.world.specs.Entry.{Filled, Start, Begin, host_step, host_after, started}
+use Rattle.world.specs.World.{MayBeGiven}
+use Rattle.dlm_images.specs.Operations.{Made, Standing, HasCarriedOut, after_call, after_made, AreDue}
 use Rattle.host.proofs.Hosts.{idle_is}
-use Rattle.at_once.specs.AtOnce.{MayDo, Does}
-use Rattle.at_once.specs.Deeds.{calls, beginning, MayBegin, HasDone, Starts, Operates, Marks, Looks}
+use Rattle.at_once.specs.AtOnce.{Does}
+use Rattle.at_once.specs.Deeds.{calls, task_of, HasDone, Starts, Operates, Marks, Looks}
 
 module _ (c : Shape) (h : ℕ) where
   -- ONE AFTER ANOTHER
@@ -35,25 +37,24 @@ module _ (c : Shape) (h : ℕ) where
 
   -- A BEGINNING, AND CALLS
 
-  -- an idle host begins by this entry, and knows that then
-  record Begins (kept : Kept) (es : List Filled) (e : Filled) (begun : Memory) : Type 0 where
-    old : HasDone c h kept es
-    may : MayDo c h (Running old.memory) e
-    is : host_step c h (Running old.memory) e ≡ Running begun
-
-  goes_on_with : (kept : Kept) (es : List Filled) (e : Filled) (begun : Memory) (made : List Made) (new : Kept) → Begins kept es e begun → AreDue c h begun made → keeping.is_idle new ≡ true → LeadsTo c h (after_made c h begun made) new →
-      HasDone c h new (es ++ e ∷ calls h made)
-  goes_on_with kept es e begun made new b due ended leads =
-      let then = after_made c h begun made in
-      let here = b.old.knows in
+  -- an idle host was given a task, with which it begins so, and made the calls until that had ended
+  carries_out : {D : Type 0} (gives : D → Call → Answer → D → Type 0) (es : List Filled) (task : Task) (begins : Shape → Memory → Memory) (old new : Standing D) → ((m : Memory) → hosts.starts c m task ≡ begins c m) →
+      HasDone c h old.core es → MayBeGiven c h task → (done : HasCarriedOut gives begins old new) → HasDone c h new.core (es ++ Begin h task ∷ calls h done.made)
+  carries_out gives es task begins old new same before may done =
+      let m = before.memory in
+      let begun = begins c m in
+      let then = after_made c h begun done.made in
+      let more = Begin h task ∷ calls h done.made in
+      let is : host_step c h (Running m) (Begin h task) ≡ Running begun = ap Running (same m) in
+      let leads = done.leads c h m before.leads in
       record {
-        does = does_both Stopped es (e ∷ calls h made) b.old.does
-            (subst (λ (host : Host). Does c h host (e ∷ calls h made)) (sym here)
-            (b.may, subst (λ (host : Host). Does c h host (calls h made)) (sym b.is) (calls_do begun made due)));
+        does = does_both Stopped es more before.does
+            (subst (λ (host : Host). Does c h host more) (sym before.knows)
+            ((before.idle, may), subst (λ (host : Host). Does c h host (calls h done.made)) (sym is) (calls_do begun done.made (done.due c h m before.leads))));
         memory = then;
-        knows = after_both Stopped es (e ∷ calls h made) ∙ ap (λ (host : Host). host_after c h host (e ∷ calls h made)) here
-            ∙ ap (λ (host : Host). host_after c h host (calls h made)) b.is ∙ calls_know begun made;
-        idle = sym (idle_is c h then new leads) ∙ ended;
+        knows = after_both Stopped es more ∙ ap (λ (host : Host). host_after c h host more) before.knows
+            ∙ ap (λ (host : Host). host_after c h host (calls h done.made)) is ∙ calls_know begun done.made;
+        idle = sym (idle_is c h then new.core leads) ∙ done.ended;
         leads = leads;
       }
 
@@ -72,31 +73,16 @@ starts c h kept es below does stopped leads =
     fresh_after Stopped is = refl
     fresh_after (Running m) is = absurd (cc)
 
-may_begin : (c : Shape) (h : ℕ) (m : Memory) (operation : Operation) (tries : ℕ) → is_idle m ≡ true → MayBegin h operation tries → MayDo c h (Running m) (beginning h operation tries)
-may_begin c h m (Submitting command) tries idle may = (idle, may.0, may.1, may.2, may.3)
-may_begin c h m Recovering tries idle may = (idle, may)
-
-begun_is : (c : Shape) (h : ℕ) (m : Memory) (operation : Operation) (tries : ℕ) → MayBegin h operation tries → host_step c h (Running m) (beginning h operation tries) ≡ Running (goes_on c m operation tries)
-begun_is c h m (Submitting command) tries may = refl
-begun_is c h m Recovering tries may = refl
-
 pub operates : {D : Type 0} (gives : D → Call → Answer → D → Type 0) → Operates gives
 operates gives c h es operation tries old new before may done =
-    let m = before.memory in
-    goes_on_with c h old.core es (beginning h operation tries) (goes_on c m operation tries) done.made new.core
-    (record { old = before; may = may_begin c h m operation tries before.idle may; is = begun_is c h m operation tries may })
-    (done.due c h m before.leads) done.ended (done.leads c h m before.leads)
+    carries_out c h gives es (task_of operation tries) (λ c m. goes_on c m operation tries) old new (begun operation) before may done
+  where
+    begun : (o : Operation) (m : Memory) → hosts.starts c m (task_of o tries) ≡ goes_on c m o tries
+    begun (Submitting command) m = refl
+    begun Recovering m = refl
 
 pub marks : {D : Type 0} (gives : D → Call → Answer → D → Type 0) → Marks gives
-marks gives c h es slot old new before fits done =
-    let m = before.memory in
-    goes_on_with c h old.core es (Mark h slot) (starts_marking m slot) done.made new.core
-    (record { old = before; may = (before.idle, fits); is = refl })
-    (done.due c h m before.leads) done.ended (done.leads c h m before.leads)
+marks gives c h es slot old new before fits done = carries_out c h gives es (Mark slot) (λ c m. starts_marking m slot) old new (λ m. refl) before fits done
 
 pub looks : {D : Type 0} (gives : D → Call → Answer → D → Type 0) → Looks gives
-looks gives c h es old new before done =
-    let m = before.memory in
-    goes_on_with c h old.core es (Look h) (starts_look c m) done.made new.core
-    (record { old = before; may = before.idle; is = refl })
-    (done.due c h m before.leads) done.ended (done.leads c h m before.leads)
+looks gives c h es old new before done = carries_out c h gives es Look (λ c m. looks_on c m 0) old new (λ m. refl) before tt done

@@ -11,7 +11,7 @@ use Rattle.paxos_block.specs.Places.{IsImage, image_length}
 use Rattle.lock_command.specs.declared.command.Command.{Command}
 use Rattle.slot_log.specs.Shape.{Shape}
 use Rattle.host.specs.Host.{Host, Stopped}
-use Rattle.world.specs.Entry.{Filled, Start, Stop, Submit, Recover, Look, Beat, Mark, Called, Torn, Crashed, Lost, Migrated, is_on, is_of, on_disk, of_host, torn_by, called_by, crashed_to, disk_step, host_step, host_after}
+use Rattle.world.specs.Entry.{Filled, Start, Stop, Begin, Called, Torn, Crashed, Lost, Migrated, is_on, is_of, on_disk, of_host, torn_by, called_by, crashed_to, disk_step, host_step, host_after}
 use Rattle.world.specs.World.{World, Tears, opening_disk, world, MayFollow, CanMigrate, IsRunFrom, IsRun}
 use Rattle.world.proofs.Runs.{more, fresh_is_run}
 use Rattle.world.proofs.Projections.{disk_here, disk_there, host_here, host_there}
@@ -122,11 +122,7 @@ module _ (c : Shape) (before : List Filled) (run : IsRun c before) where
   pub filling : (e : Filled) (es : List Filled) → IsDeed e → Ahead c before e es → Filling c before e es
   filling (Start h) es deed a = quiet c before (Start h) es a (λ k. refl) (of_here c before (Start h) es a h (is_itself h)).0
   filling (Stop h) es deed a = quiet c before (Stop h) es a (λ k. refl) (of_here c before (Stop h) es a h (is_itself h)).0
-  filling (Submit h command tries) es deed a = quiet c before (Submit h command tries) es a (λ k. refl) (of_here c before (Submit h command tries) es a h (is_itself h)).0
-  filling (Recover h tries) es deed a = quiet c before (Recover h tries) es a (λ k. refl) (of_here c before (Recover h tries) es a h (is_itself h)).0
-  filling (Look h) es deed a = quiet c before (Look h) es a (λ k. refl) (of_here c before (Look h) es a h (is_itself h)).0
-  filling (Beat h) es deed a = quiet c before (Beat h) es a (λ k. refl) (of_here c before (Beat h) es a h (is_itself h)).0
-  filling (Mark h slot) es deed a = quiet c before (Mark h slot) es a (λ k. refl) (of_here c before (Mark h slot) es a h (is_itself h)).0
+  filling (Begin h task) es deed a = quiet c before (Begin h task) es a (λ k. refl) (of_here c before (Begin h task) es a h (is_itself h)).0
   filling (Called h d call answer left) es deed a =
       let e = Called h d call answer left in
       let does = of_here c before e es a h (is_itself h) in
@@ -193,18 +189,8 @@ module _ (c : Shape) (h : ℕ) where
   by_one false x xs old = refl
 
   bare_step : (x : Filled) (old : Host) → cond (is_of h (bare x)) (host_step c h old (bare x)) old ≡ cond (is_of h x) (host_step c h old x) old
-  bare_step (Start g) old = refl
-  bare_step (Stop g) old = refl
-  bare_step (Submit g command tries) old = refl
-  bare_step (Recover g tries) old = refl
-  bare_step (Look g) old = refl
-  bare_step (Beat g) old = refl
-  bare_step (Mark g slot) old = refl
   bare_step (Called g k call answer left) old = refl
-  bare_step (Torn g k call left) old = refl
-  bare_step (Crashed k left) old = refl
-  bare_step (Lost k) old = refl
-  bare_step (Migrated disks commands) old = refl
+  bare_step other old = refl
 
   bare_host : (xs : List Filled) (old : Host) → host_after c h old (of_host h (map bare xs)) ≡ host_after c h old (of_host h xs)
   bare_host [] old = refl

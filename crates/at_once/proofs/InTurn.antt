@@ -9,14 +9,14 @@ use Rattle.disk.specs.Simulated.{SimState, fresh_disk}
 use Rattle.paxos_block.specs.Places.{image_length}
 use Rattle.slot_log.specs.Shape.{Shape}
 use Rattle.slot_log.specs.declared.outcome.Refusal.{Refusal}
-use Rattle.host.specs.Host.{Operation, Submitting, Recovering, Stopped}
+use Rattle.host.specs.Host.{Operation, Submitting, Stopped}
 use Rattle.lock_command.specs.declared.command.Command.{Command}
-use Rattle.world.specs.Entry.{Filled, Start, Called, is_of, is_on, on_disk, of_host}
+use Rattle.world.specs.Entry.{Filled, Start, Begin, Called, is_of, is_on, on_disk, of_host}
 use Rattle.world.specs.World.{opening_disk}
 use Rattle.dlm_images.specs.declared.disk_host.Acknowledgement.{Acknowledgement}
 use Rattle.dlm_images.specs.Operations.{Made, Gave, Standing, IsAcknowledged}
-use Rattle.at_once.specs.AtOnce.{Does, Serves, IsDeed, AreDeeds, IsAtOnce}
-use Rattle.at_once.specs.Deeds.{calls, beginning, HasDone}
+use Rattle.at_once.specs.AtOnce.{Does, Serves, AreDeeds, IsAtOnce}
+use Rattle.at_once.specs.Deeds.{calls, task_of, HasDone}
 use Rattle.at_once.specs.Images.{HoldsNothing}
 use Rattle.at_once.specs.InTurn.{Gives, IsTurn, NoTwoAtOneSlot, TurnsAgree, HasSubmitted}
 use Rattle.at_once.specs.Joined.{HasCome}
@@ -41,15 +41,7 @@ whole {A} (x ∷ l) = ap (λ (r : List A). x ∷ r) (whole l)
 
 -- a host's turn, entry by entry
 abbrev turn : ℕ → Operation → ℕ → List Made → List Filled
-turn h operation tries made = Start h ∷ beginning h operation tries ∷ calls h made
-
-begins_of : (j h : ℕ) (operation : Operation) (tries : ℕ) → is_of j (beginning h operation tries) ≡ (h == j)
-begins_of j h (Submitting command) tries = refl
-begins_of j h Recovering tries = refl
-
-begins_on : (k h : ℕ) (operation : Operation) (tries : ℕ) → is_on k (beginning h operation tries) ≡ false
-begins_on k h (Submitting command) tries = refl
-begins_on k h Recovering tries = refl
+turn h operation tries made = Start h ∷ Begin h (task_of operation tries) ∷ calls h made
 
 own_calls : (j h : ℕ) (made : List Made) → (h == j) ≡ true → of_host j (calls h made) ≡ calls h made
 own_calls j h [] is = refl
@@ -63,19 +55,19 @@ other_calls j h (x ∷ xs) off = first_goes (is_of j) (Called h x.disk x.call x.
 
 own_turn : (j h : ℕ) (operation : Operation) (tries : ℕ) (made : List Made) → (h == j) ≡ true → of_host j (turn h operation tries made) ≡ turn h operation tries made
 own_turn j h operation tries made is =
-    let e = beginning h operation tries in
+    let e = Begin h (task_of operation tries) in
     first_stays (is_of j) (Start h) (e ∷ calls h made) is
-    ∙ ap (λ (l : List Filled). Start h ∷ l) (first_stays (is_of j) e (calls h made) (begins_of j h operation tries ∙ is) ∙ ap (λ (l : List Filled). e ∷ l) (own_calls j h made is))
+    ∙ ap (λ (l : List Filled). Start h ∷ l) (first_stays (is_of j) e (calls h made) is ∙ ap (λ (l : List Filled). e ∷ l) (own_calls j h made is))
 
 other_turn : (j h : ℕ) (operation : Operation) (tries : ℕ) (made : List Made) → (h == j) ≡ false → of_host j (turn h operation tries made) ≡ []
 other_turn j h operation tries made off =
-    let e = beginning h operation tries in
-    first_goes (is_of j) (Start h) (e ∷ calls h made) off ∙ first_goes (is_of j) e (calls h made) (begins_of j h operation tries ∙ off) ∙ other_calls j h made off
+    let e = Begin h (task_of operation tries) in
+    first_goes (is_of j) (Start h) (e ∷ calls h made) off ∙ first_goes (is_of j) e (calls h made) off ∙ other_calls j h made off
 
 turn_on : (k h : ℕ) (operation : Operation) (tries : ℕ) (made : List Made) → on_disk k (turn h operation tries made) ≡ on_disk k (calls h made)
 turn_on k h operation tries made =
-    let e = beginning h operation tries in
-    first_goes (is_on k) (Start h) (e ∷ calls h made) refl ∙ first_goes (is_on k) e (calls h made) (begins_on k h operation tries)
+    let e = Begin h (task_of operation tries) in
+    first_goes (is_on k) (Start h) (e ∷ calls h made) refl ∙ first_goes (is_on k) e (calls h made) refl
 
 -- where there is no disk no call was made
 record IsNowhere (k h : ℕ) (made : List Made) (new : List SimState) : Type 0 where
@@ -101,12 +93,8 @@ calls_deeds : (h : ℕ) (made : List Made) → AreDeeds (calls h made)
 calls_deeds h [] = tt
 calls_deeds h (x ∷ made) = (tt, calls_deeds h made)
 
-begins_deed : (h : ℕ) (operation : Operation) (tries : ℕ) → IsDeed (beginning h operation tries)
-begins_deed h (Submitting command) tries = tt
-begins_deed h Recovering tries = tt
-
 turn_deeds : (h : ℕ) (operation : Operation) (tries : ℕ) (made : List Made) → AreDeeds (turn h operation tries made)
-turn_deeds h operation tries made = (tt, (begins_deed h operation tries, calls_deeds h made))
+turn_deeds h operation tries made = (tt, (tt, calls_deeds h made))
 
 both_deeds : (first second : List Filled) → AreDeeds first → AreDeeds second → AreDeeds (first ++ second)
 both_deeds [] second are more = more

@@ -9,7 +9,8 @@ use Rattle.lock_command.specs.declared.command.Command.{Command}
 use Rattle.slot_log.specs.Shape.{Shape}
 use Rattle.host.specs.Host.{Host, Stopped, Running}
 use Rattle.host.specs.Kept.{Kept}
-use Rattle.world.specs.Entry.{Filled, Start, Stop, Submit, Recover, Look, Beat, Mark, Called, Torn, Crashed, Lost, Migrated, is_on, is_of, on_disk, of_host, host_step, host_after}
+use Rattle.host.specs.declared.task.Task.TheVariants.{Recover}
+use Rattle.world.specs.Entry.{Filled, Start, Stop, Begin, Called, Torn, Crashed, Lost, Migrated, is_on, is_of, on_disk, of_host, host_step, host_after}
 use Rattle.world.specs.World.{Tears}
 use Rattle.world.specs.Chosen.{IsCallOf, migrated}
 use Rattle.world.specs.Headline.{IsPrefix}
@@ -104,78 +105,28 @@ disk_none disk = λ i. record { bytes = disk.bytes; unsynced = disk.unsynced; bo
 
 module _ (losses : ℕ → ℕ) where
   on_same : (k : ℕ) (e : Filled) → is_on k (entry_later losses e) ≡ is_on k e
-  on_same k (Start g) = refl
-  on_same k (Stop g) = refl
-  on_same k (Submit g command tries) = refl
-  on_same k (Recover g tries) = refl
-  on_same k (Look g) = refl
-  on_same k (Beat g) = refl
-  on_same k (Mark g slot) = refl
   on_same k (Called g d call answer left) = refl
-  on_same k (Torn g d call left) = refl
-  on_same k (Crashed d left) = refl
-  on_same k (Lost d) = refl
-  on_same k (Migrated disks commands) = refl
+  on_same k other = refl
 
   pub of_same : (h : ℕ) (e : Filled) → is_of h (entry_later losses e) ≡ is_of h e
-  of_same h (Start g) = refl
-  of_same h (Stop g) = refl
-  of_same h (Submit g command tries) = refl
-  of_same h (Recover g tries) = refl
-  of_same h (Look g) = refl
-  of_same h (Beat g) = refl
-  of_same h (Mark g slot) = refl
   of_same h (Called g d call answer left) = refl
-  of_same h (Torn g d call left) = refl
-  of_same h (Crashed d left) = refl
-  of_same h (Lost d) = refl
-  of_same h (Migrated disks commands) = refl
+  of_same h other = refl
 
   -- a loss of power elsewhere does not count here
   elsewhere : (k : ℕ) (e : Filled) → is_on k e ≡ false → losses_with losses e k ≡ losses k
-  elsewhere k (Start g) off = refl
-  elsewhere k (Stop g) off = refl
-  elsewhere k (Submit g command tries) off = refl
-  elsewhere k (Recover g tries) off = refl
-  elsewhere k (Look g) off = refl
-  elsewhere k (Beat g) off = refl
-  elsewhere k (Mark g slot) off = refl
-  elsewhere k (Called g d call answer left) off = refl
-  elsewhere k (Torn g d call left) off = refl
   elsewhere k (Crashed d left) off = ap (λ (b : Bool). cond b (suc (losses k)) (losses k)) off
-  elsewhere k (Lost d) off = refl
-  elsewhere k (Migrated disks commands) off = refl
+  elsewhere k other off = refl
 
   at_most_one : (k : ℕ) (b : Bool) → cond b (suc (losses k)) (losses k) ≤ losses k + 1
   at_most_one k true = omega arith
   at_most_one k false = omega arith
 
-  itself : (k : ℕ) → losses k ≤ losses k + 1
-  itself k = omega arith
-
   one_more : (k : ℕ) (e : Filled) → losses_with losses e k ≤ losses k + 1
-  one_more k (Start g) = itself k
-  one_more k (Stop g) = itself k
-  one_more k (Submit g command tries) = itself k
-  one_more k (Recover g tries) = itself k
-  one_more k (Look g) = itself k
-  one_more k (Beat g) = itself k
-  one_more k (Mark g slot) = itself k
-  one_more k (Called g d call answer left) = itself k
-  one_more k (Torn g d call left) = itself k
   one_more k (Crashed d left) = at_most_one k (d == k)
-  one_more k (Lost d) = itself k
-  one_more k (Migrated disks commands) = itself k
+  one_more k other = at_most_one k false
 
   goes : (c : Shape) (k : ℕ) (old new : DiskState) (e : Filled) → losses k + 1 < 2 ^ 62 → is_on k e ≡ true → GoesOn c k old e new →
       Goes c k (disk_later (losses k) old) (entry_later losses e) (disk_later (losses_with losses e k) new)
-  goes c k old new (Start g) few on s = absurd s
-  goes c k old new (Stop g) few on s = absurd s
-  goes c k old new (Submit g command tries) few on s = absurd s
-  goes c k old new (Recover g tries) few on s = absurd s
-  goes c k old new (Look g) few on s = absurd s
-  goes c k old new (Beat g) few on s = absurd s
-  goes c k old new (Mark g slot) few on s = absurd s
   goes c k old new (Called g d call answer left) few on s =
       subst (λ (n : ℕ). Step (disk_later (losses k) old) (call_later n call) (answer_later n answer) (disk_later (losses k) new)) (ap losses (sym (eqb-true d k on)))
       (step (losses k) old new call answer s)
@@ -189,7 +140,7 @@ module _ (losses : ℕ → ℕ) where
     subst (λ (n : ℕ). Crashes (disk_later (losses k) old) (disk_later n new)) (ap (λ (b : Bool). cond b (suc (losses k)) (losses k)) (sym on)) (crashes (losses k) old new s.2),
   )
   goes c k old new (Lost d) few on s = (s.0, s.1, ap (disk_later (losses k)) s.2)
-  goes c k old new (Migrated disks commands) few on s = absurd s
+  goes c k old new other few on s = absurd s
 
 serves : (c : Shape) (k : ℕ) (losses : ℕ → ℕ) (old : DiskState) (es : List Filled) → losses k + length es < 2 ^ 62 → ServesOn c k old (on_disk k es) →
     Serves c k (disk_later (losses k) old) (on_disk k (renumbered_from losses es))
@@ -216,16 +167,10 @@ serves c k losses old (e ∷ es) few s =
 may_do : (c : Shape) (h : ℕ) (losses : ℕ → ℕ) (host : Host) (e : Filled) → MayDo c h host e → MayDo c h (host_later losses host) (entry_later losses e)
 may_do c h losses host (Start g) m = (m.0, subst IsTrue (sym (stopped_later losses host)) m.1)
 may_do c h losses host (Stop g) m = stopped_later losses host ∙ m
-may_do c h losses host (Submit g command tries) m = (subst IsTrue (sym (idles_later losses host)) m.0, m.1, m.2, m.3, m.4)
-may_do c h losses host (Recover g tries) m = (subst IsTrue (sym (idles_later losses host)) m.0, m.1)
-may_do c h losses host (Look g) m = subst IsTrue (sym (idles_later losses host)) m
-may_do c h losses host (Beat g) m = subst IsTrue (sym (idles_later losses host)) m
-may_do c h losses host (Mark g slot) m = (subst IsTrue (sym (idles_later losses host)) m.0, m.1)
+may_do c h losses host (Begin g task) m = (subst IsTrue (sym (idles_later losses host)) m.0, m.1)
 may_do c h losses host (Called g k call answer left) m = next_of_later losses c h host ∙ ap (due_later losses) m
 may_do c h losses host (Torn g k call left) m = next_of_later losses c h host ∙ ap (due_later losses) m
-may_do c h losses host (Crashed k left) m = absurd m
-may_do c h losses host (Lost k) m = absurd m
-may_do c h losses host (Migrated disks commands) m = absurd m
+may_do c h losses host other m = absurd m
 
 -- where an image lost power the host has stopped
 abbrev IsDark : Shape → ℕ → Host → List Filled → Type 0
@@ -240,20 +185,10 @@ record Renumbers (c : Shape) (h : ℕ) (host : Host) (es : List Filled) (other :
 module _ (c : Shape) (h : ℕ) where
   -- a stopped host knows nothing of boot numbers
   same_host : (losses : ℕ → ℕ) (host : Host) (e : Filled) (es : List Filled) → IsDark c h host (e ∷ es) → host_later (losses_with losses e) host ≡ host_later losses host
-  same_host losses host (Start g) es dark = refl
-  same_host losses host (Stop g) es dark = refl
-  same_host losses host (Submit g command tries) es dark = refl
-  same_host losses host (Recover g tries) es dark = refl
-  same_host losses host (Look g) es dark = refl
-  same_host losses host (Beat g) es dark = refl
-  same_host losses host (Mark g slot) es dark = refl
-  same_host losses host (Called g d call answer left) es dark = refl
-  same_host losses host (Torn g d call left) es dark = refl
   same_host losses host (Crashed d left) es dark =
       let stopped : host ≡ Stopped = dark 0 d left refl in
       ap (host_later (losses_with losses (Crashed d left))) stopped ∙ ap (host_later losses) (sym stopped)
-  same_host losses host (Lost d) es dark = refl
-  same_host losses host (Migrated disks commands) es dark = refl
+  same_host losses host other es dark = refl
 
   -- a host that has done nothing since
   same_dark : (host : Host) (e : Filled) (es : List Filled) → is_of h e ≡ false → IsDark c h host (e ∷ es) → IsDark c h host es
@@ -263,18 +198,8 @@ module _ (c : Shape) (h : ℕ) where
   step_dark host e es own dark i k left is = ap (λ (b : Bool). host_after c h host (cond b (e ∷ of_host h (take i es)) (of_host h (take i es)))) (sym own) ∙ dark (suc i) k left is
 
   keeps_counts : (losses : ℕ → ℕ) (host : Host) (e : Filled) → is_of h e ≡ true → host_later (losses_with losses e) host ≡ host_later losses host
-  keeps_counts losses host (Start g) own = refl
-  keeps_counts losses host (Stop g) own = refl
-  keeps_counts losses host (Submit g command tries) own = refl
-  keeps_counts losses host (Recover g tries) own = refl
-  keeps_counts losses host (Look g) own = refl
-  keeps_counts losses host (Beat g) own = refl
-  keeps_counts losses host (Mark g slot) own = refl
-  keeps_counts losses host (Called g d call answer left) own = refl
-  keeps_counts losses host (Torn g d call left) own = refl
   keeps_counts losses host (Crashed d left) own = absurd (true≢false (sym own))
-  keeps_counts losses host (Lost d) own = absurd (true≢false (sym own))
-  keeps_counts losses host (Migrated disks commands) own = absurd (true≢false (sym own))
+  keeps_counts losses host other own = refl
 
   renumbers : (i : ℕ) (losses : ℕ → ℕ) (host : Host) (es : List Filled) → IsDark c h host es → Does c h host (of_host h (take i es)) →
       Renumbers c h host (of_host h (take i es)) (host_later losses host) (of_host h (take i (renumbered_from losses es)))
@@ -331,17 +256,7 @@ as_long losses (e ∷ es) = ap (λ (n : ℕ). suc n) (as_long (losses_with losse
 -- a deed stays one
 deed_later : (losses : ℕ → ℕ) (e : Filled) → IsDeed e → IsDeed (entry_later losses e)
 deed_later losses (Migrated disks commands) is = absurd is
-deed_later losses (Called h d call answer left) is = tt
-deed_later losses (Torn h d call left) is = tt
-deed_later losses (Crashed d left) is = tt
-deed_later losses (Lost d) is = tt
-deed_later losses (Start g) is = tt
-deed_later losses (Stop g) is = tt
-deed_later losses (Submit g command tries) is = tt
-deed_later losses (Recover g tries) is = tt
-deed_later losses (Look g) is = tt
-deed_later losses (Beat g) is = tt
-deed_later losses (Mark g slot) is = tt
+deed_later losses other is = tt
 
 deeds_later : (losses : ℕ → ℕ) (es : List Filled) → AreDeeds es → AreDeeds (renumbered_from losses es)
 deeds_later losses [] are = tt
@@ -421,7 +336,7 @@ module _ (c : Shape) (log : List Filled) (dark : (h : ℕ) → IsDark c h Stoppe
       let end = at_later (λ d. 0) log j r.entry r.last in
       record {
         tries = r.tries;
-        begins = (at_later (λ d. 0) log i (Recover h r.tries) r.begins).here;
+        begins = (at_later (λ d. 0) log i (Begin h (Recover r.tries)) r.begins).here;
         order = r.order;
         calls = calls;
         entry = entry_later end.losses r.entry;
@@ -434,18 +349,8 @@ module _ (c : Shape) (log : List Filled) (dark : (h : ℕ) → IsDark c h Stoppe
 -- a migration stays as it is
 migrated_later : (losses : ℕ → ℕ) (es : List Filled) → migrated (renumbered_from losses es) ≡ migrated es
 migrated_later losses [] = refl
-migrated_later losses (Start g ∷ es) = refl
-migrated_later losses (Stop g ∷ es) = refl
-migrated_later losses (Submit g command tries ∷ es) = refl
-migrated_later losses (Recover g tries ∷ es) = refl
-migrated_later losses (Look g ∷ es) = refl
-migrated_later losses (Beat g ∷ es) = refl
-migrated_later losses (Mark g slot ∷ es) = refl
-migrated_later losses (Called g k call answer left ∷ es) = refl
-migrated_later losses (Torn g k call left ∷ es) = refl
-migrated_later losses (Crashed k left ∷ es) = refl
-migrated_later losses (Lost k ∷ es) = refl
 migrated_later losses (Migrated disks commands ∷ es) = refl
+migrated_later losses (other ∷ es) = refl
 
 -- what hosts keep goes by the log of the run under the later numbers
 joined : (c : Shape) (log : List Filled) → ((h : ℕ) → IsDark c h Stopped log) → (of : IsRunOf c (renumbered log)) → IsJoined c log of.one.commands

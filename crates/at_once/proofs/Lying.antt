@@ -22,15 +22,15 @@ use Rattle.beats.specs.Status as beat
 use Rattle.marks.specs.Status as mark
 use Rattle.looks.specs.Status as look
 use Rattle.slot_log.specs.Shape.{Shape}
-use Rattle.host.specs.Host.{Doing, Host, next_of, next_doing, setup_of, marking_of, look_of, beat_of}
+use Rattle.host.specs.Host.{Doing, Attempts, Looks, Beats, Marks, next_of, setup_of, marking_of, look_of, beat_of}
 use Rattle.world.specs.Entry.{Filled, called_by}
 use Rattle.world.specs.World.{World, world, IsRun}
 use Rattle.world.proofs.Looking as looking
 use Rattle.world_safety.specs.Cluster.{at_cluster}
-use Rattle.world_safety.specs.Marking.{IsMarkingSlot, IsMarkingIf}
+use Rattle.world_safety.specs.Marking.{IsMarkingSlot}
 use Rattle.world_safety.specs.Tied.{Moves, IsDoing, Tied}
 use Rattle.world_safety.proofs.Moves.Beating.{beat_within}
-use Rattle.world_safety.proofs.Moves.Due.{Attempts, IsBeatCall, IsMarkCall, IsLookCall, busy, due_of}
+use Rattle.world_safety.proofs.Moves.Due.{IsBusyWith, busy, due_of}
 use Rattle.world_safety.proofs.Moves.Looking.{due_call}
 use Rattle.world_safety.proofs.Moves.Marking.{mark_due, mark_within}
 use Rattle.world_safety.proofs.Moves.Moving.{running_at}
@@ -179,54 +179,36 @@ module _ (c : Shape) (log : List Filled) (run : IsRun c log) (h k : ℕ) (call :
   tied : Tied c w ms
   tied = subst (λ (l : List Filled). Tied c (world c l) ms) (whole log) (tied_at c log run (length log))
 
-  by_attempt : Attempts (w.host h) → Lies c.slots call
-  by_attempt a =
+  -- whatever is under way
+  by : (doing : Doing) → IsBusyWith c h k call (w.host h) doing → Lies c.slots call
+  by (Attempts t) it =
       let some = some_step (w.disk k) call in
-      let m = a.memory in
-      let s = setup_of c h m a.doing.operation in
-      let f = on a.doing.heard in
-      let d = due_of c w ms h k call some.answer some.left m a.doing (record { tied = tied; running = a.running; does = a.does; next = next; step = some.step }) in
-      let due : next_doing c h m (Some a.doing) ≡ Some (k, call) =
-      subst (λ (o : Option Doing). next_doing c h m o ≡ Some (k, call)) a.does (subst (λ (host : Host). next_of c h host ≡ Some (k, call)) a.running next) in
-      let both : Some (k, call_by s k f d.is.kind) ≡ Some (k, call) = sym (next_is s f d.is.phase k d.is.kind d.is.due d.is.kind_is) ∙ due in
+      let m = it.memory in
+      let s = setup_of c h m t.operation in
+      let f = on t.heard in
+      let d = due_of c w ms h k call some.answer some.left m t (record { tied = tied; running = it.running; does = it.does; next = next; step = some.step }) in
+      let both : Some (k, call_by s k f d.is.kind) ≡ Some (k, call) = sym (next_is s f d.is.phase k d.is.kind d.is.due d.is.kind_is) ∙ it.due in
       let pair : (k, call_by s k f d.is.kind) ≡ (k, call) = cc in
       subst (Lies c.slots) (ap (λ (q : ℕ × Call). q.1) pair)
       (vote_lies c.slots (length m.learned) h (call_by s k f d.is.kind) d.trying.fits d.run.below d.inside (attempt_reads c.slots s k f d.is.kind d.trying.fits))
-
-  by_beat : IsBeatCall c h k call (w.host h) → Lies c.slots call
-  by_beat b =
-      let running = running_at c w ms tied h b.memory b.running in
-      beat_lies c.slots h call running.below (beat_within (beat_of c h) (beat_answers.on b.heard) k call b.due)
-      (status_reads c.slots (beat_of c h) (beat_answers.on b.heard) (beat.status (beat_of c h) (beat_answers.on b.heard)) k call b.due)
-
-  by_mark : IsMarkCall c h k call (w.host h) → Lies c.slots call
-  by_mark b =
-      let m = b.memory in
-      let t = b.marking in
-      let running = running_at c w ms tied h m b.running in
-      let marks : IsMarkingIf c w h m m.marking = subst (IsDoing c w ms h m) b.rests running.doing in
-      let marking : IsMarkingSlot c w h m t = subst (IsMarkingIf c w h m) b.marks marks in
+  by (Looks t) it =
+      let s = look_of c it.memory t.first in
+      let f = on t.heard in
+      subst (Lies c.slots) (due_call s f (look.status s f) k call it.due) (look_lies c.slots s (f k) (looking.fits c log h it.memory t run it.running it.does))
+  by (Beats heard) it =
+      let running = running_at c w ms tied h it.memory it.running in
+      beat_lies c.slots h call running.below (beat_within (beat_of c h) (beat_answers.on heard) k call it.due)
+      (status_reads c.slots (beat_of c h) (beat_answers.on heard) (beat.status (beat_of c h) (beat_answers.on heard)) k call it.due)
+  by (Marks t) it =
+      let m = it.memory in
+      let running = running_at c w ms tied h m it.running in
+      let marking : IsMarkingSlot c w h m t = subst (IsDoing c w ms h m) it.does running.doing in
       let s = marking_of c h m t.slot in
       let a = on t.heard k in
-      let due = mark_due s (on t.heard) k call b.due in
+      let due = mark_due s (on t.heard) k call it.due in
       let within = mark_within s a (fills cluster_version (mark.with_mark (mark.own_block s a).says) (own_long s a running.below (marking.votes k))) due.kind in
       subst (Lies c.slots) (sym due.call_is)
       (vote_lies c.slots t.slot h (mark.call_by s a due.kind) marking.fits running.below within (mark_reads c.slots s a due.kind marking.fits))
 
-  by_look : IsLookCall c k call (w.host h) → Lies c.slots call
-  by_look b =
-      let s = look_of c b.memory b.looking.first in
-      let f = on b.looking.heard in
-      subst (Lies c.slots) (due_call s f (look.status s f) k call b.due) (look_lies c.slots s (f k) (looking.fits c log h b.memory b.looking run b.running b.looks.looks))
-
   pub lies : Lies c.slots call
-  lies = elim (busy c h k call (w.host h) next) [
-    | inl a ↦ by_attempt a
-    | inr others ↦ elim others [
-      | inl b ↦ by_beat b
-      | inr rest ↦ elim rest [
-        | inl b ↦ by_mark b
-        | inr b ↦ by_look b
-      ]
-    ]
-  ]
+  lies = let at_work = busy c h k call (w.host h) next in by at_work.0 at_work.1

@@ -1,10 +1,10 @@
 -- In a run each host does what it may, and each disk serves it.
-use Rattle.std.proofs.Common.{ℕ, ◌≡◌, ◌==◌, Bool, true, cond, List, [], ◌∷◌, ◌++◌, refl, sym, subst, inl, inr}
+use Rattle.std.proofs.Common.{ℕ, ◌≡◌, ◌==◌, Bool, true, true≢false, cond, List, [], ◌∷◌, ◌++◌, refl, sym, subst, inl, inr}
 use Rattle.std.proofs.lemmas.Bool.{cases_Bool, eqb-true}
 use Rattle.disk.specs.Disk.{DiskState}
 use Rattle.slot_log.specs.Shape.{Shape}
 use Rattle.host.specs.Host.{Host}
-use Rattle.world.specs.Entry.{Filled, Start, Stop, Submit, Recover, Look, Beat, Mark, Called, Torn, Crashed, Lost, Migrated, is_on, is_of, on_disk, of_host, disk_step}
+use Rattle.world.specs.Entry.{Filled, Start, Stop, Begin, Called, Torn, Crashed, Lost, Migrated, is_on, is_of, on_disk, of_host, disk_step}
 use Rattle.world.specs.World.{World, opening_disk, world, MayFollow, IsRunFrom, IsFreshRun}
 use Rattle.world.proofs.Projections.{disk_here, disk_there, host_here, host_there}
 use Rattle.at_once.proofs.Headless.{zeros_hold_nothing}
@@ -17,33 +17,21 @@ module _ (c : Shape) (w : World) where
   may_do : (e : Filled) → MayFollow c w e → (h : ℕ) → is_of h e ≡ true → MayDo c h (w.host h) e
   may_do (Start g) m h is = at_own (Start g) g h is m
   may_do (Stop g) m h is = at_own (Stop g) g h is m
-  may_do (Submit g command tries) m h is = at_own (Submit g command tries) g h is m
-  may_do (Recover g tries) m h is = at_own (Recover g tries) g h is m
-  may_do (Look g) m h is = at_own (Look g) g h is m
-  may_do (Beat g) m h is = at_own (Beat g) g h is m
-  may_do (Mark g slot) m h is = at_own (Mark g slot) g h is m
+  may_do (Begin g task) m h is = at_own (Begin g task) g h is m
   may_do (Called g k call answer left) m h is = at_own (Called g k call answer left) g h is m.0
   may_do (Torn g k call left) m h is = at_own (Torn g k call left) g h is m.0
-  may_do (Crashed k left) m h is = absurd (cc)
-  may_do (Lost k) m h is = absurd (cc)
-  may_do (Migrated disks commands) m h is = absurd m
+  may_do other m h is = absurd (true≢false (sym is))
 
   on_own : (e : Filled) (d k : ℕ) → (d == k) ≡ true → Goes c d (w.disk d) e (disk_step (w.disk d) e) → Goes c k (w.disk k) e (disk_step (w.disk k) e)
   on_own e d k is m = subst (λ (n : ℕ). Goes c n (w.disk n) e (disk_step (w.disk n) e)) (eqb-true d k is) m
 
   goes : (e : Filled) → MayFollow c w e → (k : ℕ) → is_on k e ≡ true → Goes c k (w.disk k) e (disk_step (w.disk k) e)
-  goes (Start g) m k is = absurd (cc)
-  goes (Stop g) m k is = absurd (cc)
-  goes (Submit g command tries) m k is = absurd (cc)
-  goes (Recover g tries) m k is = absurd (cc)
-  goes (Look g) m k is = absurd (cc)
-  goes (Beat g) m k is = absurd (cc)
-  goes (Mark g slot) m k is = absurd (cc)
   goes (Called g d call answer left) m k is = on_own (Called g d call answer left) d k is m.1
   goes (Torn g d call left) m k is = on_own (Torn g d call left) d k is m.1
   goes (Crashed d left) m k is = on_own (Crashed d left) d k is (m.0.0, m.0.1, m.1, m.2)
   goes (Lost d) m k is = on_own (Lost d) d k is (m.0, m.1, refl)
   goes (Migrated disks commands) m k is = absurd m
+  goes other m k is = absurd (true≢false (sym is))
 
 module _ (c : Shape) where
   does_from : (before es : List Filled) → IsRunFrom c before es → (h : ℕ) → Does c h ((world c before).host h) (of_host h es)

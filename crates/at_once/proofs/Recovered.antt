@@ -8,7 +8,9 @@ use Rattle.slot_log.specs.Shape.{Shape}
 use Rattle.host.specs.declared.answer.HostAnswer.TheVariants.{Recovered}
 use Rattle.host.specs.Host.{said_of}
 use Rattle.host.specs.Kept.{Kept}
-use Rattle.world.specs.Entry.{Filled, Start, Stop, Submit, Recover, Look, Beat, Mark, Called, Torn, Crashed, Lost, Migrated, is_of}
+use Rattle.host.specs.declared.task.Task.{Task}
+use Rattle.host.specs.declared.task.Task.TheVariants.{Recover}
+use Rattle.world.specs.Entry.{Filled, Begin, Called, Migrated, is_of}
 use Rattle.world.specs.Chosen.{at, migrated, SaysAt, IsCallOf, IsRecovery}
 use Rattle.world.specs.Headline.{prefix_at}
 use Rattle.world_safety.specs.Tracks.{AreChosen}
@@ -52,63 +54,23 @@ all_below (x ∷ xs) n below = let last = last_item x xs in omega (arith, below 
 -- WITHOUT THE BYTES LEFT
 
 bare_of : (h : ℕ) (x : Filled) → is_of h (bare x) ≡ is_of h x
-bare_of h (Start g) = refl
-bare_of h (Stop g) = refl
-bare_of h (Submit g command tries) = refl
-bare_of h (Recover g tries) = refl
-bare_of h (Look g) = refl
-bare_of h (Beat g) = refl
-bare_of h (Mark g slot) = refl
 bare_of h (Called g k call answer left) = refl
-bare_of h (Torn g k call left) = refl
-bare_of h (Crashed k left) = refl
-bare_of h (Lost k) = refl
-bare_of h (Migrated disks commands) = refl
+bare_of h other = refl
 
-bare_recover : (x : Filled) (h tries : ℕ) → bare x ≡ Recover h tries → x ≡ Recover h tries
-bare_recover (Start g) h tries is = absurd (cc)
-bare_recover (Stop g) h tries is = absurd (cc)
-bare_recover (Submit g command more) h tries is = absurd (cc)
-bare_recover (Recover g more) h tries is = is
-bare_recover (Look g) h tries is = absurd (cc)
-bare_recover (Beat g) h tries is = absurd (cc)
-bare_recover (Mark g slot) h tries is = absurd (cc)
-bare_recover (Called g k call answer left) h tries is = absurd (cc)
-bare_recover (Torn g k call left) h tries is = absurd (cc)
-bare_recover (Crashed k left) h tries is = absurd (cc)
-bare_recover (Lost k) h tries is = absurd (cc)
-bare_recover (Migrated disks commands) h tries is = absurd (cc)
+bare_begins : (x : Filled) (h : ℕ) (task : Task) → bare x ≡ Begin h task → x ≡ Begin h task
+bare_begins (Begin g given) h task is = is
+bare_begins other h task is = absurd (cc)
 
 bare_called : (x : Filled) (h d : ℕ) (call : Call) (answer : Answer) → bare x ≡ Called h d call answer [] → IsCallOf h x
-bare_called (Start g) h d call answer is = absurd (cc)
-bare_called (Stop g) h d call answer is = absurd (cc)
-bare_called (Submit g command more) h d call answer is = absurd (cc)
-bare_called (Recover g more) h d call answer is = absurd (cc)
-bare_called (Look g) h d call answer is = absurd (cc)
-bare_called (Beat g) h d call answer is = absurd (cc)
-bare_called (Mark g slot) h d call answer is = absurd (cc)
 bare_called (Called g k made told left) h d call answer is =
     let same : g ≡ h = cc in
     record { disk = k; call = made; answer = told; left = left; is = ap (λ (n : ℕ). Called n k made told left) same }
-bare_called (Torn g k made left) h d call answer is = absurd (cc)
-bare_called (Crashed k left) h d call answer is = absurd (cc)
-bare_called (Lost k) h d call answer is = absurd (cc)
-bare_called (Migrated disks commands) h d call answer is = absurd (cc)
+bare_called other h d call answer is = absurd (cc)
 
 bare_migrated : (xs : List Filled) → migrated (map bare xs) ≡ migrated xs
 bare_migrated [] = refl
-bare_migrated (Start g ∷ xs) = refl
-bare_migrated (Stop g ∷ xs) = refl
-bare_migrated (Submit g command tries ∷ xs) = refl
-bare_migrated (Recover g tries ∷ xs) = refl
-bare_migrated (Look g ∷ xs) = refl
-bare_migrated (Beat g ∷ xs) = refl
-bare_migrated (Mark g slot ∷ xs) = refl
-bare_migrated (Called g k call answer left ∷ xs) = refl
-bare_migrated (Torn g k call left ∷ xs) = refl
-bare_migrated (Crashed k left ∷ xs) = refl
-bare_migrated (Lost k ∷ xs) = refl
 bare_migrated (Migrated disks commands ∷ xs) = refl
+bare_migrated (other ∷ xs) = refl
 
 module _ (c : Shape) (log : List Filled) (of : IsRunOf c log) where
   -- the run begins with the same migration
@@ -123,10 +85,10 @@ module _ (c : Shape) (log : List Filled) (of : IsRunOf c log) where
   in_log k x is = of_map bare log k (bare x) (ap (λ (l : List Filled). slice_get l k) (sym of.same) ∙ at_map bare of.run k x is)
 
   module _ (i j h n : ℕ) (kept : Kept) (r : HasRecovered c log i j h n kept) where
-    begins : slice_get of.run i ≡ Some (Recover h r.tries)
+    begins : slice_get of.run i ≡ Some (Begin h (Recover r.tries))
     begins =
-        let first = in_run i (Recover h r.tries) r.begins in
-        first.here ∙ ap (λ (e : Filled). Some e) (bare_recover first.item h r.tries first.is)
+        let first = in_run i (Begin h (Recover r.tries)) r.begins in
+        first.here ∙ ap (λ (e : Filled). Some e) (bare_begins first.item h (Recover r.tries) first.is)
 
     calls : (k : ℕ) (x : Filled) → i < k → k ≤ j → slice_get of.run k ≡ Some x → is_of h x ≡ true → IsCallOf h x
     calls k x after before here own =

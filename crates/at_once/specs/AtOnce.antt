@@ -4,11 +4,10 @@ use Rattle.std.specs.Prelude.{◌≡◌, ◌<◌, ◌^◌, ℕ, false, IsTrue, L
 use Rattle.disk.specs.Disk.{DiskState, Step, Crashes, lost}
 use Rattle.torn_block.specs.declared.layout.TheConstants.{HOSTS}
 use Rattle.lock_command.specs.declared.command.Command.{Command}
-use Rattle.lock_command.specs.Command.{is_submittable}
 use Rattle.slot_log.specs.Shape.{Shape}
 use Rattle.host.specs.Host.{Host, Stopped, next_of, is_stopped, idles}
-use Rattle.world.specs.Entry.{Filled, Start, Stop, Submit, Recover, Look, Beat, Mark, Called, Torn, Crashed, Lost, Migrated, on_disk, of_host, host_step, host_after}
-use Rattle.world.specs.World.{ReadsBack, Tears, opening_disk, world, CanMigrate, IsFreshRun, IsRun}
+use Rattle.world.specs.Entry.{Filled, Start, Stop, Begin, Called, Torn, Crashed, Lost, Migrated, on_disk, of_host, host_step, host_after}
+use Rattle.world.specs.World.{MayBeGiven, Tears, opening_disk, world, CanMigrate, IsFreshRun, IsRun}
 use Rattle.world.specs.Chosen.{at}
 use Rattle.world.specs.Headline.{HasOneLog}
 use Rattle.at_once.specs.Images.{used}
@@ -19,17 +18,10 @@ use Rattle.at_once.specs.Images.{used}
 abbrev pub MayDo : Shape → ℕ → Host → Filled → Type 0
 MayDo c h host (Start g) = (h < HOSTS) × IsTrue (is_stopped host)
 MayDo c h host (Stop g) = is_stopped host ≡ false
-MayDo c h host (Submit g command tries) =
-    IsTrue (idles host) × ReadsBack command × (command.host ≡ h) × (0 < tries) × IsTrue (is_submittable command)
-MayDo c h host (Recover g tries) = IsTrue (idles host) × (0 < tries)
-MayDo c h host (Look g) = IsTrue (idles host)
-MayDo c h host (Beat g) = IsTrue (idles host)
-MayDo c h host (Mark g slot) = IsTrue (idles host) × (slot < c.slots)
+MayDo c h host (Begin g task) = IsTrue (idles host) × MayBeGiven c h task
 MayDo c h host (Called g k call answer left) = next_of c h host ≡ Some (k, call)
 MayDo c h host (Torn g k call left) = next_of c h host ≡ Some (k, call)
-MayDo c h host (Crashed k left) = ⊥
-MayDo c h host (Lost k) = ⊥
-MayDo c h host (Migrated disks log) = ⊥
+MayDo c h host other = ⊥
 
 -- one after the other
 abbrev pub Does : Shape → ℕ → Host → List Filled → Type 0
@@ -38,20 +30,13 @@ Does c h host (e ∷ es) = MayDo c h host e × Does c h (host_step c h host e) e
 
 -- WHAT AN IMAGE MAKES OF IT
 
--- disk k may go from old to new by this: a call that is answered so, a write within which the host stopped, a crash, or a loss
+-- disk k may go from old to new by this alone: a call that is answered so, a write within which the host stopped, a crash, or a loss
 abbrev pub Goes : Shape → ℕ → DiskState → Filled → DiskState → Type 0
-Goes c k old (Start h) new = ⊥
-Goes c k old (Stop h) new = ⊥
-Goes c k old (Submit h command tries) new = ⊥
-Goes c k old (Recover h tries) new = ⊥
-Goes c k old (Look h) new = ⊥
-Goes c k old (Beat h) new = ⊥
-Goes c k old (Mark h slot) new = ⊥
 Goes c k old (Called h d call answer left) new = Step old call answer new
 Goes c k old (Torn h d call left) new = Tears call old new
 Goes c k old (Crashed d left) new = (k < c.disks) × (old.gone ≡ false) × (old.boot < 2 ^ 62) × Crashes old new
 Goes c k old (Lost d) new = (k < c.disks) × (old.gone ≡ false) × (new ≡ lost old)
-Goes c k old (Migrated disks log) new = ⊥
+Goes c k old other new = ⊥
 
 -- one after the other, with some disk behind each
 abbrev pub Serves : Shape → ℕ → DiskState → List Filled → Type 0

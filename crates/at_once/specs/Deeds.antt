@@ -2,12 +2,13 @@
 use Rattle.std.specs.Prelude.{◌≡◌, ◌<◌, ℕ, true, List, [], ◌∷◌, ◌++◌, map, IsTrue}
 use Rattle.disk.specs.Disk.{Call, Answer}
 use Rattle.torn_block.specs.declared.layout.TheConstants.{HOSTS}
-use Rattle.lock_command.specs.Command.{is_submittable}
 use Rattle.slot_log.specs.Shape.{Shape}
 use Rattle.host.specs.Host.{Operation, Submitting, Recovering, Memory, Stopped, Running, fresh, is_idle, is_stopped}
 use Rattle.host.specs.Kept.{Kept, LeadsTo}
-use Rattle.world.specs.Entry.{Filled, Start, Submit, Recover, Look, Mark, Called, host_after}
-use Rattle.world.specs.World.{ReadsBack}
+use Rattle.host.specs.declared.task.Task.{Task}
+use Rattle.host.specs.declared.task.Task.TheVariants.{Submit, Recover, Look, Mark}
+use Rattle.world.specs.Entry.{Filled, Start, Begin, Called, host_after}
+use Rattle.world.specs.World.{MayBeGiven}
 use Rattle.dlm_images.specs.Operations.{Made, Standing, HasOperated, HasMarked, HasLooked}
 use Rattle.at_once.specs.AtOnce.{Does}
 
@@ -17,15 +18,10 @@ use Rattle.at_once.specs.AtOnce.{Does}
 abbrev pub calls : ℕ → List Made → List Filled
 calls h made = map (λ x. Called h x.disk x.call x.answer []) made
 
--- the entry with which an operation begins
-abbrev pub beginning : ℕ → Operation → ℕ → Filled
-beginning h (Submitting command) tries = Submit h command tries
-beginning h Recovering tries = Recover h tries
-
--- host h may begin it: it submits a command of its own, whose spelling reads as it
-abbrev pub MayBegin : ℕ → Operation → ℕ → Type 0
-MayBegin h (Submitting command) tries = ReadsBack command × (command.host ≡ h) × (0 < tries) × IsTrue (is_submittable command)
-MayBegin h Recovering tries = 0 < tries
+-- the task that is an operation with so many tries
+abbrev pub task_of : Operation → ℕ → Task
+task_of (Submitting command) tries = Submit command tries
+task_of Recovering tries = Recover tries
 
 -- WHAT A HOST HAS DONE
 
@@ -45,17 +41,17 @@ Starts = (c : Shape) (h : ℕ) (kept : Kept) (es : List Filled) → h < HOSTS �
 -- an operation has ended, and its calls were made
 abbrev pub Operates : {D : Type 0} → (D → Call → Answer → D → Type 0) → Type 0
 Operates {D = D} gives = (c : Shape) (h : ℕ) (es : List Filled) (operation : Operation) (tries : ℕ) (old new : Standing D) →
-    HasDone c h old.core es → MayBegin h operation tries → (done : HasOperated gives operation tries old new) →
-    HasDone c h new.core (es ++ beginning h operation tries ∷ calls h done.made)
+    HasDone c h old.core es → MayBeGiven c h (task_of operation tries) → (done : HasOperated gives operation tries old new) →
+    HasDone c h new.core (es ++ Begin h (task_of operation tries) ∷ calls h done.made)
 
 -- a slot was marked, and its calls were made
 abbrev pub Marks : {D : Type 0} → (D → Call → Answer → D → Type 0) → Type 0
 Marks {D = D} gives = (c : Shape) (h : ℕ) (es : List Filled) (slot : ℕ) (old new : Standing D) →
     HasDone c h old.core es → slot < c.slots → (done : HasMarked gives slot old new) →
-    HasDone c h new.core (es ++ Mark h slot ∷ calls h done.made)
+    HasDone c h new.core (es ++ Begin h (Mark slot) ∷ calls h done.made)
 
 -- a look has ended, and its calls were made
 abbrev pub Looks : {D : Type 0} → (D → Call → Answer → D → Type 0) → Type 0
 Looks {D = D} gives = (c : Shape) (h : ℕ) (es : List Filled) (old new : Standing D) →
     HasDone c h old.core es → (done : HasLooked gives old new) →
-    HasDone c h new.core (es ++ Look h ∷ calls h done.made)
+    HasDone c h new.core (es ++ Begin h Look ∷ calls h done.made)

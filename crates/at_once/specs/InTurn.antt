@@ -9,9 +9,10 @@ use Rattle.slot_log.specs.Shape.{Shape}
 use Rattle.slot_log.specs.declared.outcome.Refusal.{Refusal}
 use Rattle.host.specs.Host.{Operation, Submitting, fresh}
 use Rattle.host.specs.Kept.{Kept, LeadsTo}
+use Rattle.world.specs.World.{MayBeGiven}
 use Rattle.dlm_images.specs.declared.disk_host.Acknowledgement.{Acknowledgement}
 use Rattle.dlm_images.specs.Operations.{Standing, HasOperated, IsAcknowledged}
-use Rattle.at_once.specs.Deeds.{MayBegin}
+use Rattle.at_once.specs.Deeds.{task_of}
 use Rattle.at_once.specs.Images.{HoldsNothing}
 
 -- what a simulated disk gives
@@ -23,7 +24,7 @@ pub record IsTurn (c : Shape) (h : ℕ) (operation : Operation) (tries : ℕ) (d
   pub below : h < HOSTS
   pub old : Kept
   pub leads : LeadsTo c h fresh old
-  pub may : MayBegin h operation tries
+  pub may : MayBeGiven c h (task_of operation tries)
   pub did : HasOperated Gives operation tries (record { core = old; disks = disks }) new
 
 -- at a slot both acknowledge the same command

@@ -6,7 +6,8 @@ use Rattle.slot_log.specs.Shape.{Shape}
 use Rattle.host.specs.Host.{reply_after}
 use Rattle.host.specs.Kept.{Kept}
 use Rattle.host.specs.declared.answer.HostAnswer.TheVariants.{Recovered}
-use Rattle.world.specs.Entry.{Filled, Recover, of_host, is_of}
+use Rattle.host.specs.declared.task.Task.TheVariants.{Recover}
+use Rattle.world.specs.Entry.{Filled, Begin, of_host, is_of}
 use Rattle.world.specs.Chosen.{IsCallOf, migrated}
 use Rattle.world.specs.Headline.{IsPrefix}
 use Rattle.dlm_images.specs.Operations.{IsAcknowledged}
@@ -21,7 +22,7 @@ HasCome c log i h kept = HasDone c h kept (of_host h (take i log))
 -- learned n commands, and keeps this then.
 pub record HasRecovered (c : Shape) (log : List Filled) (i j h n : ℕ) (kept : Kept) : Type 0 where
   pub tries : ℕ
-  pub begins : slice_get log i ≡ Some (Recover h tries)
+  pub begins : slice_get log i ≡ Some (Begin h (Recover tries))
   pub order : i ≤ j
   pub calls : (k : ℕ) (e : Filled) → i < k → k ≤ j → slice_get log k ≡ Some e → is_of h e ≡ true → IsCallOf h e
   pub entry : Filled

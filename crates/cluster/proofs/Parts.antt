@@ -6,7 +6,7 @@ use Rattle.disk.specs.Steps.{WritesOn}
 use Rattle.torn_block.specs.declared.layout.TheConstants.{HOSTS}
 use Rattle.slot_log.specs.Shape.{Shape}
 use Rattle.host.specs.Host.{Stopped, is_stopped, idles, next_of}
-use Rattle.world.specs.Entry.{Filled, Start, Stop, Submit, Recover, Look, Beat, Mark, Called, Torn, Crashed, Lost, Migrated, is_of, disk_after, host_after}
+use Rattle.world.specs.Entry.{Filled, Start, Stop, Begin, Called, Torn, Crashed, Lost, Migrated, is_of, disk_after, host_after}
 use Rattle.world.specs.Entry as entry
 use Rattle.world.specs.World.{world, opening_disk, MayFollow, IsRunFrom, IsFreshRun}
 use Rattle.world.proofs.Runs as runs
@@ -65,11 +65,7 @@ module _ (c : Shape) (h : ℕ) (above : HOSTS ≤ h) (before : List Filled) (non
   not_its : (e : Filled) → MayFollow c (world c before) e → is_of h e ≡ true → ⊥
   not_its (Start g) may is = let same : g ≡ h = eqb-true g h is in omega (arith, may.0, same, above)
   not_its (Stop g) may is = let no : false ≡ true = sym may ∙ ap is_stopped (stopped g (eqb-true g h is)) in cc no
-  not_its (Submit g command tries) may is = let no : true ≡ false = sym may.0 ∙ ap idles (stopped g (eqb-true g h is)) in cc no
-  not_its (Recover g tries) may is = let no : true ≡ false = sym may.0 ∙ ap idles (stopped g (eqb-true g h is)) in cc no
-  not_its (Look g) may is = let no : true ≡ false = sym may ∙ ap idles (stopped g (eqb-true g h is)) in cc no
-  not_its (Beat g) may is = let no : true ≡ false = sym may ∙ ap idles (stopped g (eqb-true g h is)) in cc no
-  not_its (Mark g slot) may is = let no : true ≡ false = sym may.0 ∙ ap idles (stopped g (eqb-true g h is)) in cc no
+  not_its (Begin g task) may is = let no : true ≡ false = sym may.0 ∙ ap idles (stopped g (eqb-true g h is)) in cc no
   not_its (Called g k call answer left) may is = let no = sym may.0 ∙ ap (next_of c g) (stopped g (eqb-true g h is)) in cc no
   not_its (Torn g k call left) may is = let no = sym may.0 ∙ ap (next_of c g) (stopped g (eqb-true g h is)) in cc no
   not_its (Crashed k left) may is = cc is

@@ -10,7 +10,7 @@ use Rattle.lock_command.specs.declared.reply.Reply.{Reply}
 use Rattle.slot_log.specs.Shape.{Shape}
 use Rattle.host.specs.declared.answer.HostAnswer.{HostAnswer}
 use Rattle.host.specs.declared.answer.HostAnswer.TheVariants.{Ack, Recovered, Looked, Beaten, Marked, Refused}
-use Rattle.host.specs.Host.{Operation, Submitting, Recovering, Doing, Memory, Host, Stopped, Running, said_of, learned_of}
+use Rattle.host.specs.Host.{Operation, Submitting, Recovering, Attempt, Doing, Attempts, Memory, Host, Stopped, Running, said_of, learned_of}
 use Rattle.world.specs.Entry.{Filled, Start, is_of, host_step}
 use Rattle.world.specs.World.{world, IsFreshRun}
 use Rattle.world.specs.Plain.{plains}
@@ -58,7 +58,7 @@ module _ (c : Shape) (log : List Filled) (h : ℕ) where
   still_all xs other all = all
 
   -- an entry of the host, with what the host says then
-  module _ (i : ℕ) (e : Filled) (is : slice_get log i ≡ Some e) (of : is_of h e ≡ true) (m : Memory) (running : (at c log i).host h ≡ Running m) (t : Doing) (does : m.doing ≡ Some t) where
+  module _ (i : ℕ) (e : Filled) (is : slice_get log i ≡ Some e) (of : is_of h e ≡ true) (m : Memory) (running : (at c log i).host h ≡ Running m) (t : Attempt) (does : m.doing ≡ Some (Attempts t)) where
     for_operation : (slot : ℕ) (reply : Reply) → said_of ((at c log (i + 1)).host h) ≡ Some (Ack slot reply) → (o : Operation) → t.operation ≡ o → HaveAll (receipt_for h i o slot reply)
     for_operation slot reply says (Submitting command) same = (
       record {
@@ -69,7 +69,7 @@ module _ (c : Shape) (log : List Filled) (h : ℕ) where
     )
     for_operation slot reply says Recovering same = tt
 
-    for_saying : (said : Option HostAnswer) → said_of ((at c log (i + 1)).host h) ≡ said → HaveAll (receipt_by h i (Some t) said)
+    for_saying : (said : Option HostAnswer) → said_of ((at c log (i + 1)).host h) ≡ said → HaveAll (receipt_by h i (Some (Attempts t)) said)
     for_saying None says = tt
     for_saying (Some (Ack slot reply)) says = for_operation slot reply says t.operation refl
     for_saying (Some (Recovered n)) says = tt
@@ -80,8 +80,9 @@ module _ (c : Shape) (log : List Filled) (h : ℕ) where
 
   for_doing : (i : ℕ) (e : Filled) → slice_get log i ≡ Some e → is_of h e ≡ true → (host : Host) → (at c log i).host h ≡ host → (o : Option Doing) → doing_of host ≡ o → (said : Option HostAnswer) → said_of ((at c log (i + 1)).host h) ≡ said → HaveAll (receipt_by h i o said)
   for_doing i e is of host running None does said says = tt
-  for_doing i e is of Stopped running (Some t) does said says = absurd (cc does)
-  for_doing i e is of (Running m) running (Some t) does said says = for_saying i e is of m running t does said says
+  for_doing i e is of Stopped running (Some doing) does said says = absurd (cc does)
+  for_doing i e is of (Running m) running (Some (Attempts t)) does said says = for_saying i e is of m running t does said says
+  for_doing i e is of (Running m) running (Some other) does said says = tt
 
   -- the host's own list before entry i
   abbrev own_at : ℕ → Own

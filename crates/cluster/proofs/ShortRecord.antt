@@ -13,8 +13,9 @@ use Rattle.lock_command.specs.declared.command.Command.{Command}
 use Rattle.lock_command.specs.Command.{number}
 use Rattle.lock_command.specs.Reading.{lock_at, request_at, mode_of, name_at, enqueue_at, action_at, command_at}
 use Rattle.lock_table.specs.Apply.{applied, granted}
+use Rattle.host.specs.declared.task.Task.TheVariants.{Submit}
 use Rattle.host.specs.Host.{learned_of, reply_after}
-use Rattle.world.specs.Entry.{Filled, Start, Stop, Submit, Recover, Look, Beat, Mark, Called, Torn, Crashed, Lost, Migrated, is_of}
+use Rattle.world.specs.Entry.{Filled, Start, Stop, Begin, Called, Torn, Crashed, Lost, Migrated, is_of}
 use Rattle.world.specs.World.{IsFreshRun}
 use Rattle.world.specs.Plain.{plain, plains}
 use Rattle.world.specs.Headline.{HasOneLog}
@@ -42,7 +43,7 @@ pub receipts : receipts_of one_disk first_seat ≡ first_receipt ∷ []
 unfolding submission fresh_disk sequence_of body_of number_bytes tail_with copy_in decoded_row zeros heading body_saying number_at claim_of is_said number lock_at request_at mode_of name_at enqueue_at action_at command_at applied
 receipts = refl
 
-second : slice_get (of_host 0 submission) 1 ≡ Some (1, Submit 0 takes_db 1)
+second : slice_get (of_host 0 submission) 1 ≡ Some (1, Begin 0 (Submit takes_db 1))
 unfolding submission fresh_disk sequence_of body_of number_bytes tail_with copy_in decoded_row zeros heading body_saying number_at claim_of is_said number lock_at request_at mode_of name_at enqueue_at action_at command_at applied
 second = refl
 
@@ -75,11 +76,7 @@ not_both g h is other = go (g == h) refl
 of_one : (h : ℕ) → h ≢ 0 → (e : Filled) → is_of 0 e ≡ true → is_of h e ≡ false
 of_one h other (Start g) is = not_both g h is other
 of_one h other (Stop g) is = not_both g h is other
-of_one h other (Submit g command tries) is = not_both g h is other
-of_one h other (Recover g tries) is = not_both g h is other
-of_one h other (Look g) is = not_both g h is other
-of_one h other (Beat g) is = not_both g h is other
-of_one h other (Mark g slot) is = not_both g h is other
+of_one h other (Begin g task) is = not_both g h is other
 of_one h other (Called g k call answer left) is = not_both g h is other
 of_one h other (Torn g k call left) is = not_both g h is other
 of_one h other (Crashed k left) is = refl
@@ -120,11 +117,8 @@ is_record one = recorded one_disk submission (plains submission) (first_seat ∷
 starts : (e : Filled) → plain e ≡ kept.Start 0 → e ≡ Start 0
 starts (Start h) is = let same : h ≡ 0 = cc is in ap Start same
 starts (Stop h) is = absurd (cc is)
-starts (Submit h command tries) is = absurd (cc is)
-starts (Recover h tries) is = absurd (cc is)
-starts (Look h) is = absurd (cc is)
-starts (Beat h) is = absurd (cc is)
-starts (Mark h slot) is = absurd (cc is)
+starts (Begin h (Submit command tries)) is = absurd (cc is)
+starts (Begin h other) is = absurd (cc is)
 starts (Called h k call answer left) is = absurd (cc is)
 starts (Torn h k call left) is = absurd (cc is)
 starts (Crashed k left) is = absurd (cc is)
@@ -145,8 +139,8 @@ no_seats r =
 
 pub submits : (entries : List Entry) → IsRecord one_disk entries (first_seat ∷ []) → slice_get entries 1 ≡ Some (kept.Submit 0 takes_db 1)
 submits entries r =
-    let there : slice_get (of_host 0 r.log) 1 ≡ Some (1, Submit 0 takes_db 1) = ap (λ (l : List Placed). slice_get l 1) (sym (r.parts 0 first_seat (omega arith))) ∙ second in
-    let stood : slice_get r.log 1 ≡ Some (Submit 0 takes_db 1) = (stands 0 false 0 r.log 1 (1, Submit 0 takes_db 1) there).1 in
+    let there : slice_get (of_host 0 r.log) 1 ≡ Some (1, Begin 0 (Submit takes_db 1)) = ap (λ (l : List Placed). slice_get l 1) (sym (r.parts 0 first_seat (omega arith))) ∙ second in
+    let stood : slice_get r.log 1 ≡ Some (Begin 0 (Submit takes_db 1)) = (stands 0 false 0 r.log 1 (1, Begin 0 (Submit takes_db 1)) there).1 in
     ap (λ (l : List Entry). slice_get l 1) r.kept_is ∙ slice_get-map plain r.log 1 ∙ ap (λ (o : Option Filled). option_map plain o) stood
 
 -- THE RECEIPT

@@ -4,7 +4,6 @@ pub mod Book
 pub mod Commit
 pub mod Cluster
 pub mod Operations
-pub mod Tasks
 pub mod Looks
 pub mod Journal
 pub mod Opening

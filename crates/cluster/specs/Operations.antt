@@ -1,11 +1,12 @@
 -- What operations add to a host's own list, and what they answer.
 use Rattle.std.specs.Prelude.{◌≡◌, ◌⊎◌, ◌+◌, ℕ, true, false, List, [], ◌∷◌, ◌++◌, length, Option, Some, None}
-use Rattle.beats.specs.Answers.{Answered}
 use Rattle.lock_command.specs.declared.command.Command.{Command}
 use Rattle.slot_log.specs.Shape.{Shape}
 use Rattle.host.specs.declared.answer.HostAnswer.{HostAnswer}
 use Rattle.host.specs.declared.answer.HostAnswer.TheVariants as said
-use Rattle.host.specs.Host.{Operation, Submitting, Recovering, Doing, Marking, Looking, Memory, Running, idles, said_of, learned_of}
+use Rattle.host.specs.declared.task.Task.{Task}
+use Rattle.host.specs.declared.task.Task.TheVariants.{Submit, Recover, Look, Beat, Mark}
+use Rattle.host.specs.Host.{Operation, Submitting, Recovering, Doing, Attempts, Looks, Beats, Marks, Memory, Running, idles, said_of, learned_of}
 use Rattle.world.specs.Entry.{Filled, Start, Stop}
 use Rattle.cluster_tie.specs.Parts.{Own, own_of, adds}
 use Rattle.cluster.specs.Cluster.{GoesOn}
@@ -34,6 +35,14 @@ HasAnswered c (Looked n) own =
     (idles (host_in c own) ≡ true) × (said_of (host_in c own) ≡ Some (said.Looked n)) × (n ≡ length (learned_of (host_in c own)))
 HasAnswered c (Beaten host) own = (idles (host_in c own) ≡ true) × (said_of (host_in c own) ≡ Some (said.Beaten host))
 HasAnswered c (Marked count) own = (idles (host_in c own) ≡ true) × (said_of (host_in c own) ≡ Some (said.Marked count))
+
+-- what the host has said where it gave this
+abbrev pub said_by : Resumed → Option HostAnswer
+said_by (Submitted receipt) = Some (said.Ack receipt.slot receipt.reply)
+said_by (Recovered n) = Some (said.Recovered n)
+said_by (Looked n) = Some (said.Looked n)
+said_by (Beaten host) = Some (said.Beaten host)
+said_by (Marked count) = Some (said.Marked count)
 
 -- WHAT WAS ADDED
 
@@ -75,52 +84,42 @@ Restarts old new = (place : ℕ) × (new ≡ adds (adds old place (Stop old.numb
 
 -- WHILE A TASK IS UNDER WAY
 
--- what a host carries out: an operation on the log, a beat, the marking of a slot, or a look
-pub data HostTask : Type 0 where
-  Attempting : (operation : Operation) → HostTask
-  Beating : HostTask
-  MarkingSlot : HostTask
-  LookingOn : HostTask
+-- an operation with so many tries, as a task
+abbrev pub task_for : Operation → ℕ → Task
+task_for (Submitting command) tries = Submit command tries
+task_for Recovering tries = Recover tries
+
+-- what is under way, as a task
+abbrev pub task_in : Doing → ℕ → Task
+task_in (Attempts t) tries = task_for t.operation tries
+task_in (Looks t) tries = Look
+task_in (Beats heard) tries = Beat
+task_in (Marks t) tries = Mark t.slot
 
 -- the host may answer the task so
-abbrev pub IsAnswer : HostTask → List Command → Option HostAnswer → Type 0
+abbrev pub IsAnswer : Task → List Command → Option HostAnswer → Type 0
 IsAnswer task learned None = ⊥
-IsAnswer (Attempting (Submitting command)) learned (Some (said.Ack slot reply)) = Unit {0}
-IsAnswer (Attempting Recovering) learned (Some (said.Recovered n)) = n ≡ length learned
-IsAnswer Beating learned (Some (said.Beaten host)) = Unit {0}
-IsAnswer MarkingSlot learned (Some (said.Marked count)) = Unit {0}
-IsAnswer LookingOn learned (Some (said.Looked n)) = n ≡ length learned
 IsAnswer task learned (Some (said.Refused refusal)) = Unit {0}
+IsAnswer (Submit command tries) learned (Some (said.Ack slot reply)) = Unit {0}
+IsAnswer (Recover tries) learned (Some (said.Recovered n)) = n ≡ length learned
+IsAnswer Look learned (Some (said.Looked n)) = n ≡ length learned
+IsAnswer Beat learned (Some (said.Beaten host)) = Unit {0}
+IsAnswer (Mark slot) learned (Some (said.Marked count)) = Unit {0}
 IsAnswer task learned other = ⊥
 
--- the look is under way, or the task was answered
-abbrev pub IsCarriedInLook : HostTask → Memory → Option Looking → Type 0
-IsCarriedInLook task m None = IsAnswer task m.learned m.said
-IsCarriedInLook task m (Some t) = (task ≡ LookingOn) × (m.said ≡ None)
-
--- or the marking is, and no look
-abbrev pub IsCarriedInMarking : HostTask → Memory → Option Marking → Type 0
-IsCarriedInMarking task m None = IsCarriedInLook task m m.looking
-IsCarriedInMarking task m (Some t) = (task ≡ MarkingSlot) × (m.said ≡ None) × (m.looking ≡ None)
-
--- or the beat is, and neither of them
-abbrev pub IsCarriedBeside : HostTask → Memory → Option (List Answered) → Type 0
-IsCarriedBeside task m None = IsCarriedInMarking task m m.marking
-IsCarriedBeside task m (Some heard) = (task ≡ Beating) × (m.said ≡ None) × (m.marking ≡ None) × (m.looking ≡ None)
-
--- or the operation is, and none of them
-abbrev pub IsCarried : HostTask → Memory → Option Doing → Type 0
-IsCarried task m None = IsCarriedBeside task m m.beats.heard
-IsCarried task m (Some t) = (Attempting t.operation ≡ task) × (m.said ≡ None) × (m.beats.heard ≡ None) × (m.marking ≡ None) × (m.looking ≡ None)
+-- the task is under way, which may have begun with more tries, or it was answered
+abbrev pub IsCarried : Task → Memory → Option Doing → Type 0
+IsCarried task m None = IsAnswer task m.learned m.said
+IsCarried task m (Some doing) = (tries : ℕ) × (task ≡ task_in doing tries) × (m.said ≡ None)
 
 -- a submission that was acknowledged has the last receipt
-abbrev pub HasReceipt : Shape → Own → HostTask → Option HostAnswer → Type 0
-HasReceipt c own (Attempting (Submitting command)) (Some (said.Ack slot reply)) =
+abbrev pub HasReceipt : Shape → Own → Task → Option HostAnswer → Type 0
+HasReceipt c own (Submit command tries) (Some (said.Ack slot reply)) =
     (place : ℕ) × IsLast (record { host = own.number; command = command; slot = slot; reply = reply; place = place }) (receipts_of c own)
 HasReceipt c own task said = Unit {0}
 
 -- so it is of the host that its own list leads to
-pub record Carries (c : Shape) (task : HostTask) (own : Own) : Type 0 where
+pub record Carries (c : Shape) (task : Task) (own : Own) : Type 0 where
   pub memory : Memory
   pub is : host_in c own ≡ Running memory
   pub doing : IsCarried task memory memory.doing
@@ -128,7 +127,7 @@ pub record Carries (c : Shape) (task : HostTask) (own : Own) : Type 0 where
 
 -- whichever task it is
 abbrev pub CarriesOne : Shape → Own → Type 0
-CarriesOne c own = (task : HostTask) × Carries c task own
+CarriesOne c own = (task : Task) × Carries c task own
 
 -- the task that is over was refused so
 abbrev pub IsRefusedBy : Shape → HostFault → Own → Type 0

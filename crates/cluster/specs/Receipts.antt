@@ -5,7 +5,7 @@ use Rattle.lock_command.specs.declared.reply.Reply.{Reply}
 use Rattle.slot_log.specs.Shape.{Shape}
 use Rattle.host.specs.declared.answer.HostAnswer.{HostAnswer}
 use Rattle.host.specs.declared.answer.HostAnswer.TheVariants.{Ack}
-use Rattle.host.specs.Host.{Host, Stopped, Running, Operation, Submitting, Recovering, Doing, said_of}
+use Rattle.host.specs.Host.{Host, Stopped, Running, Operation, Submitting, Recovering, Doing, Attempts, said_of}
 use Rattle.world.specs.Entry.{Filled, Start, host_step}
 use Rattle.cluster_tie.specs.Parts.{Placed, Own}
 use Rattle.cluster.specs.declared.receipt.Receipt.{Receipt}
@@ -17,7 +17,7 @@ receipt_for h place (Submitting command) slot reply =
 receipt_for h place Recovering slot reply = []
 
 abbrev pub receipt_by : ℕ → ℕ → Option Doing → Option HostAnswer → List Receipt
-receipt_by h place (Some t) (Some (Ack slot reply)) = receipt_for h place t.operation slot reply
+receipt_by h place (Some (Attempts t)) (Some (Ack slot reply)) = receipt_for h place t.operation slot reply
 receipt_by h place doing said = []
 
 abbrev pub doing_of : Host → Option Doing

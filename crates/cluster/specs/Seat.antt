@@ -1,11 +1,12 @@
 -- A host's seat, as its own list of entries, and when what it keeps is what follows from that.
-use Rattle.std.specs.Prelude.{◌≡◌, ◌<◌, ℕ, List, length, Option, Some, None}
+use Rattle.std.specs.Prelude.{◌≡◌, ◌<◌, ℕ, length, Option, Some, None}
 use Rattle.disk.specs.Disk.{Call, Attach}
-use Rattle.beats.specs.Answers.{Answered}
 use Rattle.lock_command.specs.declared.command.Command.{Command}
 use Rattle.slot_log.specs.Shape.{Shape}
-use Rattle.host.specs.Host.{Host, Stopped, Running, Memory, Operation, Submitting, Recovering, Doing, Marking, Looking, next_of}
+use Rattle.host.specs.Host.{Host, Stopped, Running, Memory, Operation, Submitting, Recovering, Doing, Attempts, next_of}
 use Rattle.host.specs.Kept.{Kept, LeadsTo}
+use Rattle.host.specs.declared.task.Task.{Task}
+use Rattle.host.specs.declared.task.Task.TheVariants.{Submit}
 use Rattle.world.specs.Entry.{host_after}
 use Rattle.cluster_tie.specs.Parts.{Own, entries}
 
@@ -25,30 +26,25 @@ due_in c own = due_or (next_of c own.number (host_in c own))
 abbrev pub IsDueOn : Shape → Own → ℕ → Type 0
 IsDueOn c own k = next_of c own.number (host_in c own) ≡ Some (k, (due_in c own).1)
 
+-- the command that a seat keeps while it carries a task out
+abbrev pub submitted_by : Task → Option Command
+submitted_by (Submit command tries) = Some command
+submitted_by other = None
+
 -- the command that is being submitted is kept
 abbrev pub IsKeptFor : Operation → Option Command → Type 0
 IsKeptFor (Submitting command) submitting = submitting ≡ Some command
 IsKeptFor Recovering submitting = submitting ≡ None
 
--- nothing is told while a look is under way
-abbrev pub IsSilentInLook : Memory → Option Looking → Type 0
-IsSilentInLook m None = Unit {0}
-IsSilentInLook m (Some t) = m.said ≡ None
+-- so it is while an attempt is under way, which is on a slot
+abbrev pub IsKeptIn : Shape → Memory → Doing → Option Command → Type 0
+IsKeptIn c m (Attempts t) submitting = (length m.learned < c.slots) × IsKeptFor t.operation submitting
+IsKeptIn c m other submitting = Unit {0}
 
--- nor while a marking is, and no look is then
-abbrev pub IsSilentInMarking : Memory → Option Marking → Type 0
-IsSilentInMarking m None = IsSilentInLook m m.looking
-IsSilentInMarking m (Some t) = (m.said ≡ None) × (m.looking ≡ None)
-
--- nor while a beat is, and no marking and no look is then
-abbrev pub IsSilentInBeat : Memory → Option (List Answered) → Type 0
-IsSilentInBeat m None = IsSilentInMarking m m.marking
-IsSilentInBeat m (Some heard) = (m.said ≡ None) × (m.marking ≡ None) × (m.looking ≡ None)
-
--- nor while an attempt is, which is on a slot; its command is kept, and no beat, marking or look is under way
+-- and nothing is told while a task is
 abbrev pub IsDoing : Shape → Memory → Option Doing → Option Command → Type 0
-IsDoing c m None submitting = IsSilentInBeat m m.beats.heard
-IsDoing c m (Some t) submitting = (length m.learned < c.slots) × IsKeptFor t.operation submitting × (m.said ≡ None) × (m.beats.heard ≡ None) × (m.marking ≡ None) × (m.looking ≡ None)
+IsDoing c m None submitting = Unit {0}
+IsDoing c m (Some doing) submitting = (m.said ≡ None) × IsKeptIn c m doing submitting
 
 -- the host runs, and this is what it keeps
 pub record IsRunning (c : Shape) (own : Own) (core : Kept) (submitting : Option Command) : Type 0 where

@@ -1,38 +1,37 @@
-ghost use Rattle.std.specs.Prelude.{◌≡◌, ◌↔◌, ◌≤◌, ◌+◌, ◌++◌, ◌∷◌, [], ℕ, true, Err, OnOk, OnErr, IfErr, ◌⊎◌, length};
-ghost use Rattle.slot_log.specs.Shape.{Shape};
-ghost use Rattle.host.specs.Host.{Memory, idles};
-ghost use Rattle.host.specs.Kept.{LeadsTo, is_idle};
-ghost use Rattle.world.specs.World.{world, MayFollow};
+ghost use Rattle.std.specs.Prelude.{◌≡◌, ◌↔◌, ◌≤◌, ◌+◌, ◌++◌, ◌∷◌, [], true, Err, OnOk, OnErr, IfErr, ◌⊎◌, length};
+ghost use Rattle.host.specs.Host.{idles};
+ghost use Rattle.world.specs.Entry.{Begin};
+ghost use Rattle.world.specs.Plain.{plain};
+ghost use Rattle.world.specs.World.{world, MayBeGiven, MayFollow};
 ghost use Rattle.cluster_tie.specs.Parts.{adds, of_host};
-ghost use Rattle.cluster.specs.Seat.{host_in};
-ghost use Rattle.cluster.specs.Tasks.{MayBegin, begun_by, begun_with};
+ghost use Rattle.cluster.specs.Seat.{host_in, submitted_by};
 ghost use Rattle.cluster.specs.declared.journal.TheConstants.{MOST};
 
 use crate::cluster_name::ClusterName;
 use crate::fault::HostFault;
 use crate::journal::{Journal, has_room};
 use crate::seat::HostSeat;
-use crate::task::Task;
 use cluster_tie::{HostTie, TiedEntry};
-use host::HostCore;
-use lock_command::HostNumber;
+use host::Task;
+use lock_command::{Command, HostNumber};
 use std::marker::Brand;
+use world::Entry;
 
 impl<'a, N: ClusterName> Journal<'a, N> {
     // The host begins to carry out a task.
     pub(crate) fn begin(&mut self, seat: &mut HostSeat<N>, task: &Task) -> Result<(), HostFault>
         requires idle { idles (host_in N.shape seat.old) ≡ true }
-        requires may { MayBegin N.shape seat.old.number task.now }
-        ensures seat { OnOk result (seat.new ≡ adds seat.old (length self.old.log) (begun_by seat.old.number task.now)) }
-        ensures journal { OnOk result (self.new ≡ record self.old { log = self.old.log ++ begun_by seat.old.number task.now ∷ [] }) }
+        requires may { MayBeGiven N.shape seat.old.number task.now }
+        ensures seat { OnOk result (seat.new ≡ adds seat.old (length self.old.log) (Begin seat.old.number task.now)) }
+        ensures journal { OnOk result (self.new ≡ record self.old { log = self.old.log ++ Begin seat.old.number task.now ∷ [] }) }
         ensures unchanged { OnErr result ((seat.new ≡ seat.old) × (self.new ≡ self.old)) }
         ensures full { result ≡ Err HostFault.JournalFull ↔ MOST ≤ length self.old.log + self.old.promised }
         ensures causes { IfErr result (λ fault. (fault ≡ HostFault.JournalFull) ⊎ (fault ≡ HostFault.NoMemory)) }
     {
         let host = seat.core.host();
         self.keep::<Brand>(&mut seat.tie, host, task)?;
-        start::<N>(&mut seat.core, task);
-        seat.submitting = task.command();
+        seat.core.begin(*task);
+        seat.submitting = command_of(task);
         Ok(())
     }
 
@@ -43,7 +42,7 @@ impl<'a, N: ClusterName> Journal<'a, N> {
         host: HostNumber,
         task: &Task,
     ) -> Result<(), HostFault>
-        requires entry { E.entry ≡ begun_by tie.old.number task.now }
+        requires entry { E.entry ≡ Begin tie.old.number task.now }
         requires host { host ≡ tie.old.number }
         requires may { tie.old.entries ≡ of_host tie.old.number self.old.log → MayFollow N.shape (world N.shape self.old.log) E.entry }
         ensures tie { OnOk result (tie.new ≡ adds tie.old (length self.old.log) E.entry) }
@@ -54,21 +53,34 @@ impl<'a, N: ClusterName> Journal<'a, N> {
     {
         has_room(&mut self.entries, self.promised)?;
         self.ties.append_host::<E>(&mut self.tie, tie);
-        self.entries.push_reserved(task.entry(host));
+        self.entries.push_reserved(entry_of(host, task));
         Ok(())
     }
 }
 
-fn start<N: ClusterName>(core: &mut HostCore, task: &Task)
-    requires idle { is_idle core.old ≡ true }
-    requires may { MayBegin N.shape core.old.learner.host task.now }
-    ensures { (c : Shape) (h : ℕ) (m : Memory) → LeadsTo c h m core.old → LeadsTo c h (begun_with c m task.now) core.new }
+// The entry with which a host begins a task.
+fn entry_of(host: HostNumber, task: &Task) -> Entry
+    ensures { result ≡ plain (Begin host task.now) }
 {
     match *task {
-        Task::Submit { command, tries } => core.submit(command, tries),
-        Task::Recover { tries } => core.recover(tries),
-        Task::Look => core.look(),
-        Task::Beat => core.beat(),
-        Task::Mark { slot } => core.mark(slot),
+        Task::Submit { command, tries } => Entry::Submit {
+            host,
+            command,
+            tries,
+        },
+        Task::Recover { tries } => Entry::Recover { host, tries },
+        Task::Look => Entry::Look(host),
+        Task::Beat => Entry::Beat(host),
+        Task::Mark { slot } => Entry::Mark { host, slot },
+    }
+}
+
+// The command that it submits.
+fn command_of(task: &Task) -> Option<Command>
+    ensures { result ≡ submitted_by task.now }
+{
+    match *task {
+        Task::Submit { command, .. } => Some(command),
+        _ => None,
     }
 }

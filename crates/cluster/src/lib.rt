@@ -17,7 +17,6 @@ mod operate;
 mod receipt;
 mod restart;
 mod seat;
-mod task;
 mod touched;
 
 pub use book::DiskBook;

@@ -1,12 +1,13 @@
 ghost use Rattle.std.specs.Prelude.{◌≡◌, ◌⊎◌, ◌<◌, ◌≤◌, ◌+◌, true, false, length, IfOk, IfErr, OnOk, OnErr};
 ghost use Rattle.lock_command.specs.Command.{is_submittable};
 ghost use Rattle.host.specs.Host.{idles, learned_of};
-ghost use Rattle.world.specs.Entry.{Submit, Recover, Look, Beat, Mark};
+ghost use Rattle.host.specs.declared.task.Task.TheVariants.{Submit, Recover, Look, Beat, Mark};
+ghost use Rattle.world.specs.Entry.{Begin};
+ghost use Rattle.world.specs.World.{MayBeGiven};
 ghost use Rattle.cluster.specs.Cluster.{GoesOn};
 ghost use Rattle.cluster.specs.Looks.{WritesNothing};
-ghost use Rattle.cluster.specs.Operations.{Carries, CarriesOne, Fails, HasAnswered, IsAnswer, IsRefusedBy, Operates, Restarts, Stops};
+ghost use Rattle.cluster.specs.Operations.{Carries, CarriesOne, Fails, HasAnswered, IsAnswer, IsRefusedBy, Operates, Restarts, Stops, said_by};
 ghost use Rattle.cluster.specs.Seat.{host_in};
-ghost use Rattle.cluster.specs.Tasks.{MayBegin, begun_by, said_by, under_way};
 
 use crate::cluster::Cluster;
 use crate::cluster_name::ClusterName;
@@ -14,9 +15,8 @@ use crate::fault::HostFault;
 use crate::gate::Gate;
 use crate::receipt::Receipt;
 use crate::seat::HostSeat;
-use crate::task::Task;
 use disk::Disk;
-use host::HostAnswer;
+use host::{HostAnswer, Task};
 use lock_command::Command;
 use std::alloc::Global;
 use std::sync::Wait;
@@ -46,10 +46,10 @@ impl<'a, N: ClusterName, D: Disk + Drop> Cluster<'a, N, D> {
         requires host { command.host ≡ seat.old.number }
         requires asked { is_submittable command ≡ true }
         requires tries { 1 ≤ tries }
-        ensures steps { OnOk result (Operates N.shape (Submit seat.old.number command tries) seat.old seat.new) }
+        ensures steps { OnOk result (Operates N.shape (Begin seat.old.number (Submit command tries)) seat.old seat.new) }
         ensures answer { IfOk result (λ receipt. HasAnswered N.shape (Resumed.Submitted receipt) seat.new) }
         ensures command { IfOk result (λ receipt. (receipt.command ≡ command) × (receipt.host ≡ seat.old.number)) }
-        ensures err { IfErr result (λ fault. Fails N.shape (Submit seat.old.number command tries) fault seat.old seat.new) }
+        ensures err { IfErr result (λ fault. Fails N.shape (Begin seat.old.number (Submit command tries)) fault seat.old seat.new) }
     {
         // Called for its contract only: the command's numbers are in their ranges.
         let _spelling = command.encode();
@@ -69,9 +69,9 @@ impl<'a, N: ClusterName, D: Disk + Drop> Cluster<'a, N, D> {
     ) -> Result<u16, HostFault>
         requires idle { idles (host_in N.shape seat.old) ≡ true }
         requires tries { 1 ≤ tries }
-        ensures steps { OnOk result (Operates N.shape (Recover seat.old.number tries) seat.old seat.new) }
+        ensures steps { OnOk result (Operates N.shape (Begin seat.old.number (Recover tries)) seat.old seat.new) }
         ensures answer { IfOk result (λ n. HasAnswered N.shape (Resumed.Recovered n) seat.new) }
-        ensures err { IfErr result (λ fault. Fails N.shape (Recover seat.old.number tries) fault seat.old seat.new) }
+        ensures err { IfErr result (λ fault. Fails N.shape (Begin seat.old.number (Recover tries)) fault seat.old seat.new) }
     {
         match self.carry_out(rt, seat, gate, &Task::Recover { tries })? {
             Resumed::Recovered(length) => Ok(length),
@@ -88,9 +88,9 @@ impl<'a, N: ClusterName, D: Disk + Drop> Cluster<'a, N, D> {
         gate: &mut G,
     ) -> Result<u16, HostFault>
         requires { idles (host_in N.shape seat.old) ≡ true }
-        ensures steps { OnOk result (Operates N.shape (Look seat.old.number) seat.old seat.new) }
+        ensures steps { OnOk result (Operates N.shape (Begin seat.old.number Look) seat.old seat.new) }
         ensures answer { IfOk result (λ n. HasAnswered N.shape (Resumed.Looked n) seat.new) }
-        ensures err { IfErr result (λ fault. Fails N.shape (Look seat.old.number) fault seat.old seat.new) }
+        ensures err { IfErr result (λ fault. Fails N.shape (Begin seat.old.number Look) fault seat.old seat.new) }
         ensures writes_nothing { WritesNothing seat.old seat.new }
     {
         match self.carry_out(rt, seat, gate, &Task::Look)? {
@@ -108,9 +108,9 @@ impl<'a, N: ClusterName, D: Disk + Drop> Cluster<'a, N, D> {
         gate: &mut G,
     ) -> Result<u8, HostFault>
         requires { idles (host_in N.shape seat.old) ≡ true }
-        ensures steps { OnOk result (Operates N.shape (Beat seat.old.number) seat.old seat.new) }
+        ensures steps { OnOk result (Operates N.shape (Begin seat.old.number Beat) seat.old seat.new) }
         ensures answer { IfOk result (λ host. HasAnswered N.shape (Resumed.Beaten host) seat.new) }
-        ensures err { IfErr result (λ fault. Fails N.shape (Beat seat.old.number) fault seat.old seat.new) }
+        ensures err { IfErr result (λ fault. Fails N.shape (Begin seat.old.number Beat) fault seat.old seat.new) }
     {
         match self.carry_out(rt, seat, gate, &Task::Beat)? {
             Resumed::Beaten(host) => Ok(host),
@@ -129,9 +129,9 @@ impl<'a, N: ClusterName, D: Disk + Drop> Cluster<'a, N, D> {
     ) -> Result<u8, HostFault>
         requires idle { idles (host_in N.shape seat.old) ≡ true }
         requires slot { slot < N.shape.slots }
-        ensures steps { OnOk result (Operates N.shape (Mark seat.old.number slot) seat.old seat.new) }
+        ensures steps { OnOk result (Operates N.shape (Begin seat.old.number (Mark slot)) seat.old seat.new) }
         ensures answer { IfOk result (λ count. HasAnswered N.shape (Resumed.Marked count) seat.new) }
-        ensures err { IfErr result (λ fault. Fails N.shape (Mark seat.old.number slot) fault seat.old seat.new) }
+        ensures err { IfErr result (λ fault. Fails N.shape (Begin seat.old.number (Mark slot)) fault seat.old seat.new) }
     {
         match self.carry_out(rt, seat, gate, &Task::Mark { slot })? {
             Resumed::Marked(count) => Ok(count),
@@ -179,13 +179,13 @@ impl<'a, N: ClusterName, D: Disk + Drop> Cluster<'a, N, D> {
         task: &Task,
     ) -> Result<Resumed, HostFault>
         requires idle { idles (host_in N.shape seat.old) ≡ true }
-        requires may { MayBegin N.shape seat.old.number task.now }
-        ensures steps { OnOk result (Operates N.shape (begun_by seat.old.number task.now) seat.old seat.new) }
-        ensures carried { OnOk result (Carries N.shape (under_way task.now) seat.new) }
+        requires may { MayBeGiven N.shape seat.old.number task.now }
+        ensures steps { OnOk result (Operates N.shape (Begin seat.old.number task.now) seat.old seat.new) }
+        ensures carried { OnOk result (Carries N.shape task.now seat.new) }
         ensures answer { IfOk result (λ gave. HasAnswered N.shape gave seat.new) }
-        ensures its { IfOk result (λ gave. IsAnswer (under_way task.now) (learned_of (host_in N.shape seat.new)) (said_by gave)) }
-        ensures err { IfErr result (λ fault. Fails N.shape (begun_by seat.old.number task.now) fault seat.old seat.new) }
-        ensures look { task.now ≡ Task.Look → WritesNothing seat.old seat.new }
+        ensures its { IfOk result (λ gave. IsAnswer task.now (learned_of (host_in N.shape seat.new)) (said_by gave)) }
+        ensures err { IfErr result (λ fault. Fails N.shape (Begin seat.old.number task.now) fault seat.old seat.new) }
+        ensures look { task.now ≡ Look → WritesNothing seat.old seat.new }
     {
         self.journal.lock(rt).begin(seat, task)?;
         self.go_on(rt, seat, gate)?;

@@ -1,4 +1,4 @@
-ghost use Rattle.std.specs.Prelude.{◌≡◌, ◌<◌, ◌++◌, ℕ, false, Some, None, vec_len, vec_capacity};
+ghost use Rattle.std.specs.Prelude.{◌≡◌, ◌<◌, ◌++◌, ℕ, true, false, Some, vec_len, vec_capacity};
 ghost use Rattle.attempt.specs.History.{Fits};
 ghost use Rattle.lock_table.specs.Apply.{table_after};
 ghost use Rattle.lock_table.specs.Picture.{IsPictureOf};
@@ -6,7 +6,7 @@ ghost use Rattle.beats.specs.Calls.{device_answer};
 ghost use Rattle.paxos_block.specs.Places.{image_length};
 ghost use Rattle.phases.specs.Calls.{call_of_need, heard_of, IsWithin};
 ghost use Rattle.host.specs.Host.{Memory, idles, said_of, learned_of, next_of, hears_from};
-ghost use Rattle.host.specs.Kept.{LeadsTo, is_idle, due_call};
+ghost use Rattle.host.specs.Kept.{LeadsTo, is_idle, is_nothing, due_call};
 ghost use Rattle.slot_log.specs.Shape.{Shape};
 ghost use Rattle.cluster.specs.Operations.{CarriesOne};
 ghost use Rattle.cluster.specs.Receipts.{receipts_of, receipts_said};
@@ -91,7 +91,7 @@ impl<N: ClusterName> HostSeat<N> {
         self.core.answer()
     }
 
-    // A host that is not idle carries an operation out.
+    // A host that is not idle carries a task out.
     pub(crate) fn carries_one(&self)
         requires { idles (host_in N.shape self.now) ≡ false }
         ensures { CarriesOne N.shape self.now }
@@ -124,7 +124,7 @@ pub(crate) fn hear(
     requires busy { is_idle core.old ≡ false }
     requires fits { Fits (due_call core.old).1 (heard_of heard.now) }
     // A beat, a marking and a look bring no receipt.
-    requires room { core.old.beat ≡ None → core.old.marking ≡ None → core.old.look ≡ None → vec_len acks.old < vec_capacity acks.old }
+    requires room { is_nothing core.old.beside ≡ true → vec_len acks.old < vec_capacity acks.old }
     ensures leads { (c : Shape) (h : ℕ) (m : Memory) → LeadsTo c h m core.old →
         LeadsTo c h (hears_from c h m m.doing (due_call core.old).0 (device_answer heard.now)) core.new }
     ensures acks { acks.new.items ≡ acks.old.items ++ receipts_said core.old.learner.host place submitting core.new.said }

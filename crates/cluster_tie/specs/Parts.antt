@@ -1,6 +1,6 @@
 -- The parts of a list of entries: those on one disk, and those of one host, each entry with its place.
 use Rattle.std.specs.Prelude.{◌≡◌, ◌+◌, ◌==◌, ◌<◌, ℕ, Bool, true, false, List, [], ◌∷◌, ◌++◌, map, length, slice_index_or, cond, Option, Some, None}
-use Rattle.world.specs.Entry.{Filled, Start, Stop, Submit, Recover, Look, Beat, Mark, Called, Torn, Crashed, Lost, is_on, is_of}
+use Rattle.world.specs.Entry.{Filled, Start, Stop, Begin, Called, Torn, Crashed, Lost, is_on, is_of}
 
 -- an entry with its place in the whole list
 abbrev pub Placed : Type 0
@@ -40,11 +40,7 @@ disk_of other = None
 abbrev pub host_of : Filled → Option ℕ
 host_of (Start h) = Some h
 host_of (Stop h) = Some h
-host_of (Submit h command tries) = Some h
-host_of (Recover h tries) = Some h
-host_of (Look h) = Some h
-host_of (Beat h) = Some h
-host_of (Mark h slot) = Some h
+host_of (Begin h task) = Some h
 host_of (Called h k call answer left) = Some h
 host_of (Torn h k call left) = Some h
 host_of other = None

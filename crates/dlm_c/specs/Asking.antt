@@ -5,7 +5,7 @@ use Rattle.lock_command.specs.Command.{Fits, IsLock}
 use Rattle.lock_command.specs.Name.{IsName}
 use Rattle.lock_command.specs.declared.command.Command.{Command}
 use Rattle.lock_command.specs.declared.number.TheConstants.{HOSTS}
-use Rattle.host.specs.Host.{Submitting}
+use Rattle.host.specs.declared.task.Task.TheVariants.{Submit}
 use Rattle.host.specs.Kept.{Kept, is_idle}
 use Rattle.session.specs.Beginnings as beginnings
 use Rattle.session.specs.Beginnings.{AsksAs, IsAnotherValue, IsNewClaim}
@@ -146,7 +146,7 @@ pub record SubmitsDue (c : Claim) (old new : Kept) : Type 0 where
   pub command : Command
   pub fits : Fits command
   pub due : IsToSubmit c old.learner.host command
-  pub begins : Begins (Submitting command) 1 old new
+  pub begins : Begins (Submit command 1) old new
 
 -- Nothing was begun, since an operation is under way, or since no such command is due; the host is as it was.
 pub record SubmitsNothing (c : Claim) (old new : OpenHost) (status : ℤ) : Type 0 where

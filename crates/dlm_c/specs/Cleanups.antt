@@ -5,7 +5,7 @@ use Rattle.lock_command.specs.declared.number.TheConstants.{HOSTS}
 use Rattle.lock_index.specs.declared.record.LockRecord.{LockRecord}
 use Rattle.lock_table.specs.Apply.{table_after}
 use Rattle.lock_table.specs.Picture.{IsPictureOf, Shown}
-use Rattle.host.specs.Host.{Submitting}
+use Rattle.host.specs.declared.task.Task.TheVariants.{Submit}
 use Rattle.host.specs.Kept.{Kept, is_idle}
 use Rattle.session.specs.declared.claim.Claim.{Claim}
 use Rattle.session.specs.declared.claim.Step.TheVariants.{Ended}
@@ -152,7 +152,7 @@ TellsNextPurge n learned lock status = ((status ≡ done) × TellsSign n learned
 pub record SubmitsPurge (n : CleanupNumbers) (learned : List Command) (old new : Kept) : Type 0 where
   pub command : Command
   pub purges : PurgesNext n learned command
-  pub begins : Begins (Submitting command) 1 old new
+  pub begins : Begins (Submit command 1) old new
 
 -- no purge is due: it is not this host's, or a sign of life is to be looked at first, or the host to be purged has no locks any more, or no request is left
 abbrev pub PurgesNothing : CleanupNumbers → OpenHost → Type 0

@@ -4,9 +4,11 @@ use Rattle.disk.specs.Disk.{Call, Answer, Attach, Booted}
 use Rattle.slot_log.specs.Shape.{Shape}
 use Rattle.lock_command.specs.declared.command.Command.{Command}
 use Rattle.lock_command.specs.Command.{Fits}
-use Rattle.host.specs.Host.{Memory, Operation, Submitting, Recovering, goes_on, starts_marking, starts_look}
+use Rattle.host.specs.Host.{Memory, starts}
 use Rattle.host.specs.Kept.{Kept, LeadsTo, is_idle, due_call}
-use Rattle.dlm_images.specs.Operations.{Made, IsDue, Gave, HasOperated, HasMarked, HasLooked, after_call}
+use Rattle.host.specs.declared.task.Task.{Task}
+use Rattle.host.specs.declared.task.Task.TheVariants.{Submit, Recover, Look, Mark}
+use Rattle.dlm_images.specs.Operations.{Made, IsDue, Gave, HasCarriedOut, after_call}
 use Rattle.dlm_c.specs.declared.call.DueCall.{DueCall}
 use Rattle.dlm_c.specs.declared.call.ToldAnswer.{ToldAnswer}
 use Rattle.dlm_c.specs.declared.request.Request.{Request}
@@ -28,19 +30,11 @@ pub record IsSameFolder (old new : OpenHost) : Type 0 where
   pub config : new.config ≡ old.config
   pub cluster : new.cluster ≡ old.cluster
 
--- AN OPERATION BEGINS
+-- A TASK BEGINS
 
--- whatever led to the old host, with this operation begun it leads to the new one
-abbrev pub Begins : Operation → ℕ → Kept → Kept → Type 0
-Begins operation tries old new = (c : Shape) (h : ℕ) (m : Memory) → LeadsTo c h m old → LeadsTo c h (goes_on c m operation tries) new
-
--- the same of a marking of this slot
-abbrev pub BeginsMarking : ℕ → Kept → Kept → Type 0
-BeginsMarking slot old new = (c : Shape) (h : ℕ) (m : Memory) → LeadsTo c h m old → LeadsTo c h (starts_marking m slot) new
-
--- and of a look
-abbrev pub BeginsLook : Kept → Kept → Type 0
-BeginsLook old new = (c : Shape) (h : ℕ) (m : Memory) → LeadsTo c h m old → LeadsTo c h (starts_look c m) new
+-- whatever led to the old host, with this task begun it leads to the new one
+abbrev pub Begins : Task → Kept → Kept → Type 0
+Begins task old new = (c : Shape) (h : ℕ) (m : Memory) → LeadsTo c h m old → LeadsTo c h (starts c m task) new
 
 -- An idle host began what was asked.
 pub record HasBegun (Asked : Kept → Kept → Type 0) (old new : OpenHost) (status : ℤ) : Type 0 where
@@ -49,7 +43,7 @@ pub record HasBegun (Asked : Kept → Kept → Type 0) (old new : OpenHost) (sta
   pub begins : Asked old.core new.core
   pub same : IsSameFolder old new
 
--- Nothing was begun, since an operation is under way, or since nothing was asked that may be; the host is as it was.
+-- Nothing was begun, since something is under way, or since nothing was asked that may be; the host is as it was.
 pub record IsRefused (Wrong : Kept → Type 0) (old new : OpenHost) (status : ℤ) : Type 0 where
   pub same : new ≡ old
   pub told : ((status ≡ busy) × (is_idle old.core ≡ false)) ⊎ ((status ≡ bad_argument) × Wrong old.core)
@@ -67,7 +61,7 @@ pub record SubmitsAsked (r : Request) (name : List ℕ) (tries : ℕ) (old new :
   pub fits : Fits command
   pub asked : IsAsked r name old.learner.host command
   pub tried : AreTries tries
-  pub begins : Begins (Submitting command) tries old new
+  pub begins : Begins (Submit command tries) old new
 
 -- no command is asked, or not so many tries may be given
 abbrev pub AsksNothing : Request → List ℕ → ℕ → Kept → Type 0
@@ -77,13 +71,13 @@ abbrev pub Submits : Request → List ℕ → ℕ → OpenHost → OpenHost → 
 Submits r name tries = BeginsOr (SubmitsAsked r name tries) (AsksNothing r name tries)
 
 abbrev pub Recovers : ℕ → OpenHost → OpenHost → ℤ → Type 0
-Recovers tries = BeginsOr (λ old new. AreTries tries × Begins Recovering tries old new) (λ old. AreTries tries → ⊥)
+Recovers tries = BeginsOr (λ old new. AreTries tries × Begins (Recover tries) old new) (λ old. AreTries tries → ⊥)
 
 abbrev pub Looks : OpenHost → OpenHost → ℤ → Type 0
-Looks = BeginsOr BeginsLook (λ old. ⊥)
+Looks = BeginsOr (Begins Look) (λ old. ⊥)
 
 abbrev pub Marks : ℕ → OpenHost → OpenHost → ℤ → Type 0
-Marks slot = BeginsOr (BeginsMarking slot) (λ old. slot < 2 ^ 16 → ⊥)
+Marks slot = BeginsOr (Begins (Mark slot)) (λ old. slot < 2 ^ 16 → ⊥)
 
 -- ITS CALLS
 
@@ -157,20 +151,8 @@ abbrev pub AreHeard : Kept → List Made → Kept → Type 0
 AreHeard old [] new = new ≡ old
 AreHeard old (x ∷ xs) new = (between : Kept) × IsHeard old x between × AreHeard between xs new
 
--- An operation that began, whose calls were heard until it had ended, and whose disks gave what was heard, is what hosts over disks do.
-abbrev pub CallsOperate : {D : Type 0} → (D → Call → Answer → D → Type 0) → Type 0
-CallsOperate {D = D} gives = (operation : Operation) (tries : ℕ) (old begun new : Kept) (made : List Made) (disks left : List D) →
-    Begins operation tries old begun → AreHeard begun made new → Gave gives disks made left → is_idle new ≡ true →
-    HasOperated gives operation tries (record { core = old; disks = disks }) (record { core = new; disks = left })
-
--- and so is a marking
-abbrev pub CallsMark : {D : Type 0} → (D → Call → Answer → D → Type 0) → Type 0
-CallsMark {D = D} gives = (slot : ℕ) (old begun new : Kept) (made : List Made) (disks left : List D) →
-    BeginsMarking slot old begun → AreHeard begun made new → Gave gives disks made left → is_idle new ≡ true →
-    HasMarked gives slot (record { core = old; disks = disks }) (record { core = new; disks = left })
-
--- and so is a look
-abbrev pub CallsLook : {D : Type 0} → (D → Call → Answer → D → Type 0) → Type 0
-CallsLook {D = D} gives = (old begun new : Kept) (made : List Made) (disks left : List D) →
-    BeginsLook old begun → AreHeard begun made new → Gave gives disks made left → is_idle new ≡ true →
-    HasLooked gives (record { core = old; disks = disks }) (record { core = new; disks = left })
+-- A task that began, whose calls were heard until it had ended, and whose disks gave what was heard, is what hosts over disks carry out.
+abbrev pub CallsCarryOut : {D : Type 0} → (D → Call → Answer → D → Type 0) → Type 0
+CallsCarryOut {D = D} gives = (task : Task) (old begun new : Kept) (made : List Made) (disks left : List D) →
+    Begins task old begun → AreHeard begun made new → Gave gives disks made left → is_idle new ≡ true →
+    HasCarriedOut gives (λ c m. starts c m task) (record { core = old; disks = disks }) (record { core = new; disks = left })

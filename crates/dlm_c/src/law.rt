@@ -1,15 +1,13 @@
 // What the calls from C come to, one after another.
 ghost use Rattle.dlm_c.specs.Ends.{LooksTell, MarkingsTell, OpenedRest, OperationsTell};
-ghost use Rattle.dlm_c.specs.Steps.{CallsLook, CallsMark, CallsOperate};
+ghost use Rattle.dlm_c.specs.Steps.{CallsCarryOut};
 
 use disk::Disk;
 
-/// An operation is begun; each of its device calls is named, made on its disk and its answer heard, until none is due. Then it is
-/// an operation that a host over these disks carried out. So whatever is proved of those holds of it.
+/// A task is begun; each of its device calls is named, made on its disk and its answer heard, until none is due. Then it is a task
+/// that a host over these disks carried out. So whatever is proved of operations, markings and looks holds of it.
 pub fn calls_make_operations<D: Disk>()
-    ensures operates { CallsOperate D.gives }
-    ensures marks { CallsMark D.gives }
-    ensures looks { CallsLook D.gives }
+    ensures { CallsCarryOut D.gives }
 {}
 
 /// When such an operation has ended, `dlm_c_answer` says what it came to. If it gives a slot and a reply, the command that was

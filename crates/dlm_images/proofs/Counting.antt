@@ -5,7 +5,6 @@ use Rattle.std.proofs.Math.Nat.{mul-add, mul_assoc, mul_comm}
 use Rattle.std.proofs.lemmas.Bool.{ltb-true, leb-false}
 use Rattle.std.proofs.lemmas.List.{length-append, length-set}
 use Rattle.attempt.specs.Answers.{Answered, on}
-use Rattle.beats.specs.Answers.{Answered as Beaten}
 use Rattle.attempt.specs.History.{IsAnswerTo, IsHistory}
 use Rattle.attempt.specs.NextCall.{next_call}
 use Rattle.attempt.specs.Status as attempt
@@ -25,24 +24,21 @@ use Rattle.looks.proofs.Ends.{decided_is}
 use Rattle.slot_log.specs.Shape.{Shape}
 use Rattle.slot_log.specs.declared.outcome.Refusal.TheVariants as refusal
 use Rattle.host.specs.declared.answer.HostAnswer.TheVariants.{Looked, Refused}
-use Rattle.host.specs.Host.{Operation, Submitting, Recovering, Doing, Memory, Beats, Marking, hears, hears_from, hears_beside, hears_apart, marking_by, marking_with, marking_of, with_marking, starts_marking, goes_on, begins, by_status, takes, after_learning, is_submitted, learns, says, full_answer, with_heard, with_floor, tries_again, setup_of, next_doing, next_in, next_beside, next_marking, next_look, Looking, hears_look, look_by, look_of, looking_with, starts_look, takes_marked, with_looking}
-use Rattle.host.proofs.Hosts.{beats_heard, beats-goes_on, learned-goes_on, apart_heard, apart-goes_on}
+use Rattle.host.specs.Host.{Operation, Submitting, Recovering, Attempt, Marking, Looking, Doing, Attempts, Looks, Marks, Memory, does, says, full_answer, starts, hears, hears_from, goes_on, begins, by_status, takes, after_learning, is_submitted, learns, with_heard, with_floor, tries_again, setup_of, next_doing, marking_by, marking_with, marking_of, starts_marking, look_by, look_of, looking_with, looks_on, takes_marked}
+use Rattle.host.specs.Kept.{MayBegin}
+use Rattle.host.specs.declared.task.Task.{Task}
+use Rattle.host.specs.declared.task.Task.TheVariants as tasks
+use Rattle.host.proofs.Hosts.{learned-goes_on}
 use Rattle.dlm_images.specs.Operations.{Made, Gave, after_call, after_made, IsDue, AreDue, Standing, HasCarriedOut, HasOperated, HasMarked, HasLooked, IsSmall, Rests}
-use Rattle.dlm_images.specs.Tasks.{MayBegin, StaysWithin, begun_with}
-use Rattle.dlm_images.specs.declared.task.Task.{Task}
-use Rattle.dlm_images.specs.declared.task.Task.TheVariants as tasks
+use Rattle.dlm_images.specs.Tasks.{MayBeAsked, StaysWithin}
 use Rattle.dlm_images.specs.Marking.{HasMarkedFrom, RecoversAndMarks, calls_of, leaves_a_mark}
-use Rattle.dlm_images.proofs.Driving.{by_test, answered, idle_apart, leads_then, known_then, same_shape, marked_ends, looked_reads}
-use Rattle.dlm_images.proofs.Ending.{IsApart, apart_still}
+use Rattle.dlm_images.proofs.Driving.{answered, leads_then, known_then, same_shape, marked_ends, looked_reads}
+use Rattle.dlm_images.proofs.Ending.{by_test}
 
--- A call that is due is one of an attempt, a marking or a look: where none is under way, none is made.
-none_due : (c : Shape) (h : ℕ) (m : Memory) → m.doing ≡ None → m.beats.heard ≡ None → IsApart m → next_in c h m ≡ None
-none_due c h m doing rest alone =
-    ap (next_doing c h m) doing ∙ ap (next_beside c h m) rest ∙ ap (next_marking c h m) alone.0 ∙ ap (λ (o : Option Looking). next_look c m o) alone.1
-
-none_made : (c : Shape) (h : ℕ) (m : Memory) (xs : List Made) → m.doing ≡ None → m.beats.heard ≡ None → IsApart m → AreDue c h m xs → xs ≡ []
-none_made c h m [] doing rest alone due = refl
-none_made c h m (x ∷ xs) doing rest alone due = absurd (let next : None ≡ Some (x.disk, x.call) = sym (none_due c h m doing rest alone) ∙ due.0.next in cc)
+-- where nothing is under way, no call is due, and none is made
+none_made : (c : Shape) (h : ℕ) (m : Memory) (xs : List Made) → m.doing ≡ None → AreDue c h m xs → xs ≡ []
+none_made c h m [] idle due = refl
+none_made c h m (x ∷ xs) idle due = absurd (let next : None ≡ Some (x.disk, x.call) = sym (ap (next_doing c h m) idle) ∙ due.0.next in cc)
 
 -- So many calls were made, and the host has come from one to the other: most of them for each slot that it learned, and so many more.
 pub record Costs (c : Shape) (most more : ℕ) (m : Memory) (calls : ℕ) (n : Memory) : Type 0 where
@@ -54,8 +50,8 @@ pub record Costs (c : Shape) (most more : ℕ) (m : Memory) (calls : ℕ) (n : M
 
 -- how many calls it may still make without learning a slot, where an attempt makes so many
 abbrev budget : ℕ → Option Doing → ℕ
-budget most None = 0
-budget most (Some t) = most * t.tries - length t.heard
+budget most (Some (Attempts t)) = most * t.tries - length t.heard
+budget most other = 0
 
 -- a host that had learned so much, and had so many calls to make, has made one of them, or has learned one slot more
 record Spends (most slots had learned : ℕ) (m : Memory) : Type 0 where
@@ -64,14 +60,15 @@ record Spends (most slots had learned : ℕ) (m : Memory) : Type 0 where
   room : length m.learned ≤ slots
 
 -- an attempt's answers are a history of it; it has a try, and its slot is one of the log's
-record IsAttempt (c : Shape) (h : ℕ) (m : Memory) (t : Doing) : Type 0 where
+record IsAttempt (c : Shape) (h : ℕ) (m : Memory) (t : Attempt) : Type 0 where
   history : IsHistory (setup_of c h m t.operation) t.heard
   tries : 1 ≤ t.tries
   slot : length m.learned < c.slots
 
 abbrev IsGoingIn : Shape → ℕ → Memory → Option Doing → Type 0
 IsGoingIn c h m None = Unit {0}
-IsGoingIn c h m (Some t) = IsAttempt c h m t
+IsGoingIn c h m (Some (Attempts t)) = IsAttempt c h m t
+IsGoingIn c h m (Some other) = ⊥
 
 -- WHAT AN ANSWER COSTS
 
@@ -83,7 +80,7 @@ module _ (most slots had : ℕ) where
       (λ is. record { few = omega (arith, longer, room); grows = omega (arith, one); room = omega (arith, one, slot) })
       (λ is. record { few = omega (arith, longer, some); grows = omega (arith, one); room = omega (arith, one, slot) })
 
-  learning_spends : (c : Shape) (m : Memory) (t : Doing) (command : Command) (b : Bool) → length m.learned < slots → most * t.tries + 1 ≤ had + most → 1 ≤ had + most → Spends most slots had (length m.learned) (after_learning c m t command b)
+  learning_spends : (c : Shape) (m : Memory) (t : Attempt) (command : Command) (b : Bool) → length m.learned < slots → most * t.tries + 1 ≤ had + most → 1 ≤ had + most → Spends most slots had (length m.learned) (after_learning c m t command b)
   learning_spends c m t command true slot room some =
       let one : length (m.learned ++ command ∷ []) ≡ length m.learned + 1 = length-append m.learned (command ∷ []) in
       let longer : most * length (m.learned ++ command ∷ []) ≡ most * length m.learned + most = ap (λ (n : ℕ). most * n) one ∙ omega arith in
@@ -91,7 +88,7 @@ module _ (most slots had : ℕ) where
   learning_spends c m t command false slot room some =
       goes_on_spends c (learns m command) t.operation t.tries (length m.learned) (length-append m.learned (command ∷ [])) slot room some
 
-  takes_spends : (c : Shape) (m : Memory) (t : Doing) (ballot : ℕ) (value : List ℕ) (o : Option Command) → length m.learned < slots → most * t.tries + 1 ≤ had + most → 1 ≤ had → Spends most slots had (length m.learned) (takes c m t ballot value o)
+  takes_spends : (c : Shape) (m : Memory) (t : Attempt) (ballot : ℕ) (value : List ℕ) (o : Option Command) → length m.learned < slots → most * t.tries + 1 ≤ had + most → 1 ≤ had → Spends most slots had (length m.learned) (takes c m t ballot value o)
   takes_spends c m t ballot value None slot room some = record { few = omega (arith, some); grows = omega arith; room = omega (arith, slot) }
   takes_spends c m t ballot value (Some command) slot room some = learning_spends c m t command (is_submitted t.operation value) slot room (omega (arith, some))
 
@@ -105,7 +102,7 @@ module _ (most slots had : ℕ) where
       (λ is. record { few = omega (arith, some); grows = omega arith; room = omega (arith, slot) })
       (λ is. record { few = omega (arith, less, room); grows = omega arith; room = omega (arith, slot) })
 
-  status_spends : (c : Shape) (m : Memory) (t : Doing) (ballot : ℕ) (s : Status) → length m.learned < slots → 1 ≤ t.tries → most * t.tries - length t.heard + 1 ≤ had → most * t.tries + 1 ≤ had + most → 1 ≤ had
+  status_spends : (c : Shape) (m : Memory) (t : Attempt) (ballot : ℕ) (s : Status) → length m.learned < slots → 1 ≤ t.tries → most * t.tries - length t.heard + 1 ≤ had → most * t.tries + 1 ≤ had + most → 1 ≤ had
       → Spends most slots had (length m.learned) (by_status c m t ballot s)
   status_spends c m t ballot (Due p d) slot tries due room some = record { few = omega (arith, due); grows = omega arith; room = omega (arith, slot) }
   status_spends c m t ballot (Ended (attempt.Committed value)) slot tries due room some = takes_spends c m t ballot value (decoded value) slot room some
@@ -121,8 +118,8 @@ one_try : (most tries : ℕ) → 1 ≤ tries → most ≤ most * tries
 one_try most zero more = absurd (omega (arith, more))
 one_try most (suc tries) more = omega arith
 
-answer_spends : (most : ℕ) (c : Shape) (h : ℕ) (m : Memory) (t : Doing) (x : Answered) → length m.learned < c.slots → 1 ≤ t.tries → length (t.heard ++ x ∷ []) ≤ most
-    → Spends most c.slots (most * t.tries - length t.heard) (length m.learned) (hears c h m (Some t) x)
+answer_spends : (most : ℕ) (c : Shape) (h : ℕ) (m : Memory) (t : Attempt) (x : Answered) → length m.learned < c.slots → 1 ≤ t.tries → length (t.heard ++ x ∷ []) ≤ most
+    → Spends most c.slots (most * t.tries - length t.heard) (length m.learned) (hears c h m t x)
 answer_spends most c h m t x slot tries few =
     let one : length (t.heard ++ x ∷ []) ≡ length t.heard + 1 = length-append t.heard (x ∷ []) in
     let enough : most ≤ most * t.tries = one_try most t.tries tries in
@@ -148,15 +145,15 @@ module _ (c : Shape) (h : ℕ) where
       (λ is. tt)
       (λ is. record { history = tt; tries = (let more : 1 < tries = leb-false tries 1 is in omega (arith, more)); slot = slot })
 
-  learned : (m : Memory) (t : Doing) (command : Command) (b : Bool) → 1 ≤ t.tries → IsGoing (after_learning c m t command b)
+  learned : (m : Memory) (t : Attempt) (command : Command) (b : Bool) → 1 ≤ t.tries → IsGoing (after_learning c m t command b)
   learned m t command true more = tt
   learned m t command false more = begun (learns m command) t.operation t.tries more
 
-  took : (m : Memory) (t : Doing) (ballot : ℕ) (value : List ℕ) (o : Option Command) → 1 ≤ t.tries → IsGoing (takes c m t ballot value o)
+  took : (m : Memory) (t : Attempt) (ballot : ℕ) (value : List ℕ) (o : Option Command) → 1 ≤ t.tries → IsGoing (takes c m t ballot value o)
   took m t ballot value None more = tt
   took m t ballot value (Some command) more = learned m t command (is_submitted t.operation value) more
 
-  goes : (m : Memory) (t : Doing) (ballot : ℕ) (s : Status) → IsAttempt c h m t → IsGoing (by_status c m t ballot s)
+  goes : (m : Memory) (t : Attempt) (ballot : ℕ) (s : Status) → IsAttempt c h m t → IsGoing (by_status c m t ballot s)
   goes m t ballot (Due p d) is = record { history = is.history; tries = is.tries; slot = is.slot }
   goes m t ballot (Ended (attempt.Committed value)) is = took m t ballot value (decoded value) is.tries
   goes m t ballot (Ended (attempt.Decided value)) is = took m t ballot value (decoded value) is.tries
@@ -165,14 +162,14 @@ module _ (c : Shape) (h : ℕ) where
   goes m t ballot (Ended attempt.NoMajority) is = tt
   goes m t ballot (Ended attempt.BallotsSpent) is = tt
 
-  longer : (m : Memory) (t : Doing) (x : Answered) → IsAttempt c h m t → IsAnswerTo (next_call (setup_of c h m t.operation) (on t.heard)) x → IsHistory (setup_of c h m t.operation) (t.heard ++ x ∷ [])
+  longer : (m : Memory) (t : Attempt) (x : Answered) → IsAttempt c h m t → IsAnswerTo (next_call (setup_of c h m t.operation) (on t.heard)) x → IsHistory (setup_of c h m t.operation) (t.heard ++ x ∷ [])
   longer m t x is answers = history_more (next_call (setup_of c h m t.operation)) t.heard x is.history answers
 
-  goes_further : (m : Memory) (t : Doing) (x : Answered) → IsAttempt c h m t → IsAnswerTo (next_call (setup_of c h m t.operation) (on t.heard)) x → IsGoing (hears c h m (Some t) x)
+  goes_further : (m : Memory) (t : Attempt) (x : Answered) → IsAttempt c h m t → IsAnswerTo (next_call (setup_of c h m t.operation) (on t.heard)) x → IsGoing (hears c h m t x)
   goes_further m t x is answers = goes m (with_heard t x) _ _ (record { history = longer m t x is answers; tries = is.tries; slot = is.slot })
 
   -- the answer to a call that was due
-  answers_it : (m : Memory) (t : Doing) (x : Made) → m.doing ≡ Some t → IsDue c h m x → IsAnswerTo (next_call (setup_of c h m t.operation) (on t.heard)) (answered x)
+  answers_it : (m : Memory) (t : Attempt) (x : Made) → m.doing ≡ Some (Attempts t) → IsDue c h m x → IsAnswerTo (next_call (setup_of c h m t.operation) (on t.heard)) (answered x)
   answers_it m t x is due =
       let next : next_call (setup_of c h m t.operation) (on t.heard) ≡ Some (x.disk, x.call) = sym (ap (next_doing c h m) is) ∙ due.next in
       subst (λ (o : Option (ℕ × device.Call)). IsAnswerTo o (answered x)) (sym next) (refl, due.fits)
@@ -185,26 +182,22 @@ module _ (c : Shape) (h : ℕ) where
   further : (most a b d e f calls : ℕ) → b + 1 + d ≤ a + e → calls + e ≤ b + f → suc calls + d ≤ a + f
   further most a b d e f calls one rest = omega (arith, one, rest)
 
-  costs : (m : Memory) (xs : List Made) → m.beats.heard ≡ None → IsApart m → length m.learned ≤ c.slots → IsGoing m → AreDue c h m xs → Pays m (length xs) (after_made c h m xs)
-  costs m [] rest alone room going due = record { few = omega arith; grows = omega arith; room = room }
-  costs m (x ∷ xs) rest alone room going due =
-      by_doing m.doing refl going
-      (λ n heard apart left more later. costs n xs heard apart left more later)
+  costs : (m : Memory) (xs : List Made) → length m.learned ≤ c.slots → IsGoing m → AreDue c h m xs → Pays m (length xs) (after_made c h m xs)
+  costs m [] room going due = record { few = omega arith; grows = omega arith; room = room }
+  costs m (x ∷ xs) room going due = by_doing m.doing refl going (λ n left more later. costs n xs left more later)
     where
       by_doing : (o : Option Doing) → m.doing ≡ o → IsGoingIn c h m o
-          → ((n : Memory) → n.beats.heard ≡ None → IsApart n → length n.learned ≤ c.slots → IsGoing n → AreDue c h n xs → Pays n (length xs) (after_made c h n xs))
+          → ((n : Memory) → length n.learned ≤ c.slots → IsGoing n → AreDue c h n xs → Pays n (length xs) (after_made c h n xs))
           → Pays m (suc (length xs)) (after_made c h (after_call c h m x) xs)
-      by_doing None is going later =
-          absurd (let next : None ≡ Some (x.disk, x.call) = sym (none_due c h m is rest alone) ∙ due.0.next in cc)
-      by_doing (Some t) is going later =
-          let n = hears c h m (Some t) (answered x) in
+      by_doing None is going later = absurd (let next : None ≡ Some (x.disk, x.call) = sym (ap (next_doing c h m) is) ∙ due.0.next in cc)
+      by_doing (Some (Attempts t)) is going later =
+          let n = hears c h m t (answered x) in
           let same : after_call c h m x ≡ n = ap (λ (o : Option Doing). hears_from c h m o x.disk x.answer) is in
           let answers = answers_it m t x is due.0 in
           let spends : Spends (17 * c.disks) c.slots (17 * c.disks * t.tries - length t.heard) (length m.learned) n =
           answer_spends (17 * c.disks) c h m t (answered x) going.slot going.tries (ends.bound (setup_of c h m t.operation) (t.heard ++ answered x ∷ []) (longer m t (answered x) going answers)) in
           let ahead : Pays n (length xs) (after_made c h n xs) =
-          later n (ap (λ (b : Beats). b.heard) (beats_heard c h m (Some t) (answered x)) ∙ rest) (apart_still m n (apart_heard c h m (Some t) (answered x)) alone) spends.room
-          (goes_further m t (answered x) going answers) (subst (λ (k : Memory). AreDue c h k xs) same due.1) in
+          later n spends.room (goes_further m t (answered x) going answers) (subst (λ (k : Memory). AreDue c h k xs) same due.1) in
           subst (λ (k : Memory). Pays m (suc (length xs)) (after_made c h k xs)) (sym same) (record {
             few =
                 subst (λ (o : Option Doing). suc (length xs) + (17 * c.disks) * length m.learned ≤ budget (17 * c.disks) o + (17 * c.disks) * length (after_made c h n xs).learned) (sym is)
@@ -212,6 +205,7 @@ module _ (c : Shape) (h : ℕ) where
             grows = omega (arith, spends.grows, ahead.grows);
             room = ahead.room;
           })
+      by_doing (Some other) is going later = absurd going
 
 -- what is left of the calls that most of them may be
 spread : (most a b tries calls : ℕ) → a ≤ b → calls + most * a ≤ most * tries + most * b → calls ≤ most * (b - a + tries)
@@ -230,41 +224,39 @@ at_most_tries c m o most tries =
 
 module _ (c : Shape) (h : ℕ) where
   -- one that has ended makes no more
-  by_mark : (m : Memory) (u : Marking) (xs : List Made) → m.beats.heard ≡ None → m.looking ≡ None → (st : mark.Status) → length u.heard ≤ 9 * c.disks → AreDue c h (marking_by m u st) xs
-      → (AreDue c h (with_marking m (Some u) None) xs → length u.heard + length xs ≤ 9 * c.disks) → length u.heard + length xs ≤ 9 * c.disks
-  by_mark m u xs rest unlooking (mark.Due d) bound due later = later due
-  by_mark m u xs rest unlooking (mark.Ended (mark.Marked count)) bound due later =
-      let none : length xs ≡ 0 = ap length (none_made c h (marking_by m u (mark.Ended (mark.Marked count))) xs refl rest (refl, unlooking) due) in omega (arith, none, bound)
-  by_mark m u xs rest unlooking (mark.Ended mark.NoMajority) bound due later =
-      let none : length xs ≡ 0 = ap length (none_made c h (marking_by m u (mark.Ended mark.NoMajority)) xs refl rest (refl, unlooking) due) in omega (arith, none, bound)
+  by_mark : (m : Memory) (u : Marking) (xs : List Made) (st : mark.Status) → length u.heard ≤ 9 * c.disks → AreDue c h (marking_by m u st) xs
+      → (AreDue c h (does m (Marks u)) xs → length u.heard + length xs ≤ 9 * c.disks) → length u.heard + length xs ≤ 9 * c.disks
+  by_mark m u xs (mark.Due d) bound due later = later due
+  by_mark m u xs (mark.Ended (mark.Marked count)) bound due later =
+      let none : length xs ≡ 0 = ap length (none_made c h (marking_by m u (mark.Ended (mark.Marked count))) xs refl due) in omega (arith, none, bound)
+  by_mark m u xs (mark.Ended mark.NoMajority) bound due later =
+      let none : length xs ≡ 0 = ap length (none_made c h (marking_by m u (mark.Ended mark.NoMajority)) xs refl due) in omega (arith, none, bound)
 
   -- it makes at most nine a disk
-  marking_costs : (m : Memory) (t : Marking) (xs : List Made) → m.doing ≡ None → m.beats.heard ≡ None → m.looking ≡ None → m.marking ≡ Some t → marking.IsHistory (marking_of c h m t.slot) t.heard → AreDue c h m xs → length t.heard + length xs ≤ 9 * c.disks
-  marking_costs m t [] doing rest unlooking marks history due = omega (arith, markings.bound (marking_of c h m t.slot) t.heard history)
-  marking_costs m t (x ∷ xs) doing rest unlooking marks history due =
+  marking_costs : (m : Memory) (t : Marking) (xs : List Made) → m.doing ≡ Some (Marks t) → marking.IsHistory (marking_of c h m t.slot) t.heard → AreDue c h m xs → length t.heard + length xs ≤ 9 * c.disks
+  marking_costs m t [] marks history due = omega (arith, markings.bound (marking_of c h m t.slot) t.heard history)
+  marking_costs m t (x ∷ xs) marks history due =
       let u = marking_with t (answered x) in
       let s = marking_of c h m t.slot in
-      let next : mark.next_call s (on t.heard) ≡ Some (x.disk, x.call) =
-      sym (ap (next_doing c h m) doing ∙ ap (next_beside c h m) rest ∙ ap (next_marking c h m) marks) ∙ due.0.next in
+      let next : mark.next_call s (on t.heard) ≡ Some (x.disk, x.call) = sym (ap (next_doing c h m) marks) ∙ due.0.next in
       let answers : IsAnswerTo (mark.next_call s (on t.heard)) (answered x) =
       subst (λ (o : Option (ℕ × device.Call)). IsAnswerTo o (answered x)) (sym next) (refl, due.0.fits) in
       let more : marking.IsHistory s u.heard = history_more (mark.next_call s) t.heard (answered x) history answers in
-      let same : after_call c h m x ≡ marking_by m u (mark.status s (on u.heard)) =
-      ap (λ (o : Option Doing). hears_from c h m o x.disk x.answer) doing ∙ ap (λ (o : Option (List Beaten)). hears_beside c h m o x.disk x.answer) rest ∙ ap (λ (o : Option Marking). hears_apart c h m o (answered x)) marks in
+      let same : after_call c h m x ≡ marking_by m u (mark.status s (on u.heard)) = ap (λ (o : Option Doing). hears_from c h m o x.disk x.answer) marks in
       let one : length u.heard ≡ length t.heard + 1 = length-append t.heard (answered x ∷ []) in
       let all : length u.heard + length xs ≤ 9 * c.disks =
-      by_mark m u xs rest unlooking (mark.status s (on u.heard)) (markings.bound s u.heard more) (subst (λ (k : Memory). AreDue c h k xs) same due.1)
-      (λ later. marking_costs (with_marking m (Some u) None) u xs refl rest unlooking refl more later) in
+      by_mark m u xs (mark.status s (on u.heard)) (markings.bound s u.heard more) (subst (λ (k : Memory). AreDue c h k xs) same due.1)
+      (λ later. marking_costs (does m (Marks u)) u xs refl more later) in
       omega (arith, one, all)
 
-  marked_within : (m : Memory) (slot : ℕ) (xs : List Made) → m.beats.heard ≡ None → IsApart m → AreDue c h (starts_marking m slot) xs → length xs ≤ 9 * c.disks
-  marked_within m slot xs rest alone due = by_begun (nat_lt slot (length m.learned)) due
+  marked_within : (m : Memory) (slot : ℕ) (xs : List Made) → AreDue c h (starts_marking m slot) xs → length xs ≤ 9 * c.disks
+  marked_within m slot xs due = by_begun (nat_lt slot (length m.learned)) due
     where
-      by_begun : (b : Bool) → AreDue c h (if b then with_marking m (Some (record { slot = slot; heard = [] })) None else with_marking m m.marking (Some (Refused refusal.NotLearned))) xs → length xs ≤ 9 * c.disks
+      by_begun : (b : Bool) → AreDue c h (if b then does m (Marks (record { slot = slot; heard = [] })) else says m (Refused refusal.NotLearned)) xs → length xs ≤ 9 * c.disks
       by_begun true due =
-          let all = marking_costs (with_marking m (Some (record { slot = slot; heard = [] })) None) (record { slot = slot; heard = [] }) xs refl rest alone.1 refl tt due in omega (arith, all)
+          let all = marking_costs (does m (Marks (record { slot = slot; heard = [] }))) (record { slot = slot; heard = [] }) xs refl tt due in omega (arith, all)
       by_begun false due =
-          let none : length xs ≡ 0 = ap length (none_made c h (with_marking m m.marking (Some (Refused refusal.NotLearned))) xs refl rest alone due) in omega (arith, none)
+          let none : length xs ≡ 0 = ap length (none_made c h (says m (Refused refusal.NotLearned)) xs refl due) in omega (arith, none)
 
 -- A LOOK
 
@@ -274,9 +266,9 @@ LooksCost c m calls n = Costs c (2 * c.disks) (2 * c.disks) m calls n
 
 module _ (c : Shape) (h : ℕ) where
   -- one that has ended makes no more
-  look_over : (m n : Memory) (calls : ℕ) (xs : List Made) → n.doing ≡ None → n.beats.heard ≡ None → IsApart n → AreDue c h n xs → length m.learned ≤ c.slots → length n.learned ≡ length m.learned → calls ≤ 2 * c.disks → LooksCost c m (calls + length xs) (after_made c h n xs)
-  look_over m n calls xs doing rest alone due room same few =
-      let none : xs ≡ [] = none_made c h n xs doing rest alone due in
+  look_over : (m n : Memory) (calls : ℕ) (xs : List Made) → n.doing ≡ None → AreDue c h n xs → length m.learned ≤ c.slots → length n.learned ≡ length m.learned → calls ≤ 2 * c.disks → LooksCost c m (calls + length xs) (after_made c h n xs)
+  look_over m n calls xs idle due room same few =
+      let none : xs ≡ [] = none_made c h n xs idle due in
       subst (λ (l : List Made). LooksCost c m (calls + length l) (after_made c h n l)) (sym none)
       (let most = 2 * c.disks in
       let longer : most * length n.learned ≡ most * length m.learned = ap (λ (k : ℕ). most * k) same in
@@ -291,63 +283,60 @@ module _ (c : Shape) (h : ℕ) where
 
   -- each of its slots costs at most two calls a disk, the last one too
   abbrev Later : List Made → Type 0
-  Later xs = (n : Memory) (t : Looking) → n.doing ≡ None → n.beats.heard ≡ None → n.marking ≡ None → n.looking ≡ Some t → t.first < c.disks → length n.learned < c.slots → looking.IsHistory (look_of c n t.first) t.heard → AreDue c h n xs
+  Later xs = (n : Memory) (t : Looking) → n.doing ≡ Some (Looks t) → t.first < c.disks → length n.learned < c.slots → looking.IsHistory (look_of c n t.first) t.heard → AreDue c h n xs
       → LooksCost c n (length t.heard + length xs) (after_made c h n xs)
 
-  by_on : (m : Memory) (disk : ℕ) (xs : List Made) → m.beats.heard ≡ None → m.marking ≡ None → disk < c.disks → (b : Bool) → nat_lt (length m.learned) c.slots ≡ b → length m.learned ≤ c.slots → Later xs
-      → AreDue c h (if b then with_looking m (Some (record { first = disk; heard = [] })) None else with_looking m None (Some (Looked (length m.learned)))) xs
-      → LooksCost c m (length xs) (after_made c h (if b then with_looking m (Some (record { first = disk; heard = [] })) None else with_looking m None (Some (Looked (length m.learned)))) xs)
-  by_on m disk xs rest unmarking inside true is room later due =
-      let cost = later (with_looking m (Some (record { first = disk; heard = [] })) None) (record { first = disk; heard = [] }) refl rest unmarking refl inside (ltb-true (length m.learned) c.slots is) tt due in
+  by_on : (m : Memory) (disk : ℕ) (xs : List Made) → disk < c.disks → (b : Bool) → nat_lt (length m.learned) c.slots ≡ b → length m.learned ≤ c.slots → Later xs
+      → AreDue c h (if b then does m (Looks (record { first = disk; heard = [] })) else says m (Looked (length m.learned))) xs
+      → LooksCost c m (length xs) (after_made c h (if b then does m (Looks (record { first = disk; heard = [] })) else says m (Looked (length m.learned))) xs)
+  by_on m disk xs inside true is room later due =
+      let cost = later (does m (Looks (record { first = disk; heard = [] }))) (record { first = disk; heard = [] }) refl inside (ltb-true (length m.learned) c.slots is) tt due in
       record { few = omega (arith, cost.few); grows = cost.grows; room = cost.room }
-  by_on m disk xs rest unmarking inside false is room later due =
-      let cost = look_over m (with_looking m None (Some (Looked (length m.learned)))) 0 xs refl rest (unmarking, refl) due room refl (omega arith) in
+  by_on m disk xs inside false is room later due =
+      let cost = look_over m (says m (Looked (length m.learned))) 0 xs refl due room refl (omega arith) in
       record { few = omega (arith, cost.few); grows = cost.grows; room = cost.room }
 
-  by_marked : (m : Memory) (disk calls : ℕ) (xs : List Made) (o : Option Command) → m.beats.heard ≡ None → m.marking ≡ None → disk < c.disks → length m.learned < c.slots → calls ≤ 2 * c.disks → Later xs → AreDue c h (takes_marked c m disk o) xs
+  by_marked : (m : Memory) (disk calls : ℕ) (xs : List Made) (o : Option Command) → disk < c.disks → length m.learned < c.slots → calls ≤ 2 * c.disks → Later xs → AreDue c h (takes_marked c m disk o) xs
       → LooksCost c m (calls + length xs) (after_made c h (takes_marked c m disk o) xs)
-  by_marked m disk calls xs None rest unmarking inside slot few later due =
-      look_over m (with_looking m None (Some (Refused refusal.NotACommand))) calls xs refl rest (unmarking, refl) due (omega arith) refl few
-  by_marked m disk calls xs (Some command) rest unmarking inside slot few later due =
+  by_marked m disk calls xs None inside slot few later due =
+      look_over m (says m (Refused refusal.NotACommand)) calls xs refl due (omega arith) refl few
+  by_marked m disk calls xs (Some command) inside slot few later due =
       let one : length (m.learned ++ command ∷ []) ≡ length m.learned + 1 = length-append m.learned (command ∷ []) in
       look_paid m (learns m command) calls (length xs) _ one few
-      (by_on (learns m command) disk xs rest unmarking inside (nat_lt (length (learns m command).learned) c.slots) refl (omega (arith, one)) later due)
+      (by_on (learns m command) disk xs inside (nat_lt (length (learns m command).learned) c.slots) refl (omega (arith, one)) later due)
 
-  by_look : (m : Memory) (u : Looking) (xs : List Made) (st : look.Status) → look.status (look_of c m u.first) (on u.heard) ≡ st → m.beats.heard ≡ None → m.marking ≡ None → u.first < c.disks → length m.learned < c.slots → looking.IsHistory (look_of c m u.first) u.heard
+  by_look : (m : Memory) (u : Looking) (xs : List Made) (st : look.Status) → look.status (look_of c m u.first) (on u.heard) ≡ st → u.first < c.disks → length m.learned < c.slots → looking.IsHistory (look_of c m u.first) u.heard
       → Later xs → AreDue c h (look_by c m u st) xs → LooksCost c m (length u.heard + length xs) (after_made c h (look_by c m u st) xs)
-  by_look m u xs (look.Due disk) is rest unmarking inside slot history later due =
-      let cost = later (with_looking m (Some u) None) u refl rest unmarking refl inside slot history due in
+  by_look m u xs (look.Due disk) is inside slot history later due =
+      let cost = later (does m (Looks u)) u refl inside slot history due in
       record { few = cost.few; grows = cost.grows; room = cost.room }
-  by_look m u xs (look.Ended (look.Decided disk value)) is rest unmarking inside slot history later due =
-      by_marked m disk (length u.heard) xs (decoded value) rest unmarking (decided_is (look_of c m u.first) (on u.heard) disk value is).0 slot (looks.bound (look_of c m u.first) inside u.heard history) later due
-  by_look m u xs (look.Ended look.Unmarked) is rest unmarking inside slot history later due =
-      look_over m (look_by c m u (look.Ended look.Unmarked)) (length u.heard) xs refl rest (unmarking, refl) due (omega arith) refl (looks.bound (look_of c m u.first) inside u.heard history)
-  by_look m u xs (look.Ended look.NoMajority) is rest unmarking inside slot history later due =
-      look_over m (look_by c m u (look.Ended look.NoMajority)) (length u.heard) xs refl rest (unmarking, refl) due (omega arith) refl (looks.bound (look_of c m u.first) inside u.heard history)
+  by_look m u xs (look.Ended (look.Decided disk value)) is inside slot history later due =
+      by_marked m disk (length u.heard) xs (decoded value) (decided_is (look_of c m u.first) (on u.heard) disk value is).0 slot (looks.bound (look_of c m u.first) inside u.heard history) later due
+  by_look m u xs (look.Ended look.Unmarked) is inside slot history later due =
+      look_over m (look_by c m u (look.Ended look.Unmarked)) (length u.heard) xs refl due (omega arith) refl (looks.bound (look_of c m u.first) inside u.heard history)
+  by_look m u xs (look.Ended look.NoMajority) is inside slot history later due =
+      look_over m (look_by c m u (look.Ended look.NoMajority)) (length u.heard) xs refl due (omega arith) refl (looks.bound (look_of c m u.first) inside u.heard history)
 
   look_costs : (xs : List Made) → Later xs
-  look_costs [] m t doing rest unmarking looks_at inside slot history due =
+  look_costs [] m t looks_at inside slot history due =
       let few = looks.bound (look_of c m t.first) inside t.heard history in
       record { few = omega (arith, few); grows = omega arith; room = omega (arith, slot) }
-  look_costs (x ∷ xs) m t doing rest unmarking looks_at inside slot history due =
+  look_costs (x ∷ xs) m t looks_at inside slot history due =
       let u = looking_with t (answered x) in
       let s = look_of c m t.first in
-      let next : look.next_call s (on t.heard) ≡ Some (x.disk, x.call) =
-      sym (ap (next_doing c h m) doing ∙ ap (next_beside c h m) rest ∙ ap (next_marking c h m) unmarking ∙ ap (λ (o : Option Looking). next_look c m o) looks_at) ∙ due.0.next in
+      let next : look.next_call s (on t.heard) ≡ Some (x.disk, x.call) = sym (ap (next_doing c h m) looks_at) ∙ due.0.next in
       let answers : IsAnswerTo (look.next_call s (on t.heard)) (answered x) =
       subst (λ (o : Option (ℕ × device.Call)). IsAnswerTo o (answered x)) (sym next) (refl, due.0.fits) in
       let more : looking.IsHistory s u.heard = history_more (look.next_call s) t.heard (answered x) history answers in
-      let same : after_call c h m x ≡ look_by c m u (look.status s (on u.heard)) =
-      ap (λ (o : Option Doing). hears_from c h m o x.disk x.answer) doing ∙ ap (λ (o : Option (List Beaten)). hears_beside c h m o x.disk x.answer) rest
-      ∙ ap (λ (o : Option Marking). hears_apart c h m o (answered x)) unmarking ∙ ap (λ (o : Option Looking). hears_look c m o (answered x)) looks_at in
+      let same : after_call c h m x ≡ look_by c m u (look.status s (on u.heard)) = ap (λ (o : Option Doing). hears_from c h m o x.disk x.answer) looks_at in
       let one : length u.heard ≡ length t.heard + 1 = length-append t.heard (answered x ∷ []) in
       let cost : LooksCost c m (length u.heard + length xs) (after_made c h (look_by c m u (look.status s (on u.heard))) xs) =
-      by_look m u xs (look.status s (on u.heard)) refl rest unmarking inside slot more (look_costs xs) (subst (λ (k : Memory). AreDue c h k xs) same due.1) in
+      by_look m u xs (look.status s (on u.heard)) refl inside slot more (look_costs xs) (subst (λ (k : Memory). AreDue c h k xs) same due.1) in
       subst (λ (k : Memory). LooksCost c m (length t.heard + suc (length xs)) (after_made c h k xs)) (sym same)
       (record { few = omega (arith, one, cost.few); grows = cost.grows; room = cost.room })
 
-  looked_costs : (m : Memory) (xs : List Made) → m.beats.heard ≡ None → m.marking ≡ None → 0 < c.disks → length m.learned ≤ c.slots → AreDue c h (starts_look c m) xs → LooksCost c m (length xs) (after_made c h (starts_look c m) xs)
-  looked_costs m xs rest unmarking some room due = by_on m 0 xs rest unmarking some (nat_lt (length m.learned) c.slots) refl room (look_costs xs) due
+  looked_costs : (m : Memory) (xs : List Made) → 0 < c.disks → length m.learned ≤ c.slots → AreDue c h (looks_on c m 0) xs → LooksCost c m (length xs) (after_made c h (looks_on c m 0) xs)
+  looked_costs m xs some room due = by_on m 0 xs some (nat_lt (length m.learned) c.slots) refl room (look_costs xs) due
 
 -- ALL CALLS
 
@@ -372,9 +361,6 @@ module _ {D : Type 0} (gives : D → device.Call → device.Answer → D → Typ
 
   before : length old.core.prefix ≡ length rests.known.memory.learned
   before = ap length rests.known.leads.prefix
-
-  alone : IsApart rests.known.memory
-  alone = idle_apart rests.known.shape rests.known.host rests.known.memory old.core rests.known.leads rests.idle
 
   bounded : (begins_with : Shape → Memory → Memory) (most more : ℕ) (done : HasCarriedOut gives begins_with old new)
       → Costs rests.known.shape (most * rests.known.shape.disks) (most * rests.known.shape.disks * more) rests.known.memory (length done.made) (after_made rests.known.shape rests.known.host (begins_with rests.known.shape rests.known.memory) done.made)
@@ -404,8 +390,6 @@ module _ {D : Type 0} (gives : D → device.Call → device.Answer → D → Typ
       let still : length begun_so.learned ≡ length m.learned = ap length (learned-goes_on c m o tries) in
       let cost : Pays c h begun_so (length done.made) (after_made c h begun_so done.made) =
       costs c h begun_so done.made
-      (ap (λ (b : Beats). b.heard) (beats-goes_on c m o tries) ∙ rests.known.rests)
-      (apart_still m begun_so (apart-goes_on c m o tries) alone)
       (omega (arith, still, before, slots, rests.room)) (begun c h m o tries more) (done.due c h m rests.known.leads) in
       let tried = at_most_tries c m o (17 * c.disks) tries in
       let spent : (17 * c.disks) * length begun_so.learned ≡ (17 * c.disks) * length m.learned = ap (λ (k : ℕ). (17 * c.disks) * k) still in
@@ -415,38 +399,39 @@ module _ {D : Type 0} (gives : D → device.Call → device.Answer → D → Typ
   -- a marking nine a disk
   marked_calls : (slot : ℕ) (done : HasMarked gives slot old new) → length done.made ≤ 9 * length old.disks
   marked_calls slot done =
-      let few = marked_within rests.known.shape rests.known.host rests.known.memory slot done.made rests.known.rests alone (done.due rests.known.shape rests.known.host rests.known.memory rests.known.leads) in
+      let few = marked_within rests.known.shape rests.known.host rests.known.memory slot done.made (done.due rests.known.shape rests.known.host rests.known.memory rests.known.leads) in
       omega (arith, few, disks)
 
   -- and a look two for each slot that it learns, and for the one that it ends at
   looked_bounded : (done : HasLooked gives old new) → IsBounded 2 1 old new (length done.made)
   looked_bounded done =
       let c = rests.known.shape in
-      let cost = looked_costs c rests.known.host rests.known.memory done.made rests.known.rests alone.0 (let some = rests.some in omega (arith, some, disks)) (omega (arith, rests.room, slots, before)) (done.due c rests.known.host rests.known.memory rests.known.leads) in
-      bounded (λ c m. starts_look c m) 2 1 done (record { few = (let few = cost.few in omega arith); grows = cost.grows; room = cost.room })
+      let cost = looked_costs c rests.known.host rests.known.memory done.made (let some = rests.some in omega (arith, some, disks)) (omega (arith, rests.room, slots, before)) (done.due c rests.known.host rests.known.memory rests.known.leads) in
+      bounded (λ c m. looks_on c m 0) 2 1 done (record { few = (let few = cost.few in omega arith); grows = cost.grows; room = cost.room })
 
-  room_then : (task : Task) → MayBegin old.core task → HasCarriedOut gives (λ c m. begun_with c m task) old new → length new.core.prefix ≤ old.core.learner.shape.slots
-  room_then (tasks.Submit command tries) may done = (operated_bounded (Submitting command) tries may.2 done).room
-  room_then (tasks.Recover tries) may done = (operated_bounded Recovering tries may.0 done).room
-  room_then (tasks.Mark slot) may done = let kept = ap length (marked_ends gives old new rests.known rests.idle slot done).0 in omega (arith, kept, rests.room)
-  room_then tasks.Look may done = (looked_bounded done).room
+  room_then : (task : Task) → MayBegin old.core task → MayBeAsked task → HasCarriedOut gives (λ c m. starts c m task) old new → length new.core.prefix ≤ old.core.learner.shape.slots
+  room_then (tasks.Submit command tries) may asked done = (operated_bounded (Submitting command) tries may.1 done).room
+  room_then (tasks.Recover tries) may asked done = (operated_bounded Recovering tries may done).room
+  room_then tasks.Look may asked done = (looked_bounded done).room
+  room_then tasks.Beat may asked done = absurd asked
+  room_then (tasks.Mark slot) may asked done = let kept = ap length (marked_ends gives old new rests.known slot done).0 in omega (arith, kept, rests.room)
 
-  pub stays_within : (task : Task) → MayBegin old.core task → HasCarriedOut gives (λ c m. begun_with c m task) old new → StaysWithin gives task old new
-  stays_within (tasks.Submit command tries) may done = tt
-  stays_within (tasks.Recover tries) may done = ((operated_bounded Recovering tries may.0 done).grows, λ d. (operated_bounded Recovering tries may.0 d).few)
-  stays_within (tasks.Mark slot) may done = ((marked_ends gives old new rests.known rests.idle slot done).0, marked_calls slot)
-  stays_within tasks.Look may done = ((looked_bounded done).grows, looked_reads gives old new rests.known rests.idle, λ d. (looked_bounded d).few)
+  pub stays_within : (task : Task) → MayBegin old.core task → HasCarriedOut gives (λ c m. starts c m task) old new → StaysWithin gives task old new
+  stays_within (tasks.Recover tries) may done = ((operated_bounded Recovering tries may done).grows, λ d. (operated_bounded Recovering tries may d).few)
+  stays_within tasks.Look may done = ((looked_bounded done).grows, looked_reads gives old new rests.known, λ d. (looked_bounded d).few)
+  stays_within (tasks.Mark slot) may done = ((marked_ends gives old new rests.known slot done).0, marked_calls slot)
+  stays_within other may done = tt
 
   -- once it has ended, the host rests again
-  pub rests_then : (task : Task) → MayBegin old.core task → (done : HasCarriedOut gives (λ c m. begun_with c m task) old new) → ((k : ℕ) (d : D) → slice_get new.disks k ≡ Some d → image_length new.core.learner.shape.slots ≤ size d) → Rests size new
-  rests_then task may done large =
-      let same : new.core.learner.shape ≡ old.core.learner.shape = same_shape gives (λ c m. begun_with c m task) old new rests.known done in record {
-        known = known_then gives (λ c m. begun_with c m task) old new rests.known done;
+  pub rests_then : (task : Task) → MayBegin old.core task → MayBeAsked task → (done : HasCarriedOut gives (λ c m. starts c m task) old new) → ((k : ℕ) (d : D) → slice_get new.disks k ≡ Some d → image_length new.core.learner.shape.slots ≤ size d) → Rests size new
+  rests_then task may asked done large =
+      let same : new.core.learner.shape ≡ old.core.learner.shape = same_shape gives (λ c m. starts c m task) old new rests.known done in record {
+        known = known_then gives (λ c m. starts c m task) old new rests.known done;
         idle = done.ended;
         small = subst IsSmall (sym same) rests.small;
         some = subst (λ (s : Shape). 1 ≤ s.disks) (sym same) rests.some;
         as_many = as_many gives old.disks new.disks done.made done.gave ∙ rests.as_many ∙ ap (λ (s : Shape). s.disks) (sym same);
-        room = subst (λ (s : Shape). length new.core.prefix ≤ s.slots) (sym same) (room_then task may done);
+        room = subst (λ (s : Shape). length new.core.prefix ≤ s.slots) (sym same) (room_then task may asked done);
         large = large;
       }
 

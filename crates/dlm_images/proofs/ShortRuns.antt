@@ -1,6 +1,6 @@
 -- One short operation, computed: it is what it is said to be, and nothing else may come of it.
-use Rattle.std.specs.Prelude.{is_some}
-use Rattle.std.proofs.Common.{ℕ, zero, suc, ◌≡◌, ◌&&◌, not, true, Option, Some, None, List, [], ◌∷◌, ◌++◌, length, slice_get, slice_set, refl, sym, subst, ap, ◌∙◌, true≢false}
+use Rattle.std.specs.Prelude.{is_none}
+use Rattle.std.proofs.Common.{ℕ, zero, suc, ◌≡◌, true, Option, Some, None, List, [], ◌∷◌, ◌++◌, length, slice_get, slice_set, refl, sym, subst, ap, ◌∙◌, true≢false}
 use Rattle.disk.specs.Disk.{DiskState, Call, Attach, Read, Write, Sync, Answer, Booted, Told, Done, Fault, success_of, done_by}
 use Rattle.disk.specs.Simulated.{fresh_disk}
 use Rattle.torn_block.specs.layouts.Block.{sequence_of, body_of, number_bytes, tail_with}
@@ -15,10 +15,9 @@ use Rattle.lock_command.specs.Reading.{lock_at, request_at, mode_of, name_at, en
 use Rattle.lock_command.specs.declared.reply.Reply.{Reply}
 use Rattle.lock_table.specs.Apply.{applied, granted}
 use Rattle.host.specs.declared.answer.HostAnswer.TheVariants.{Ack}
-use Rattle.host.specs.Host.{Memory, Doing, Submitting, fresh, next_in, next_doing, is_idle, Marking, is_idle_in, rests, next_beside, next_marking, reply_after, Looking, next_look}
+use Rattle.host.specs.Host.{Memory, Doing, Submitting, fresh, next_in, next_doing, is_idle, reply_after}
 use Rattle.host.specs.Kept.{LeadsTo}
 use Rattle.host.proofs.Hosts.{idle_is}
-use Rattle.beats.specs.Answers as beat_answers
 use Rattle.dlm_images.specs.Operations.{Made, GaveOne, Gave, after_call, after_made, IsDue, AreDue, Standing, HasOperated, IsAcknowledged}
 use Rattle.dlm_images.specs.Examples.{one_disk, blank, takes_db, begun, AlwaysSucceeds, IsBootOrFault}
 
@@ -95,14 +94,8 @@ only_calls (suc n) m d (Some call) next (x ∷ xs) new due gave ended ends =
     ap (λ (z : Made). z ∷ xs) that.same ∙ ap (λ (zs : List Made). y ∷ zs) rest
 
 -- an idle host makes no call
-none_due : (m : Memory) (o : Option Doing) → is_idle_in m o ≡ true → next_doing one_disk 0 m o ≡ None
-none_due m None idle = by_beat m.beats.heard m.marking m.looking refl refl idle
-  where
-    by_beat : (o : Option (List beat_answers.Answered)) (t : Option Marking) (l : Option Looking) → m.marking ≡ t → m.looking ≡ l → (rests o && not (is_some t) && not (is_some l)) ≡ true → next_beside one_disk 0 m o ≡ None
-    by_beat None None None none unlooking idle = ap (next_marking one_disk 0 m) none ∙ ap (next_look one_disk m) unlooking
-    by_beat None None (Some t) none unlooking idle = absurd (true≢false (sym idle))
-    by_beat None (Some t) l none unlooking idle = absurd (true≢false (sym idle))
-    by_beat (Some heard) t l none unlooking idle = absurd (true≢false (sym idle))
+none_due : (m : Memory) (o : Option Doing) → is_none o ≡ true → next_doing one_disk 0 m o ≡ None
+none_due m None idle = refl
 none_due m (Some t) idle = absurd (true≢false (sym idle))
 
 -- THE FIRST SUBMISSION

@@ -1,5 +1,5 @@
--- An operation of a host, from answer to answer, and how it ends.
-use Rattle.std.specs.Prelude.{◌≡◌, ◌≤◌, ℕ, true, List, [], ◌∷◌, ◌++◌, length, slice_get, slice_set, Option, Some, None}
+-- A task of a host, from answer to answer, and how an operation ends.
+use Rattle.std.specs.Prelude.{◌≡◌, ◌≤◌, ℕ, true, List, [], ◌∷◌, ◌++◌, length, slice_get, slice_set, Option, Some}
 use Rattle.torn_block.specs.declared.layout.TheConstants.{DISKS, SLOTS}
 use Rattle.paxos_block.specs.Places.{image_length}
 use Rattle.disk.specs.Disk.{Call, Answer}
@@ -9,10 +9,10 @@ use Rattle.attempt.specs.Looking.{OnlyReads}
 use Rattle.slot_log.specs.Shape.{Shape}
 use Rattle.lock_command.specs.declared.command.Command.{Command}
 use Rattle.lock_command.specs.declared.reply.Reply.{Reply}
-use Rattle.host.specs.Host.{Memory, Doing, Operation, Submitting, Recovering, goes_on, starts_marking, starts_look, hears_from, next_in, reply_after}
+use Rattle.host.specs.Host.{Memory, Doing, Attempts, Operation, Submitting, Recovering, goes_on, starts_marking, looks_on, hears_from, next_in, reply_after}
 use Rattle.host.specs.Kept.{Kept, LeadsTo, is_idle}
 use Rattle.host.specs.declared.answer.HostAnswer.{HostAnswer}
-use Rattle.host.specs.declared.answer.HostAnswer.TheVariants.{Ack, Recovered, Looked, Beaten, Marked, Refused}
+use Rattle.host.specs.declared.answer.HostAnswer.TheVariants.{Ack, Recovered, Refused}
 
 -- CALLS
 
@@ -22,7 +22,7 @@ pub record Made : Type 0 where
   pub call : Call
   pub answer : Answer
 
--- what a host knows once it has heard the answer to this call: its attempt, its beat, its marking or its look, whichever is under way
+-- what a host knows once what it has under way has heard the answer to this call
 abbrev pub after_call : Shape → ℕ → Memory → Made → Memory
 after_call c h m x = hears_from c h m m.doing x.disk x.answer
 
@@ -65,17 +65,15 @@ Gave {D} gives old (x ∷ xs) new = (between : List D) × GaveOne gives old x be
 
 -- the tries left of an operation under way
 abbrev pub tries_in : Option Doing → ℕ
-tries_in None = 0
-tries_in (Some t) = t.tries
+tries_in (Some (Attempts t)) = t.tries
+tries_in other = 0
 
--- Something is known of the host that leads to what it keeps: no beat is under way, and no operation that is has more tries than
--- fit a byte.
+-- Something is known of the host that leads to what it keeps: no operation that is under way has more tries than fit a byte.
 pub record IsKnown (k : Kept) : Type 0 where
   pub shape : Shape
   pub host : ℕ
   pub memory : Memory
   pub leads : LeadsTo shape host memory k
-  pub rests : memory.beats.heard ≡ None
   pub tries : tries_in memory.doing ≤ 255
 
 -- what a host keeps, and its disks
@@ -83,7 +81,7 @@ pub record Standing (D : Type 0) : Type 0 where
   pub core : Kept
   pub disks : List D
 
--- AN OPERATION
+-- A TASK
 
 -- From old to new the host made these calls, each of which was due then; its disks gave the answers; and it heard these, and nothing
 -- else.
@@ -111,7 +109,7 @@ HasMarked gives slot old new = HasCarriedOut gives (λ c m. starts_marking m slo
 
 -- with a look
 abbrev pub HasLooked : {D : Type 0} → (D → Call → Answer → D → Type 0) → (old new : Standing D) → Type 0
-HasLooked gives old new = HasCarriedOut gives (λ c m. starts_look c m) old new
+HasLooked gives old new = HasCarriedOut gives (λ c m. looks_on c m 0) old new
 
 -- HOW IT ENDS
 
@@ -125,47 +123,19 @@ pub record IsAcknowledged (command : Command) (slot : ℕ) (reply : Reply) (lear
 -- what a host says where an operation ends: a submission is acknowledged, a recovery tells how much is learned, and each may be
 -- refused
 abbrev pub Ends : Operation → List Command → Option HostAnswer → Type 0
-Ends operation learned None = ⊥
 Ends (Submitting command) learned (Some (Ack slot reply)) = IsAcknowledged command slot reply learned
-Ends (Submitting command) learned (Some (Recovered count)) = ⊥
-Ends (Submitting command) learned (Some (Looked count)) = ⊥
-Ends (Submitting command) learned (Some (Beaten host)) = ⊥
-Ends (Submitting command) learned (Some (Marked count)) = ⊥
-Ends Recovering learned (Some (Ack slot reply)) = ⊥
 Ends Recovering learned (Some (Recovered count)) = count ≡ length learned
-Ends Recovering learned (Some (Looked count)) = ⊥
-Ends Recovering learned (Some (Beaten host)) = ⊥
-Ends Recovering learned (Some (Marked count)) = ⊥
 Ends operation learned (Some (Refused refusal)) = Unit {0}
+Ends operation learned said = ⊥
 
--- what a host says where a marking ends: on how many disks its block is marked, or a refusal
-abbrev pub EndsMarking : Option HostAnswer → Type 0
-EndsMarking None = ⊥
-EndsMarking (Some (Ack slot reply)) = ⊥
-EndsMarking (Some (Recovered count)) = ⊥
-EndsMarking (Some (Looked count)) = ⊥
-EndsMarking (Some (Beaten host)) = ⊥
-EndsMarking (Some (Marked count)) = Unit {0}
-EndsMarking (Some (Refused refusal)) = Unit {0}
-
--- what a host says where a look ends: how much is learned, or a refusal
-abbrev pub EndsLook : List Command → Option HostAnswer → Type 0
-EndsLook learned None = ⊥
-EndsLook learned (Some (Ack slot reply)) = ⊥
-EndsLook learned (Some (Recovered count)) = ⊥
-EndsLook learned (Some (Looked count)) = count ≡ length learned
-EndsLook learned (Some (Beaten host)) = ⊥
-EndsLook learned (Some (Marked count)) = ⊥
-EndsLook learned (Some (Refused refusal)) = Unit {0}
-
--- BETWEEN OPERATIONS
+-- BETWEEN TASKS
 
 -- no more disks and slots than there may be
 pub record IsSmall (c : Shape) : Type 0 where
   pub disks : c.disks ≤ DISKS
   pub slots : c.slots ≤ SLOTS
 
--- Something is known of the host, and no operation is under way. It has a disk at least, and each has room for an image; and there is
+-- Something is known of the host, and nothing is under way. It has a disk at least, and each has room for an image; and there is
 -- room in the log for what it has learned.
 pub record Rests {D : Type 0} (size : D → ℕ) (s : Standing D) : Type 0 where
   pub known : IsKnown s.core

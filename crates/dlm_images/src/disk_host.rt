@@ -4,15 +4,14 @@ ghost use Rattle.lock_command.specs.Command.{is_submittable, spelling};
 ghost use Rattle.lock_command.specs.Reading.{decoded};
 ghost use Rattle.lock_table.specs.Apply.{table_after};
 ghost use Rattle.lock_table.specs.Picture.{IsPictureOf};
-ghost use Rattle.host.specs.Host.{Submitting, Recovering, fresh};
-ghost use Rattle.host.specs.Kept.{Kept, LeadsTo};
+ghost use Rattle.host.specs.Host.{Submitting, Recovering, fresh, starts};
+ghost use Rattle.host.specs.Kept.{Kept, LeadsTo, MayBegin};
 ghost use Rattle.dlm_images.specs.Operations.{HasCarriedOut, HasOperated, HasMarked, HasLooked, AreReads, IsAcknowledged};
-ghost use Rattle.dlm_images.specs.Tasks.{MayBegin, EndsTask, StaysWithin, begun_with};
+ghost use Rattle.dlm_images.specs.Tasks.{MayBeAsked, EndsTask, StaysWithin};
 
 use crate::operation::drive;
-use crate::task::Task;
 use disk::{Disk, NoMemory};
-use host::{Config, HostAnswer, HostCore, Refusal};
+use host::{Config, HostAnswer, HostCore, Refusal, Task};
 use lock_command::{Command, HostNumber};
 use lock_table::{Reply, Table};
 use std::alloc::Global;
@@ -183,14 +182,15 @@ impl<D: Disk> DiskHost<D> {
 
     /// Carries a task out, and tells how it ended.
     fn carry_out(&mut self, task: Task) -> HostAnswer
-        requires { MayBegin self.old.core task }
-        ensures done { HasCarriedOut D.gives (λ c m. begun_with c m task) self.old self.new }
+        requires may { MayBegin self.old.core task }
+        requires asked { MayBeAsked task }
+        ensures done { HasCarriedOut D.gives (λ c m. starts c m task) self.old self.new }
         ensures same { self.new.core.learner.host ≡ self.old.core.learner.host }
         ensures ends { EndsTask task self.new.core.prefix (Some result) }
         ensures said { self.new.core.said ≡ Some result }
         ensures within { StaysWithin D.gives task self.old self.new }
     {
-        task.begin(&mut self.core);
+        self.core.begin(task);
         drive(&mut self.core, &mut self.disks);
         answered(&self.core)
     }

@@ -16,7 +16,6 @@ mod operation;
 mod patience;
 mod recover_and_mark;
 mod set;
-mod task;
 
 pub use check::{Blocks, CheckFault, Finding, check_folder, print_damage};
 pub use disk_host::{Acknowledgement, DiskHost};

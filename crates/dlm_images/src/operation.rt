@@ -9,11 +9,11 @@ use host::HostCore;
 use phases::answer_of;
 use torn_block::{DISKS, ROW_LENGTH, SLOTS};
 
-/// No operation makes more calls: each of its attempts makes 17 a disk at most, and learns a slot, or uses one of at most 255 tries,
-/// or is the last. A marking makes 9 a disk at most, and a look 2 a disk for each slot.
+/// No task makes more calls: each attempt of an operation makes 17 a disk at most, and learns a slot, or uses one of at most 255 tries,
+/// or is the last. A beat or a marking makes 9 a disk at most, and a look 2 a disk for each slot.
 const MOST_CALLS: u64 = (SLOTS as u64 + 256) * (19 * DISKS as u64);
 
-/// Makes the calls of a host's operation, marking or look on its disks, until it has ended.
+/// Makes the calls of a host's task on its disks, until it has ended.
 pub fn drive<D: Disk>(host: &mut HostCore, disks: &mut [D])
     requires known { IsKnown host.old }
     requires as_many { length disks.old ≡ host.old.learner.shape.disks }

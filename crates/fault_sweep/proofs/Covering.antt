@@ -10,8 +10,9 @@ use Rattle.torn_block.specs.declared.layout.TheConstants.{HOSTS}
 use Rattle.lock_command.specs.declared.command.Command.{Command}
 use Rattle.host.specs.declared.answer.HostAnswer.{HostAnswer}
 use Rattle.host.specs.declared.answer.HostAnswer.TheVariants.{Ack, Recovered, Looked, Beaten, Marked, Refused}
+use Rattle.host.specs.declared.task.Task.TheVariants.{Recover}
 use Rattle.host.specs.Host.{is_stopped, idles, learned_of}
-use Rattle.world.specs.Happens.{Event, Start, Stop, Recover, Step, Line}
+use Rattle.world.specs.Happens.{Event, Start, Stop, Begin, Step, Line}
 use Rattle.world.specs.World.{IsRun}
 use Rattle.world.specs.Opening.{Opening, CanBegin, run_of, world_after, answers_to}
 use Rattle.world.specs.Headline.{IsPrefix}
@@ -83,7 +84,7 @@ module _ (p : Past) (can : CanBegin p.opening) (h : ℕ) (items : List Command) 
   started = begun p h within stopped
 
   rest : List Event
-  rest = Recover h 255 ∷ replicate (17 * p.opening.shape.disks * (p.opening.shape.slots + 1)) (Step h) ++ Stop h ∷ []
+  rest = Begin h (Recover 255) ∷ replicate (17 * p.opening.shape.disks * (p.opening.shape.slots + 1)) (Step h) ++ Stop h ∷ []
 
   -- it began with the event behind the start
   before_it : take (length started.events) after.events ≡ started.events

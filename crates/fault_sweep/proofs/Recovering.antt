@@ -1,5 +1,5 @@
 -- A host that recovers does nothing else until it answers: what becomes of it, and what it says meanwhile.
-use Rattle.std.specs.Prelude.{All, replicate, nat_lt, nat_le, if◌then◌else◌, slice_get, map, ◌&&◌, ◌==◌, ◌*◌}
+use Rattle.std.specs.Prelude.{All, replicate, nat_lt, nat_le, if◌then◌else◌, slice_get, map, ◌==◌, ◌*◌}
 use Rattle.std.proofs.Common.{ℕ, zero, suc, ◌+◌, ◌-◌, ◌<◌, ◌≤◌, ◌≡◌, ◌⊎◌, inl, inr, Bool, true, false, not, Option, Some, None, List, [], ◌∷◌, ◌++◌, length, refl, sym, ap, ◌∙◌, subst, arith, append-nil, append_assoc, length-append}
 use Rattle.std.specs.Option.{option_map}
 use Rattle.std.specs.List.{range_with_len}
@@ -15,12 +15,13 @@ use Rattle.slot_log.specs.Shape.{Shape}
 use Rattle.slot_log.specs.declared.outcome.Refusal.TheVariants as refusal
 use Rattle.host.specs.declared.answer.HostAnswer.{HostAnswer}
 use Rattle.host.specs.declared.answer.HostAnswer.TheVariants.{Ack, Recovered, Looked, Beaten, Marked, Refused}
-use Rattle.host.specs.Host.{Recovering, Doing, Memory, Host, Stopped, Running, fresh, says, does, with_floor, learns, begins, goes_on, takes, ended, by_status, hears, hears_from, tries_again, idles, next_of, next_doing, next_beside, next_look, next_marking, is_stopped, said_of}
+use Rattle.host.specs.declared.task.Task.TheVariants.{Recover}
+use Rattle.host.specs.Host.{Recovering, Attempt, Doing, Attempts, Memory, Host, Stopped, Running, fresh, says, does, with_floor, learns, begins, goes_on, takes, ended, by_status, hears, hears_from, tries_again, idles, next_of, next_doing, is_stopped, said_of}
 use Rattle.torn_block.specs.declared.layout.TheConstants.{HOSTS}
 use Rattle.world.specs.Entry as entries
 use Rattle.world.specs.Entry.{Filled, Called, is_of, host_step}
 use Rattle.world.specs.World.{World, world}
-use Rattle.world.specs.Happens.{Event, Start, Stop, Recover, Step, Line, stepped, brings_if, entry_of, with_entry, happens, happen, host_of, lines_after, lines_at, line, answer_of}
+use Rattle.world.specs.Happens.{Event, Start, Stop, Begin, Step, Line, stepped, brings_if, task_entry, entry_of, with_entry, happens, happen, host_of, lines_after, lines_at, line, answer_of}
 use Rattle.world.specs.Opening.{begun as beginning, run_of, answers_to}
 use Rattle.world.proofs.Projections.{host_here, host_there}
 use Rattle.simulator.proofs.Entries.{happen_on, one_answer_more}
@@ -45,8 +46,8 @@ EndsRecovery (Marked count) learned = ⊥
 
 -- it goes on, and says nothing,
 record IsUnderWay (m : Memory) : Type 0 where
-  doing : Doing
-  does : m.doing ≡ Some doing
+  doing : Attempt
+  does : m.doing ≡ Some (Attempts doing)
   recovers : doing.operation ≡ Recovering
   quiet : m.said ≡ None
 
@@ -57,66 +58,57 @@ record HasEnded (m : Memory) : Type 0 where
   says : m.said ≡ Some said
   ends : EndsRecovery said (length m.learned)
 
--- and no beat, marking or look is under way
-record Recovers (m : Memory) : Type 0 where
-  no_beat : m.beats.heard ≡ None
-  no_marking : m.marking ≡ None
-  no_look : m.looking ≡ None
-  either : IsUnderWay m ⊎ HasEnded m
+-- a host that recovers does one or the other
+abbrev Recovers : Memory → Type 0
+Recovers m = IsUnderWay m ⊎ HasEnded m
 
-under_way : (m : Memory) (tries : ℕ) (heard : List Answered) → m.beats.heard ≡ None → m.marking ≡ None → m.looking ≡ None → Recovers (does m (record { operation = Recovering; tries = tries; heard = heard }))
-under_way m tries heard beat marking look =
-    record { no_beat = beat; no_marking = marking; no_look = look; either = inl (record { doing = record { operation = Recovering; tries = tries; heard = heard }; does = refl; recovers = refl; quiet = refl }) }
+under_way : (m : Memory) (tries : ℕ) (heard : List Answered) → Recovers (does m (Attempts (record { operation = Recovering; tries = tries; heard = heard })))
+under_way m tries heard = inl (record { doing = record { operation = Recovering; tries = tries; heard = heard }; does = refl; recovers = refl; quiet = refl })
 
-answers_with : (m : Memory) (said : HostAnswer) → m.beats.heard ≡ None → m.marking ≡ None → m.looking ≡ None → EndsRecovery said (length m.learned) → Recovers (says m said)
-answers_with m said beat marking look ends = record { no_beat = beat; no_marking = marking; no_look = look; either = inr (record { rests = refl; said = said; says = refl; ends = ends }) }
+answers_with : (m : Memory) (said : HostAnswer) → EndsRecovery said (length m.learned) → Recovers (says m said)
+answers_with m said ends = inr (record { rests = refl; said = said; says = refl; ends = ends })
 
 module _ (c : Shape) where
-  tries_next : (m : Memory) (tries : ℕ) → m.beats.heard ≡ None → m.marking ≡ None → m.looking ≡ None → Recovers (goes_on c m Recovering tries)
-  tries_next m tries beat marking look = by (nat_lt (length m.learned) c.slots)
+  tries_next : (m : Memory) (tries : ℕ) → Recovers (goes_on c m Recovering tries)
+  tries_next m tries = by (nat_lt (length m.learned) c.slots)
     where
       by : (less : Bool) → Recovers (if less then begins m Recovering tries else says m (Recovered (length m.learned)))
-      by true = under_way m tries [] beat marking look
-      by false = answers_with m (Recovered (length m.learned)) beat marking look refl
+      by true = under_way m tries []
+      by false = answers_with m (Recovered (length m.learned)) refl
 
-  outrun : (m : Memory) (tries : ℕ) → m.beats.heard ≡ None → m.marking ≡ None → m.looking ≡ None → Recovers (tries_again m Recovering tries)
-  outrun m tries beat marking look = by (nat_le tries 1)
+  outrun : (m : Memory) (tries : ℕ) → Recovers (tries_again m Recovering tries)
+  outrun m tries = by (nat_le tries 1)
     where
       by : (last : Bool) → Recovers (if last then says m (Refused refusal.Outrun) else begins m Recovering (tries - 1))
-      by true = answers_with m (Refused refusal.Outrun) beat marking look tt
-      by false = under_way m (tries - 1) [] beat marking look
+      by true = answers_with m (Refused refusal.Outrun) tt
+      by false = under_way m (tries - 1) []
 
-  module _ (m : Memory) (tries : ℕ) (heard : List Answered) (ballot : ℕ) (beat : m.beats.heard ≡ None) (marking : m.marking ≡ None) (look : m.looking ≡ None) where
-    abbrev t : Doing
+  module _ (m : Memory) (tries : ℕ) (heard : List Answered) (ballot : ℕ) where
+    abbrev t : Attempt
     t = record { operation = Recovering; tries = tries; heard = heard }
 
     takes_one : (value : List ℕ) (o : Option Command) → Recovers (takes c m t ballot value o)
-    takes_one value None = answers_with (with_floor m ballot) (Refused refusal.NotACommand) beat marking look tt
-    takes_one value (Some command) = tries_next (learns m command) tries beat marking look
+    takes_one value None = answers_with (with_floor m ballot) (Refused refusal.NotACommand) tt
+    takes_one value (Some command) = tries_next (learns m command) tries
 
     by_end : (e : End) → Recovers (ended c m t ballot e)
     by_end (attempt.Committed value) = takes_one value (decoded value)
     by_end (attempt.Decided value) = takes_one value (decoded value)
-    by_end attempt.Empty = answers_with (with_floor m ballot) (Recovered (length m.learned)) beat marking look refl
-    by_end (attempt.Outrun mbal) = outrun (with_floor (with_floor m ballot) mbal) tries beat marking look
-    by_end attempt.NoMajority = answers_with (with_floor m ballot) (Refused refusal.NoMajority) beat marking look tt
-    by_end attempt.BallotsSpent = answers_with (with_floor m ballot) (Refused refusal.BallotsSpent) beat marking look tt
+    by_end attempt.Empty = answers_with (with_floor m ballot) (Recovered (length m.learned)) refl
+    by_end (attempt.Outrun mbal) = outrun (with_floor (with_floor m ballot) mbal) tries
+    by_end attempt.NoMajority = answers_with (with_floor m ballot) (Refused refusal.NoMajority) tt
+    by_end attempt.BallotsSpent = answers_with (with_floor m ballot) (Refused refusal.BallotsSpent) tt
 
     by_stand : (s : Status) → Recovers (by_status c m t ballot s)
-    by_stand (Due phase disk) = under_way m tries heard beat marking look
+    by_stand (Due phase disk) = under_way m tries heard
     by_stand (Ended end) = by_end end
 
   -- it hears one more answer
-  hears_one : (h : ℕ) (m : Memory) (t : Doing) (x : Answered) → t.operation ≡ Recovering → m.beats.heard ≡ None → m.marking ≡ None → m.looking ≡ None → Recovers (hears c h m (Some t) x)
-  hears_one h m t x is beat marking look =
-      let plain : Doing = record { operation = Recovering; tries = t.tries; heard = t.heard } in
+  hears_one : (h : ℕ) (m : Memory) (t : Attempt) (x : Answered) → t.operation ≡ Recovering → Recovers (hears c h m t x)
+  hears_one h m t x is =
+      let plain : Attempt = record { operation = Recovering; tries = t.tries; heard = t.heard } in
       let same : plain ≡ t = ap (λ o. record { operation = o; tries = t.tries; heard = t.heard }) (sym is) in
-      subst (λ (d : Doing). Recovers (hears c h m (Some d) x)) same (by_stand m t.tries (t.heard ++ x ∷ []) _ beat marking look _)
-
-  -- once it has ended no call is due
-  none_due : (h : ℕ) (m : Memory) (doing : Option Doing) → m.beats.heard ≡ None → m.marking ≡ None → m.looking ≡ None → doing ≡ None → next_doing c h m doing ≡ None
-  none_due h m (Some t) beat marking look rests = absurd (cc)
-  none_due h m None beat marking look rests = ap (next_beside c h m) beat ∙ ap (next_marking c h m) marking ∙ ap (next_look c m) look
+      subst (λ (d : Attempt). Recovers (hears c h m d x)) same (by_stand m t.tries (t.heard ++ x ∷ []) _ _)
 
 -- WHOSE EVENT IT IS
 
@@ -149,8 +141,8 @@ module _ (c : Shape) (log : List Filled) where
   leaves_start : (h g : ℕ) → (h ≡ g → ⊥) → (world c (happens c log (Start h))).host g ≡ (world c log).host g
   leaves_start h g other = leaves h g (entry_of c (world c log) (Start h)) other (of_if h (entries.Start h) _ (λ g. refl))
 
-  leaves_recover : (h g : ℕ) → (h ≡ g → ⊥) → (world c (happens c log (Recover h 255))).host g ≡ (world c log).host g
-  leaves_recover h g other = leaves h g (entry_of c (world c log) (Recover h 255)) other (of_if h (entries.Recover h 255) _ (λ g. refl))
+  leaves_recover : (h g : ℕ) → (h ≡ g → ⊥) → (world c (happens c log (Begin h (Recover 255)))).host g ≡ (world c log).host g
+  leaves_recover h g other = leaves h g (entry_of c (world c log) (Begin h (Recover 255))) other (of_if h (entries.Begin h (Recover 255)) _ (λ g. refl))
 
   leaves_step : (h g : ℕ) → (h ≡ g → ⊥) → (world c (happens c log (Step h))).host g ≡ (world c log).host g
   leaves_step h g other = leaves h g (entry_of c (world c log) (Step h)) other (of_step (world c log) h _)
@@ -221,7 +213,7 @@ steps_leave c log (suc n) h g other = steps_leave c (happens c log (Step h)) n h
 
 recovery_leaves : (c : Shape) (log : List Filled) (h g : ℕ) → (h ≡ g → ⊥) → (world c (happen c log (recovery c h))).host g ≡ (world c log).host g
 recovery_leaves c log h g other =
-    steps_leave c (happens c (happens c log (Start h)) (Recover h 255)) (17 * c.disks * (c.slots + 1)) h g other
+    steps_leave c (happens c (happens c log (Start h)) (Begin h (Recover 255))) (17 * c.disks * (c.slots + 1)) h g other
     ∙ leaves_recover c (happens c log (Start h)) h g other ∙ leaves_start c log h g other
 
 -- a recovery leaves the other hosts
@@ -251,7 +243,7 @@ record Since (start now : Past) (h : ℕ) : Type 0 where
 -- what the host says once an entry has left it so
 said_then : (start : Past) (h place : ℕ) (m : Memory) → Recovers m → length start.events ≤ place
     → (IsUnderWay m → line place h m.said ≡ []) × All (IsToldBy start h (length m.learned)) (line place h m.said)
-said_then start h place m r later = elim r.either [
+said_then start h place m r later = elim r [
   | inl u ↦ ((λ v. ap (line place h) u.quiet), subst (λ (o : Option HostAnswer). All (IsToldBy start h (length m.learned)) (line place h o)) (sym u.quiet) (All-nil (IsToldBy start h (length m.learned))))
   | inr e ↦ (
     (λ v. absurd (let rests = e.rests in let does = v.does in cc)),
@@ -326,22 +318,22 @@ module _ (start now : Past) (h : ℕ) (s : Since start now h) where
   calls : IsUnderWay s.memory → (call : ℕ × Call) → next_of shape h (w.host h) ≡ Some call → Since start stepped_now h
   calls u call due =
       let answer = answer_of (w.disk call.0) call.1 in
-      moved start now h (Step h) (stepped w h call) (hears shape h s.memory (Some u.doing) (record { disk = call.0; heard = heard_as answer }))
+      moved start now h (Step h) (stepped w h call) (hears shape h s.memory u.doing (record { disk = call.0; heard = heard_as answer }))
       (s.answered ∙ ap (λ (l : List Line). answers_of start ++ l) (s.quiet u) ∙ append-nil (answers_of start)) s.later
       (ap (option_map (stepped w h)) due) refl
       (host_here shape (run_of now.opening now.events) (stepped w h call) h (own h)
       ∙ ap (λ (x : Host). host_step shape h x (stepped w h call)) s.runs
       ∙ ap (λ (d : Option Doing). Running (hears_from shape h s.memory d call.0 answer)) u.does)
-      (hears_one shape h s.memory u.doing _ u.recovers s.recovers.no_beat s.recovers.no_marking s.recovers.no_look)
+      (hears_one shape h s.memory u.doing _ u.recovers)
 
   by_call : IsUnderWay s.memory → (o : Option (ℕ × Call)) → next_of shape h (w.host h) ≡ o → Since start stepped_now h
   by_call u None none = idle none
   by_call u (Some call) due = calls u call due
 
   one_step : Since start stepped_now h
-  one_step = elim s.recovers.either [
+  one_step = elim s.recovers [
     | inl u ↦ by_call u (next_of shape h (w.host h)) refl
-    | inr e ↦ idle (ap (next_of shape h) s.runs ∙ none_due shape h s.memory s.memory.doing s.recovers.no_beat s.recovers.no_marking s.recovers.no_look e.rests)
+    | inr e ↦ idle (ap (next_of shape h) s.runs ∙ ap (next_doing shape h s.memory) e.rests)
   ]
 
 all_steps : (start now : Past) (h n : ℕ) → Since start now h → Since start (record now { events = now.events ++ replicate n (Step h) }) h
@@ -365,13 +357,13 @@ module _ (p : Past) (h : ℕ) (within : h < HOSTS) (stopped : is_stopped ((world
       one_answer_more p.opening.shape (beginning p.opening) p.events (Start h)
       ∙ ap (λ (l : List Line). answers_of p ++ l) (start_is_quiet p.opening.shape (run_of p.opening p.events) h within stopped (length p.events)) ∙ append-nil (answers_of p)
 
-  asked : Since begun (record begun { events = begun.events ++ Recover h 255 ∷ [] }) h
+  asked : Since begun (record begun { events = begun.events ++ Begin h (Recover 255) ∷ [] }) h
   asked =
       let log = run_of p.opening begun.events in
-      moved begun begun h (Recover h 255) (entries.Recover h 255) (goes_on p.opening.shape fresh Recovering 255) refl (omega arith)
-      (ap (λ (x : Host). brings_if (idles x && nat_lt 0 255) (Some (entries.Recover h 255))) is_fresh) refl
-      (host_here p.opening.shape log (entries.Recover h 255) h (own h) ∙ ap (λ (x : Host). entries.begins_on p.opening.shape x Recovering 255) is_fresh)
-      (tries_next p.opening.shape fresh 255 refl refl refl)
+      moved begun begun h (Begin h (Recover 255)) (entries.Begin h (Recover 255)) (goes_on p.opening.shape fresh Recovering 255) refl (omega arith)
+      (ap (λ (x : Host). brings_if (idles x) (task_entry p.opening.shape h (Recover 255))) is_fresh) refl
+      (host_here p.opening.shape log (entries.Begin h (Recover 255)) h (own h) ∙ ap (λ (x : Host). entries.begins_on p.opening.shape x (Recover 255)) is_fresh)
+      (tries_next p.opening.shape fresh 255)
 
   -- these are the answers to it, if any
   pub record Whole : Type 0 where
@@ -384,12 +376,12 @@ module _ (p : Past) (h : ℕ) (within : h < HOSTS) (stopped : is_stopped ((world
   whole =
       let n = 17 * p.opening.shape.disks * (p.opening.shape.slots + 1) in
       let steps = replicate n (Step h) in
-      let s = all_steps begun (record begun { events = begun.events ++ Recover h 255 ∷ [] }) h n asked in
-      let before : List Event = (begun.events ++ Recover h 255 ∷ []) ++ steps in
+      let s = all_steps begun (record begun { events = begun.events ++ Begin h (Recover 255) ∷ [] }) h n asked in
+      let before : List Event = (begun.events ++ Begin h (Recover 255) ∷ []) ++ steps in
       let all : before ++ Stop h ∷ [] ≡ p.events ++ recovery p.opening.shape h =
-      ap (λ (l : List Event). (l ++ steps) ++ Stop h ∷ []) (append_assoc p.events (Start h ∷ []) (Recover h 255 ∷ []))
-      ∙ ap (λ (l : List Event). l ++ Stop h ∷ []) (append_assoc p.events (Start h ∷ Recover h 255 ∷ []) steps)
-      ∙ append_assoc p.events (Start h ∷ Recover h 255 ∷ steps) (Stop h ∷ []) in
+      ap (λ (l : List Event). (l ++ steps) ++ Stop h ∷ []) (append_assoc p.events (Start h ∷ []) (Begin h (Recover 255) ∷ []))
+      ∙ ap (λ (l : List Event). l ++ Stop h ∷ []) (append_assoc p.events (Start h ∷ Begin h (Recover 255) ∷ []) steps)
+      ∙ append_assoc p.events (Start h ∷ Begin h (Recover 255) ∷ steps) (Stop h ∷ []) in
       record {
         lines = s.lines;
         learned = length s.memory.learned;

@@ -8,7 +8,8 @@ use Rattle.torn_block.specs.declared.layout.TheConstants.{HOSTS}
 use Rattle.slot_log.specs.Shape.{Shape}
 use Rattle.host.specs.declared.answer.HostAnswer.{HostAnswer}
 use Rattle.host.specs.declared.answer.HostAnswer.TheVariants.{Ack, Recovered, Looked, Beaten, Marked, Refused}
-use Rattle.world.specs.Happens.{Event, Start, Stop, Recover, Step, Line, answers_from}
+use Rattle.host.specs.declared.task.Task.TheVariants.{Recover}
+use Rattle.world.specs.Happens.{Event, Start, Stop, Begin, Step, Line, answers_from}
 use Rattle.world.specs.Opening.{run_of}
 use Rattle.simulator.specs.declared.simulated_cluster.Said.{Said}
 use Rattle.simulator.specs.Events.{lines_of}
@@ -24,17 +25,17 @@ pub goes_further : (start old new : Played) (more events : List Event) → GoesO
 goes_further start old new more events before after =
     λ p is. subst (λ (l : List Event). IsOf (record p { events = l }) new) (append_assoc p.events more events) (after (later p more) (before p is))
 
-recovery_is : (c : Shape) (h n : ℕ) → n ≡ 17 * c.disks * (c.slots + 1) → Start h ∷ Recover h 255 ∷ replicate n (Step h) ++ Stop h ∷ [] ≡ recovery c h
-recovery_is c h n many = ap (λ (k : ℕ). Start h ∷ Recover h 255 ∷ replicate k (Step h) ++ Stop h ∷ []) many
+recovery_is : (c : Shape) (h n : ℕ) → n ≡ 17 * c.disks * (c.slots + 1) → Start h ∷ Begin h (Recover 255) ∷ replicate n (Step h) ++ Stop h ∷ [] ≡ recovery c h
+recovery_is c h n many = ap (λ (k : ℕ). Start h ∷ Begin h (Recover 255) ∷ replicate k (Step h) ++ Stop h ∷ []) many
 
 pub recovery_goes : (p : Past) (c : Shape) (h host n : ℕ) → h ≡ host → n ≡ 17 * c.disks * (c.slots + 1)
-    → later (later (later (later p (Start h ∷ [])) (Recover h 255 ∷ [])) (replicate n (Step h))) (Stop h ∷ []) ≡ later p (recovery c host)
+    → later (later (later (later p (Start h ∷ [])) (Begin h (Recover 255) ∷ [])) (replicate n (Step h))) (Stop h ∷ []) ≡ later p (recovery c host)
 recovery_goes p c h host n same many =
     let steps = replicate n (Step h) in
     ap (λ (l : List Event). record p { events = l })
-    (ap (λ (l : List Event). (l ++ steps) ++ Stop h ∷ []) (append_assoc p.events (Start h ∷ []) (Recover h 255 ∷ []))
-    ∙ ap (λ (l : List Event). l ++ Stop h ∷ []) (append_assoc p.events (Start h ∷ Recover h 255 ∷ []) steps)
-    ∙ append_assoc p.events (Start h ∷ Recover h 255 ∷ steps) (Stop h ∷ [])
+    (ap (λ (l : List Event). (l ++ steps) ++ Stop h ∷ []) (append_assoc p.events (Start h ∷ []) (Begin h (Recover 255) ∷ []))
+    ∙ ap (λ (l : List Event). l ++ Stop h ∷ []) (append_assoc p.events (Start h ∷ Begin h (Recover 255) ∷ []) steps)
+    ∙ append_assoc p.events (Start h ∷ Begin h (Recover 255) ∷ steps) (Stop h ∷ [])
     ∙ ap (λ (l : List Event). p.events ++ l) (recovery_is c h n many ∙ ap (recovery c) same))
 
 -- what holds of the start and of what happened since, is kept by each part of a recovery
@@ -42,12 +43,12 @@ abbrev pub Keeps : {X : Type 0} → (Past → Past → X → Type 0) → Played 
 Keeps K r events before after = (start p : Past) → IsOf p r → K start p before → K start (later p events) after
 
 module _ (p : Past) (c : Shape) (h host n : ℕ) (start a b d : Played) (is : IsOf p start)
-    (starts : GoesOn start a (Start h ∷ [])) (recovers : GoesOn a b (Recover h 255 ∷ [])) (steps : GoesOn b d (replicate n (Step h))) where
+    (starts : GoesOn start a (Start h ∷ [])) (recovers : GoesOn a b (Begin h (Recover 255) ∷ [])) (steps : GoesOn b d (replicate n (Step h))) where
   abbrev p1 : Past
   p1 = later p (Start h ∷ [])
 
   abbrev p2 : Past
-  p2 = later p1 (Recover h 255 ∷ [])
+  p2 = later p1 (Begin h (Recover 255) ∷ [])
 
   abbrev p3 : Past
   p3 = later p2 (replicate n (Step h))
@@ -57,7 +58,7 @@ module _ (p : Past) (c : Shape) (h host n : ℕ) (start a b d : Played) (is : Is
       subst (λ (q : Past). IsOf q now) (recovery_goes p c h host n same many) (stops p3 (steps p2 (recovers p1 (starts p is))))
 
   pub recovery_keeps : {X : Type 0} (K : Past → Past → X → Type 0) (x0 x1 x2 x3 x4 : X)
-      → Keeps K start (Start h ∷ []) x0 x1 → Keeps K a (Recover h 255 ∷ []) x1 x2 → Keeps K b (replicate n (Step h)) x2 x3 → Keeps K d (Stop h ∷ []) x3 x4
+      → Keeps K start (Start h ∷ []) x0 x1 → Keeps K a (Begin h (Recover 255) ∷ []) x1 x2 → Keeps K b (replicate n (Step h)) x2 x3 → Keeps K d (Stop h ∷ []) x3 x4
       → K p p x0 → h ≡ host → n ≡ 17 * c.disks * (c.slots + 1) → K p (later p (recovery c host)) x4
   recovery_keeps K x0 x1 x2 x3 x4 k1 k2 k3 k4 k same many =
       subst (λ (q : Past). K p q x4) (recovery_goes p c h host n same many)

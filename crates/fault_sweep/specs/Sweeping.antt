@@ -5,9 +5,10 @@ use Rattle.torn_block.specs.declared.layout.TheConstants.{HOSTS}
 use Rattle.slot_log.specs.Shape.{Shape}
 use Rattle.host.specs.declared.answer.HostAnswer.{HostAnswer}
 use Rattle.host.specs.declared.answer.HostAnswer.TheVariants.{Recovered}
+use Rattle.host.specs.declared.task.Task.TheVariants.{Recover}
 use Rattle.host.specs.Host.{next_of}
 use Rattle.world.specs.World.{World}
-use Rattle.world.specs.Happens.{Event, Start, Stop, Recover, Step, Tear, DiskCrash, Line, answers_from}
+use Rattle.world.specs.Happens.{Event, Start, Stop, Begin, Step, Tear, DiskCrash, Line, answers_from}
 use Rattle.world.specs.Opening.{Opening, run_of, world_after}
 use Rattle.simulator.specs.Kept.{told_call}
 
@@ -39,7 +40,7 @@ changes_at o events i = changes_before o.shape (world_after o (take i events)) (
 
 -- a stopped host starts, recovers with all the calls that it can need, and stops
 abbrev pub recovery : Shape → ℕ → List Event
-recovery c h = Start h ∷ Recover h 255 ∷ replicate (17 * c.disks * (c.slots + 1)) (Step h) ++ Stop h ∷ []
+recovery c h = Start h ∷ Begin h (Recover 255) ∷ replicate (17 * c.disks * (c.slots + 1)) (Step h) ++ Stop h ∷ []
 
 -- all hosts are stopped
 abbrev pub stops : List Event

@@ -1,7 +1,8 @@
 // What a sweep does, spelled out.
 ghost use Rattle.std.specs.Prelude.{◌≡◌, ◌+◌, ◌*◌, ◌++◌, ◌∷◌, [], true, false, replicate, None, Some};
 ghost use Rattle.slot_log.specs.Shape.{Shape};
-ghost use Rattle.world.specs.Happens.{Start, Stop, Recover, Step, Tear, DiskCrash};
+ghost use Rattle.host.specs.declared.task.Task.TheVariants.{Recover};
+ghost use Rattle.world.specs.Happens.{Start, Stop, Begin, Step, Tear, DiskCrash};
 ghost use Rattle.fault_sweep.specs.Sweeping.{ways, recovery, ending};
 
 /// The events that a sweep puts before a step, in their order, and the two recoveries that follow each variant.
@@ -15,5 +16,5 @@ pub fn what_a_sweep_puts_in()
     ensures last { (c : Shape) → ending c ≡
         (Stop 0 ∷ Stop 1 ∷ Stop 2 ∷ Stop 3 ∷ Stop 4 ∷ Stop 5 ∷ Stop 6 ∷ Stop 7 ∷ Stop 8 ∷ Stop 9 ∷ Stop 10 ∷ Stop 11 ∷ Stop 12 ∷ Stop 13 ∷ Stop 14 ∷ Stop 15 ∷ [])
         ++ recovery c 0 ++ recovery c 15 }
-    ensures recovery { (c : Shape) → recovery c 15 ≡ Start 15 ∷ Recover 15 255 ∷ replicate (17 * c.disks * (c.slots + 1)) (Step 15) ++ Stop 15 ∷ [] }
+    ensures recovery { (c : Shape) → recovery c 15 ≡ Start 15 ∷ Begin 15 (Recover 255) ∷ replicate (17 * c.disks * (c.slots + 1)) (Step 15) ++ Stop 15 ∷ [] }
 {}

@@ -2,7 +2,7 @@
 use Rattle.std.proofs.Common.{◌≡◌, ◌<◌, ◌≤◌, ◌+◌, ℕ, Bool, true, false, List, [], ◌∷◌, ◌++◌, length, nat_lt, nat_le, filter, find, slice_get, Option, Some, None, Result, Err, refl, sym, ◌∙◌, ap, subst, arith, eq-eqb, if◌then◌else◌}
 use Rattle.std.proofs.lemmas.Bool.{ltb-false}
 use Rattle.std.proofs.lemmas.List.{length-append}
-use Rattle.attempt.specs.Answers.{Answered, on, heard_as}
+use Rattle.attempt.specs.Answers.{on, heard_as}
 use Rattle.attempt.specs.Status as attempt
 use Rattle.attempt.specs.Status.{Status, Due, Ended, status, taken}
 use Rattle.beats.specs.Answers as beat_answers
@@ -21,8 +21,8 @@ use Rattle.slot_log.specs.Shape.{Shape}
 use Rattle.slot_log.specs.declared.outcome.Refusal.{Refusal}
 use Rattle.slot_log.specs.declared.outcome.Refusal.TheVariants as refusal
 use Rattle.host.specs.declared.answer.HostAnswer.{HostAnswer}
-use Rattle.host.specs.declared.answer.HostAnswer.TheVariants.{Ack, Recovered, Looked, Beaten, Marked, Refused}
-use Rattle.host.specs.Host.{Operation, Submitting, Recovering, Doing, Memory, Marking, Looking, hears_from, hears_beside, hears_apart, hears_look, look_by, look_of, looking_with, looks_on, takes_marked, with_looking, beat_by, beat_of, marking_by, marking_with, marking_of, goes_on, begins, by_status, takes, after_learning, is_submitted, learns, says, full_answer, with_heard, with_floor, tries_again, setup_of}
+use Rattle.host.specs.declared.answer.HostAnswer.TheVariants.{Ack, Looked, Refused}
+use Rattle.host.specs.Host.{Operation, Submitting, Recovering, Attempt, Marking, Looking, Doing, Attempts, Looks, Beats, Marks, Memory, does, says, full_answer, hears_from, goes_on, begins, by_status, takes, after_learning, is_submitted, learns, with_heard, with_floor, tries_again, setup_of, look_by, look_of, looking_with, looks_on, takes_marked, beat_by, beat_of, marking_by, marking_with, marking_of}
 use Rattle.host.specs.Kept.{Kept, LeadsTo}
 use Rattle.dlm_images.specs.Operations.{Made, Standing, HasOperated, after_call, after_made}
 use Rattle.dlm_images.specs.Tries.{AreOutrun, none, more, HasTried}
@@ -37,13 +37,9 @@ IsFullIf slots now other = Unit {0}
 
 -- an acknowledged command is one more than was learned before
 abbrev pub Told : (slots had now : ℕ) → Option HostAnswer → Type 0
-Told slots had now None = Unit {0}
 Told slots had now (Some (Ack slot reply)) = had < now
-Told slots had now (Some (Recovered count)) = Unit {0}
-Told slots had now (Some (Looked count)) = Unit {0}
-Told slots had now (Some (Beaten host)) = Unit {0}
-Told slots had now (Some (Marked count)) = Unit {0}
 Told slots had now (Some (Refused refusal)) = IsFullIf slots now refusal
+Told slots had now other = Unit {0}
 
 pub record Grows (slots had : ℕ) (m : Memory) : Type 0 where
   pub grows : had ≤ length m.learned
@@ -64,7 +60,7 @@ module _ (c : Shape) (h had : ℕ) where
       (λ is. record { grows = le; told = tt })
       (λ is. record { grows = le; told = full_told o (length m.learned) (ltb-false (length m.learned) c.slots is) })
 
-  learning_grows : (m : Memory) (t : Doing) (command : Command) (b : Bool) → had ≤ length m.learned → Grows c.slots had (after_learning c m t command b)
+  learning_grows : (m : Memory) (t : Attempt) (command : Command) (b : Bool) → had ≤ length m.learned → Grows c.slots had (after_learning c m t command b)
   learning_grows m t command true le =
       let one : length (m.learned ++ command ∷ []) ≡ length m.learned + 1 = length-append m.learned (command ∷ []) in
       record { grows = omega (arith, one, le); told = omega (arith, one, le) }
@@ -72,7 +68,7 @@ module _ (c : Shape) (h had : ℕ) where
       let one : length (m.learned ++ command ∷ []) ≡ length m.learned + 1 = length-append m.learned (command ∷ []) in
       goes_on_grows (learns m command) t.operation t.tries (omega (arith, one, le))
 
-  takes_grows : (m : Memory) (t : Doing) (ballot : ℕ) (value : List ℕ) (o : Option Command) → had ≤ length m.learned → Grows c.slots had (takes c m t ballot value o)
+  takes_grows : (m : Memory) (t : Attempt) (ballot : ℕ) (value : List ℕ) (o : Option Command) → had ≤ length m.learned → Grows c.slots had (takes c m t ballot value o)
   takes_grows m t ballot value None le = record { grows = le; told = tt }
   takes_grows m t ballot value (Some command) le = learning_grows m t command (is_submitted t.operation value) le
 
@@ -80,7 +76,7 @@ module _ (c : Shape) (h had : ℕ) where
   tries_grow m o tries le =
       by_test (Grows c.slots had) (nat_le tries 1) (says m (Refused refusal.Outrun)) _ (λ is. record { grows = le; told = tt }) (λ is. record { grows = le; told = tt })
 
-  status_grows : (m : Memory) (t : Doing) (ballot : ℕ) (s : Status) → had ≤ length m.learned → Grows c.slots had (by_status c m t ballot s)
+  status_grows : (m : Memory) (t : Attempt) (ballot : ℕ) (s : Status) → had ≤ length m.learned → Grows c.slots had (by_status c m t ballot s)
   status_grows m t ballot (Due p d) le = record { grows = le; told = tt }
   status_grows m t ballot (Ended (attempt.Committed value)) le = takes_grows m t ballot value (decoded value) le
   status_grows m t ballot (Ended (attempt.Decided value)) le = takes_grows m t ballot value (decoded value) le
@@ -96,7 +92,7 @@ module _ (c : Shape) (h had : ℕ) where
 
   on_grows : (m : Memory) (first : ℕ) → had ≤ length m.learned → Grows c.slots had (looks_on c m first)
   on_grows m first le =
-      by_test (Grows c.slots had) (nat_lt (length m.learned) c.slots) (with_looking m (Some (record { first = first; heard = [] })) None) (with_looking m None (Some (Looked (length m.learned))))
+      by_test (Grows c.slots had) (nat_lt (length m.learned) c.slots) (does m (Looks (record { first = first; heard = [] }))) (says m (Looked (length m.learned)))
       (λ is. record { grows = le; told = tt })
       (λ is. record { grows = le; told = tt })
 
@@ -112,32 +108,26 @@ module _ (c : Shape) (h had : ℕ) where
   look_grows m t (look.Ended look.Unmarked) le = record { grows = le; told = tt }
   look_grows m t (look.Ended look.NoMajority) le = record { grows = le; told = tt }
 
-  looking_grows : (m : Memory) (o : Option Looking) (x : Answered) → Grows c.slots had m → Grows c.slots had (hears_look c m o x)
-  looking_grows m None x is = is
-  looking_grows m (Some t) x is = look_grows m (looking_with t x) (look.status (look_of c m t.first) (on (looking_with t x).heard)) is.grows
-
-  marking_grows : (m : Memory) (o : Option Marking) (x : Answered) → Grows c.slots had m → Grows c.slots had (hears_apart c h m o x)
-  marking_grows m None x is = looking_grows m m.looking x is
-  marking_grows m (Some t) x is = marked_grows m (marking_with t x) (mark.status (marking_of c h m t.slot) (on (marking_with t x).heard)) is.grows
-
   beaten_grows : (m : Memory) (heard : List beat_answers.Answered) (st : beat.Status) → had ≤ length m.learned → Grows c.slots had (beat_by h m heard st)
   beaten_grows m heard (beat.Due d) le = record { grows = le; told = tt }
   beaten_grows m heard (beat.Ended (beat.Beaten readings)) le = record { grows = le; told = tt }
   beaten_grows m heard (beat.Ended beat.NoMajority) le = record { grows = le; told = tt }
 
-  beside_grows : (m : Memory) (o : Option (List beat_answers.Answered)) (d : ℕ) (answer : Answer) → Grows c.slots had m → Grows c.slots had (hears_beside c h m o d answer)
-  beside_grows m None d answer is = marking_grows m m.marking (record { disk = d; heard = heard_as answer }) is
-  beside_grows m (Some heard) d answer is =
-      let x : beat_answers.Answered = record { disk = d; heard = beat_answers.heard_as answer } in
-      beaten_grows m (heard ++ x ∷ []) (beat.status (beat_of c h) (beat_answers.on (heard ++ x ∷ []))) is.grows
-
   hearing_grows : (m : Memory) (o : Option Doing) (d : ℕ) (answer : Answer) → Grows c.slots had m → Grows c.slots had (hears_from c h m o d answer)
-  hearing_grows m None d answer is = beside_grows m m.beats.heard d answer is
-  hearing_grows m (Some t) d answer is =
-      let x : Answered = record { disk = d; heard = heard_as answer } in
-      let u = with_heard t x in
+  hearing_grows m None d answer is = is
+  hearing_grows m (Some (Attempts t)) d answer is =
+      let u = with_heard t (record { disk = d; heard = heard_as answer }) in
       let s = setup_of c h m t.operation in
       status_grows m u (taken s (on u.heard)) (status s (on u.heard)) is.grows
+  hearing_grows m (Some (Looks t)) d answer is =
+      let u = looking_with t (record { disk = d; heard = heard_as answer }) in
+      look_grows m u (look.status (look_of c m t.first) (on u.heard)) is.grows
+  hearing_grows m (Some (Beats heard)) d answer is =
+      let x : beat_answers.Answered = record { disk = d; heard = beat_answers.heard_as answer } in
+      beaten_grows m (heard ++ x ∷ []) (beat.status (beat_of c h) (beat_answers.on (heard ++ x ∷ []))) is.grows
+  hearing_grows m (Some (Marks t)) d answer is =
+      let u = marking_with t (record { disk = d; heard = heard_as answer }) in
+      marked_grows m u (mark.status (marking_of c h m t.slot) (on u.heard)) is.grows
 
   all_grow : (m : Memory) (xs : List Made) → Grows c.slots had m → Grows c.slots had (after_made c h m xs)
   all_grow m [] is = is

@@ -1,5 +1,5 @@
--- Of the headline. A host: what follows from its operations and the answers that it has heard since its start.
-use Rattle.std.specs.Prelude.{◌-◌, ◌&&◌, ℕ, Bool, true, false, not, List, [], ◌∷◌, ◌++◌, length, max, nat_lt, nat_le, slice_get, Option, Some, None, is_some, if◌then◌else◌, bytes_eq}
+-- Of the headline. A host: what follows from its tasks and the answers that it has heard since its start.
+use Rattle.std.specs.Prelude.{◌-◌, ℕ, Bool, true, false, List, [], ◌∷◌, ◌++◌, length, max, nat_lt, nat_le, slice_get, Option, Some, None, is_none, if◌then◌else◌, bytes_eq}
 use Rattle.disk.specs.Disk as device
 use Rattle.torn_block.specs.Layout.{cluster_version}
 use Rattle.attempt.specs.Answers.{Answered, on, heard_as}
@@ -21,6 +21,8 @@ use Rattle.slot_log.specs.Shape.{Shape}
 use Rattle.slot_log.specs.declared.outcome.Refusal.TheVariants as refusal
 use Rattle.host.specs.declared.answer.HostAnswer.{HostAnswer}
 use Rattle.host.specs.declared.answer.HostAnswer.TheVariants.{Ack, Recovered, Looked, Beaten, Marked, Refused}
+use Rattle.host.specs.declared.task.Task.{Task}
+use Rattle.host.specs.declared.task.Task.TheVariants.{Submit, Recover, Look, Beat, Mark}
 
 -- COMMANDS
 
@@ -28,43 +30,44 @@ use Rattle.host.specs.declared.answer.HostAnswer.TheVariants.{Ack, Recovered, Lo
 abbrev pub reply_after : List Command → Command → Reply
 reply_after before command = (applied (table_after before) command).reply
 
--- WHAT A HOST KNOWS
+-- WHAT A HOST KNOWS, AND WHAT IT DOES
 
+-- what is done by attempts
 pub data Operation : Type 0 where
   Submitting : (command : Command) → Operation
   Recovering : Operation
 
 -- an operation under way: its tries left, and what its attempt on the next slot has heard
-pub record Doing : Type 0 where
+pub record Attempt : Type 0 where
   pub operation : Operation
   pub tries : ℕ
   pub heard : List Answered
 
--- what the last beat that ended well read, and what the beat under way has heard
-pub record Beats : Type 0 where
-  pub readings : Option Readings
-  pub heard : Option (List beat_answers.Answered)
-
--- the marking under way: its slot, and what it has heard
+-- a marking under way: its slot, and what it has heard
 pub record Marking : Type 0 where
   pub slot : ℕ
   pub heard : List Answered
 
--- the look under way, at the next slot: the disk that it asks first, and what it has heard of this slot
+-- a look under way, at the next slot: the disk that it asks first, and what it has heard of this slot
 pub record Looking : Type 0 where
   pub first : ℕ
   pub heard : List Answered
 
--- a running host: the commands that it has learned, by slot, its floor on the next slot, what its last entry made it say, its
--- beats, and the marking or the look under way
+-- what a host has under way: one thing at a time
+pub data Doing : Type 0 where
+  Attempts : (attempt : Attempt) → Doing
+  Looks : (looking : Looking) → Doing
+  Beats : (heard : List beat_answers.Answered) → Doing
+  Marks : (marking : Marking) → Doing
+
+-- a running host: the commands that it has learned, by slot, its floor on the next slot, what it has under way, what its last entry made
+-- it say, and what its last beat that ended well read
 pub record Memory : Type 0 where
   pub learned : List Command
   pub floor : ℕ
   pub doing : Option Doing
   pub said : Option HostAnswer
-  pub beats : Beats
-  pub marking : Option Marking
-  pub looking : Option Looking
+  pub readings : Option Readings
 
 pub data Host : Type 0 where
   Stopped : Host
@@ -72,20 +75,24 @@ pub data Host : Type 0 where
 
 -- at its start a host knows nothing
 abbrev pub fresh : Memory
-fresh = record { learned = []; floor = 0; doing = None; said = None; beats = record { readings = None; heard = None }; marking = None; looking = None }
+fresh = record { learned = []; floor = 0; doing = None; said = None; readings = None }
 
 abbrev pub says : Memory → HostAnswer → Memory
-says m said = record { learned = m.learned; floor = m.floor; doing = None; said = Some said; beats = m.beats; marking = m.marking; looking = m.looking }
+says m said = record { learned = m.learned; floor = m.floor; doing = None; said = Some said; readings = m.readings }
 
 abbrev pub does : Memory → Doing → Memory
-does m t = record { learned = m.learned; floor = m.floor; doing = Some t; said = None; beats = m.beats; marking = m.marking; looking = m.looking }
+does m t = record { learned = m.learned; floor = m.floor; doing = Some t; said = None; readings = m.readings }
 
 -- a ballot of the next slot counts from now on
 abbrev pub with_floor : Memory → ℕ → Memory
-with_floor m ballot = record { learned = m.learned; floor = max m.floor ballot; doing = None; said = None; beats = m.beats; marking = m.marking; looking = m.looking }
+with_floor m ballot = record { learned = m.learned; floor = max m.floor ballot; doing = None; said = None; readings = m.readings }
 
 abbrev pub learns : Memory → Command → Memory
-learns m command = record { learned = m.learned ++ command ∷ []; floor = 0; doing = None; said = None; beats = m.beats; marking = m.marking; looking = m.looking }
+learns m command = record { learned = m.learned ++ command ∷ []; floor = 0; doing = None; said = None; readings = m.readings }
+
+-- these readings stand from now on
+abbrev pub reads : Memory → Readings → Memory
+reads m readings = record { learned = m.learned; floor = m.floor; doing = None; said = None; readings = Some readings }
 
 -- AN OPERATION GOES ON
 
@@ -100,7 +107,7 @@ setup_of c h m operation = record { version = cluster_version; host = h; slot = 
 
 -- an attempt on the next slot begins
 abbrev pub begins : Memory → Operation → ℕ → Memory
-begins m operation tries = does m (record { operation = operation; tries = tries; heard = [] })
+begins m operation tries = does m (Attempts (record { operation = operation; tries = tries; heard = [] }))
 
 -- how an operation ends once all slots are learned
 abbrev pub full_answer : Operation → ℕ → HostAnswer
@@ -118,12 +125,12 @@ is_submitted (Submitting command) value = bytes_eq (spelling command) value
 is_submitted Recovering value = false
 
 -- a submitted command that was learned is acknowledged; else the next slot is tried
-abbrev pub after_learning : Shape → Memory → Doing → Command → Bool → Memory
+abbrev pub after_learning : Shape → Memory → Attempt → Command → Bool → Memory
 after_learning c m t command true = says (learns m command) (Ack (length m.learned) (reply_after m.learned command))
 after_learning c m t command false = goes_on c (learns m command) t.operation t.tries
 
 -- a value that is no command is not learned
-abbrev pub takes : Shape → Memory → Doing → ℕ → List ℕ → Option Command → Memory
+abbrev pub takes : Shape → Memory → Attempt → ℕ → List ℕ → Option Command → Memory
 takes c m t ballot value None = says (with_floor m ballot) (Refused refusal.NotACommand)
 takes c m t ballot value (Some command) = after_learning c m t command (is_submitted t.operation value)
 
@@ -132,7 +139,7 @@ abbrev pub tries_again : Memory → Operation → ℕ → Memory
 tries_again m operation tries = if nat_le tries 1 then says m (Refused refusal.Outrun) else begins m operation (tries - 1)
 
 -- an attempt has ended, and its ballot counts
-abbrev pub ended : Shape → Memory → Doing → ℕ → End → Memory
+abbrev pub ended : Shape → Memory → Attempt → ℕ → End → Memory
 ended c m t ballot (attempt.Committed value) = takes c m t ballot value (decoded value)
 ended c m t ballot (attempt.Decided value) = takes c m t ballot value (decoded value)
 ended c m t ballot attempt.Empty = says (with_floor m ballot) (Recovered (length m.learned))
@@ -140,34 +147,57 @@ ended c m t ballot (attempt.Outrun mbal) = tries_again (with_floor (with_floor m
 ended c m t ballot attempt.NoMajority = says (with_floor m ballot) (Refused refusal.NoMajority)
 ended c m t ballot attempt.BallotsSpent = says (with_floor m ballot) (Refused refusal.BallotsSpent)
 
-abbrev pub by_status : Shape → Memory → Doing → ℕ → Status → Memory
-by_status c m t ballot (Due phase disk) = does m t
+abbrev pub by_status : Shape → Memory → Attempt → ℕ → Status → Memory
+by_status c m t ballot (Due phase disk) = does m (Attempts t)
 by_status c m t ballot (Ended end) = ended c m t ballot end
 
-abbrev pub with_heard : Doing → Answered → Doing
+abbrev pub with_heard : Attempt → Answered → Attempt
 with_heard t x = record { operation = t.operation; tries = t.tries; heard = t.heard ++ x ∷ [] }
 
-abbrev pub goes_by : Shape → Memory → Doing → Setup → Memory
+abbrev pub goes_by : Shape → Memory → Attempt → Setup → Memory
 goes_by c m t s = by_status c m t (taken s (on t.heard)) (status s (on t.heard))
 
 -- the attempt under way hears one more answer
-abbrev pub hears : Shape → ℕ → Memory → Option Doing → Answered → Memory
-hears c h m None x = m
-hears c h m (Some t) x = goes_by c m (with_heard t x) (setup_of c h m t.operation)
+abbrev pub hears : Shape → ℕ → Memory → Attempt → Answered → Memory
+hears c h m t x = goes_by c m (with_heard t x) (setup_of c h m t.operation)
+
+-- A LOOK
+
+-- a host looks at the next slot, and asks this disk first
+abbrev pub look_of : Shape → Memory → ℕ → look.Setup
+look_of c m first = record { slot = length m.learned; disks = c.disks; first = first }
+
+-- the next slot is looked at, where there is one
+abbrev pub looks_on : Shape → Memory → ℕ → Memory
+looks_on c m first =
+    if nat_lt (length m.learned) c.slots then does m (Looks (record { first = first; heard = [] })) else says m (Looked (length m.learned))
+
+-- a mark on a disk told the next command, and the look goes on there; a value that is no command is not learned
+abbrev pub takes_marked : Shape → Memory → ℕ → Option Command → Memory
+takes_marked c m disk None = says m (Refused refusal.NotACommand)
+takes_marked c m disk (Some command) = looks_on c (learns m command) disk
+
+abbrev pub look_ended : Shape → Memory → look.End → Memory
+look_ended c m (look.Decided disk value) = takes_marked c m disk (decoded value)
+look_ended c m look.Unmarked = says m (Looked (length m.learned))
+look_ended c m look.NoMajority = says m (Refused refusal.NoMajority)
+
+abbrev pub look_by : Shape → Memory → Looking → look.Status → Memory
+look_by c m t (look.Due disk) = does m (Looks t)
+look_by c m t (look.Ended end) = look_ended c m end
+
+abbrev pub looking_with : Looking → Answered → Looking
+looking_with t x = record { first = t.first; heard = t.heard ++ x ∷ [] }
+
+-- the look under way hears one more answer
+abbrev pub hears_look : Shape → Memory → Looking → Answered → Memory
+hears_look c m t x = look_by c m (looking_with t x) (look.status (look_of c m t.first) (on (looking_with t x).heard))
 
 -- A BEAT
 
 -- a host beats on all disks
 abbrev pub beat_of : Shape → ℕ → beat.Setup
 beat_of c h = record { host = h; disks = c.disks }
-
--- its beats have come to this, and it says that; what it has learned stays
-abbrev pub with_beats : Memory → Beats → Option HostAnswer → Memory
-with_beats m beats said = record { learned = m.learned; floor = m.floor; doing = None; said = said; beats = beats; marking = m.marking; looking = m.looking }
-
--- a beat begins
-abbrev pub starts_beat : Memory → Memory
-starts_beat m = with_beats m (record { readings = m.beats.readings; heard = Some [] }) None
 
 -- the host that two readings suggest; the host itself where there was none before
 abbrev pub suggested : ℕ → Option Readings → Readings → ℕ
@@ -176,17 +206,16 @@ suggested h (Some before) after = suggestion before after h
 
 -- a beat has ended; without a majority it leaves no readings, and those before stand
 abbrev pub beat_ended : ℕ → Memory → beat.End → Memory
-beat_ended h m (beat.Beaten readings) = with_beats m (record { readings = Some readings; heard = None }) (Some (Beaten (suggested h m.beats.readings readings)))
-beat_ended h m beat.NoMajority = with_beats m (record { readings = m.beats.readings; heard = None }) (Some (Refused refusal.NoMajority))
+beat_ended h m (beat.Beaten readings) = says (reads m readings) (Beaten (suggested h m.readings readings))
+beat_ended h m beat.NoMajority = says m (Refused refusal.NoMajority)
 
 abbrev pub beat_by : ℕ → Memory → List beat_answers.Answered → beat.Status → Memory
-beat_by h m heard (beat.Due disk) = with_beats m (record { readings = m.beats.readings; heard = Some heard }) None
+beat_by h m heard (beat.Due disk) = does m (Beats heard)
 beat_by h m heard (beat.Ended end) = beat_ended h m end
 
 -- the beat under way hears one more answer
-abbrev pub hears_beat : Shape → ℕ → Memory → Option (List beat_answers.Answered) → beat_answers.Answered → Memory
-hears_beat c h m None x = m
-hears_beat c h m (Some heard) x = beat_by h m (heard ++ x ∷ []) (beat.status (beat_of c h) (beat_answers.on (heard ++ x ∷ [])))
+abbrev pub hears_beat : Shape → ℕ → Memory → List beat_answers.Answered → beat_answers.Answered → Memory
+hears_beat c h m heard x = beat_by h m (heard ++ x ∷ []) (beat.status (beat_of c h) (beat_answers.on (heard ++ x ∷ [])))
 
 -- A MARKING
 
@@ -198,118 +227,56 @@ spelled (Some command) = spelling command
 abbrev pub marking_of : Shape → ℕ → Memory → ℕ → mark.Setup
 marking_of c h m slot = record { host = h; slot = slot; disks = c.disks; value = spelled (slice_get m.learned slot) }
 
--- its marking has come to this, and it says that; what it has learned stays
-abbrev pub with_marking : Memory → Option Marking → Option HostAnswer → Memory
-with_marking m marking said = record { learned = m.learned; floor = m.floor; doing = None; said = said; beats = m.beats; marking = marking; looking = m.looking }
-
 -- a marking begins, where the slot is learned
 abbrev pub starts_marking : Memory → ℕ → Memory
 starts_marking m slot =
-    if nat_lt slot (length m.learned) then with_marking m (Some (record { slot = slot; heard = [] })) None else with_marking m m.marking (Some (Refused refusal.NotLearned))
+    if nat_lt slot (length m.learned) then does m (Marks (record { slot = slot; heard = [] })) else says m (Refused refusal.NotLearned)
 
 abbrev pub marking_ended : Memory → mark.End → Memory
-marking_ended m (mark.Marked count) = with_marking m None (Some (Marked count))
-marking_ended m mark.NoMajority = with_marking m None (Some (Refused refusal.NoMajority))
+marking_ended m (mark.Marked count) = says m (Marked count)
+marking_ended m mark.NoMajority = says m (Refused refusal.NoMajority)
 
 abbrev pub marking_by : Memory → Marking → mark.Status → Memory
-marking_by m t (mark.Due disk) = with_marking m (Some t) None
+marking_by m t (mark.Due disk) = does m (Marks t)
 marking_by m t (mark.Ended end) = marking_ended m end
 
 abbrev pub marking_with : Marking → Answered → Marking
 marking_with t x = record { slot = t.slot; heard = t.heard ++ x ∷ [] }
 
 -- the marking under way hears one more answer
-abbrev pub hears_marking : Shape → ℕ → Memory → Option Marking → Answered → Memory
-hears_marking c h m None x = m
-hears_marking c h m (Some t) x = marking_by m (marking_with t x) (mark.status (marking_of c h m t.slot) (on (marking_with t x).heard))
+abbrev pub hears_marking : Shape → ℕ → Memory → Marking → Answered → Memory
+hears_marking c h m t x = marking_by m (marking_with t x) (mark.status (marking_of c h m t.slot) (on (marking_with t x).heard))
 
--- A LOOK
+-- WHAT BEGINS, AND WHAT HEARS
 
--- a host looks at the next slot, and asks this disk first
-abbrev pub look_of : Shape → Memory → ℕ → look.Setup
-look_of c m first = record { slot = length m.learned; disks = c.disks; first = first }
+-- an idle host begins a task; a look asks disk 0 first
+abbrev pub starts : Shape → Memory → Task → Memory
+starts c m (Submit command tries) = goes_on c m (Submitting command) tries
+starts c m (Recover tries) = goes_on c m Recovering tries
+starts c m Look = looks_on c m 0
+starts c m Beat = does m (Beats [])
+starts c m (Mark slot) = starts_marking m slot
 
--- its look has come to this, and it says that; what it has learned stays
-abbrev pub with_looking : Memory → Option Looking → Option HostAnswer → Memory
-with_looking m looking said = record { learned = m.learned; floor = m.floor; doing = None; said = said; beats = m.beats; marking = m.marking; looking = looking }
-
--- the next slot is looked at, where there is one
-abbrev pub looks_on : Shape → Memory → ℕ → Memory
-looks_on c m first =
-    if nat_lt (length m.learned) c.slots then with_looking m (Some (record { first = first; heard = [] })) None else with_looking m None (Some (Looked (length m.learned)))
-
--- a look begins
-abbrev pub starts_look : Shape → Memory → Memory
-starts_look c m = looks_on c m 0
-
--- a mark on a disk told the next command, and the look goes on there; a value that is no command is not learned
-abbrev pub takes_marked : Shape → Memory → ℕ → Option Command → Memory
-takes_marked c m disk None = with_looking m None (Some (Refused refusal.NotACommand))
-takes_marked c m disk (Some command) = looks_on c (learns m command) disk
-
-abbrev pub look_ended : Shape → Memory → look.End → Memory
-look_ended c m (look.Decided disk value) = takes_marked c m disk (decoded value)
-look_ended c m look.Unmarked = with_looking m None (Some (Looked (length m.learned)))
-look_ended c m look.NoMajority = with_looking m None (Some (Refused refusal.NoMajority))
-
-abbrev pub look_by : Shape → Memory → Looking → look.Status → Memory
-look_by c m t (look.Due disk) = with_looking m (Some t) None
-look_by c m t (look.Ended end) = look_ended c m end
-
-abbrev pub looking_with : Looking → Answered → Looking
-looking_with t x = record { first = t.first; heard = t.heard ++ x ∷ [] }
-
--- the look under way hears one more answer
-abbrev pub hears_look : Shape → Memory → Option Looking → Answered → Memory
-hears_look c m None x = m
-hears_look c m (Some t) x = look_by c m (looking_with t x) (look.status (look_of c m t.first) (on (looking_with t x).heard))
-
--- A DISK ANSWERS
-
--- where no beat is under way either the marking hears it, or else the look
-abbrev pub hears_apart : Shape → ℕ → Memory → Option Marking → Answered → Memory
-hears_apart c h m None x = hears_look c m m.looking x
-hears_apart c h m (Some t) x = hears_marking c h m (Some t) x
-
--- where no attempt is under way the beat hears it, or else the marking or the look
-abbrev pub hears_beside : Shape → ℕ → Memory → Option (List beat_answers.Answered) → ℕ → device.Answer → Memory
-hears_beside c h m None d answer = hears_apart c h m m.marking (record { disk = d; heard = heard_as answer })
-hears_beside c h m (Some heard) d answer = hears_beat c h m (Some heard) (record { disk = d; heard = beat_answers.heard_as answer })
-
--- the attempt under way hears it, or else the beat, the marking or the look
+-- what is under way hears an answer of a disk
 abbrev pub hears_from : Shape → ℕ → Memory → Option Doing → ℕ → device.Answer → Memory
-hears_from c h m None d answer = hears_beside c h m m.beats.heard d answer
-hears_from c h m (Some t) d answer = hears c h m (Some t) (record { disk = d; heard = heard_as answer })
+hears_from c h m None d answer = m
+hears_from c h m (Some (Attempts t)) d answer = hears c h m t (record { disk = d; heard = heard_as answer })
+hears_from c h m (Some (Looks t)) d answer = hears_look c m t (record { disk = d; heard = heard_as answer })
+hears_from c h m (Some (Beats heard)) d answer = hears_beat c h m heard (record { disk = d; heard = beat_answers.heard_as answer })
+hears_from c h m (Some (Marks t)) d answer = hears_marking c h m t (record { disk = d; heard = heard_as answer })
 
 -- WHAT A HOST DOES NEXT
 
-abbrev pub rests : Option (List beat_answers.Answered) → Bool
-rests None = true
-rests (Some heard) = false
-
--- no attempt, no beat, no marking and no look is under way
-abbrev pub is_idle_in : Memory → Option Doing → Bool
-is_idle_in m None = rests m.beats.heard && not (is_some m.marking) && not (is_some m.looking)
-is_idle_in m (Some t) = false
-
+-- nothing is under way
 abbrev pub is_idle : Memory → Bool
-is_idle m = is_idle_in m m.doing
-
-abbrev pub next_look : Shape → Memory → Option Looking → Option (ℕ × device.Call)
-next_look c m None = None
-next_look c m (Some t) = look.next_call (look_of c m t.first) (on t.heard)
-
-abbrev pub next_marking : Shape → ℕ → Memory → Option Marking → Option (ℕ × device.Call)
-next_marking c h m None = next_look c m m.looking
-next_marking c h m (Some t) = mark.next_call (marking_of c h m t.slot) (on t.heard)
-
-abbrev pub next_beside : Shape → ℕ → Memory → Option (List beat_answers.Answered) → Option (ℕ × device.Call)
-next_beside c h m None = next_marking c h m m.marking
-next_beside c h m (Some heard) = beat.next_call (beat_of c h) (beat_answers.on heard)
+is_idle m = is_none m.doing
 
 abbrev pub next_doing : Shape → ℕ → Memory → Option Doing → Option (ℕ × device.Call)
-next_doing c h m None = next_beside c h m m.beats.heard
-next_doing c h m (Some t) = next_call (setup_of c h m t.operation) (on t.heard)
+next_doing c h m None = None
+next_doing c h m (Some (Attempts t)) = next_call (setup_of c h m t.operation) (on t.heard)
+next_doing c h m (Some (Looks t)) = look.next_call (look_of c m t.first) (on t.heard)
+next_doing c h m (Some (Beats heard)) = beat.next_call (beat_of c h) (beat_answers.on heard)
+next_doing c h m (Some (Marks t)) = mark.next_call (marking_of c h m t.slot) (on t.heard)
 
 -- the disk and the device call that are due
 abbrev pub next_in : Shape → ℕ → Memory → Option (ℕ × device.Call)

@@ -1,4 +1,4 @@
-ghost use Rattle.std.specs.Prelude.{◌≡◌, ◌≤◌, ◌<◌, ◌++◌, ◌∷◌, [], ℕ, true, false, length, is_none, IfOk, Option, Some, None, is_some, take, vec_len, vec_capacity};
+ghost use Rattle.std.specs.Prelude.{◌≡◌, ◌≤◌, ◌<◌, ◌++◌, ◌∷◌, [], ℕ, true, false, length, is_none, IfOk, Option, None, is_some, take, vec_len, vec_capacity};
 ghost use Rattle.std.specs.Option.{option_map};
 ghost use Rattle.paxos_block.specs.Places.{image_length};
 ghost use Rattle.attempt.specs.History.{Fits};
@@ -11,12 +11,16 @@ ghost use Rattle.slot_log.specs.Kept as learners;
 ghost use Rattle.slot_log.specs.Kept.{offered_of};
 ghost use Rattle.slot_log.specs.Learning as log;
 ghost use Rattle.slot_log.specs.Shape.{Shape};
-ghost use Rattle.host.specs.Alone.{IsAnsweredAlone, IsWithinNine, IsMarkedWithinNine, IsLookedWithinTwo};
+ghost use Rattle.host.specs.Alone.{IsAnsweredAlone, HasHeardFew};
 ghost use Rattle.beats.specs.Calls.{device_answer};
-ghost use Rattle.host.specs.Host.{Memory, Submitting, Recovering, fresh, goes_on, hears, hears_from, looks_on, starts_beat, starts_look, starts_marking, suggested, takes_marked, is_idle_in, next_in, reply_after};
-ghost use Rattle.host.specs.Kept.{Kept, LeadsTo, AcknowledgesNone, answer_of, is_idle, due_call, option_list};
+ghost use Rattle.host.specs.Host as hosts;
+ghost use Rattle.host.specs.Host.{Memory, Submitting, Recovering, fresh, goes_on, hears_from, looks_on, does, Beats, starts, starts_marking, suggested, takes_marked, next_in, reply_after};
+ghost use Rattle.host.specs.Kept.{Kept, LeadsTo, AcknowledgesNone, MayBegin, answer_of, is_idle, is_nothing, is_looking, is_beating, is_marking, due_call, option_list};
+ghost use Rattle.host.specs.declared.beside.Beside.TheVariants as beside;
 
 use crate::answer::HostAnswer;
+use crate::beside::Beside;
+use crate::task::Task;
 use beats::{Beat, End, Readings};
 use disk::NoMemory;
 use heartbeat::suggest;
@@ -31,7 +35,7 @@ use std::alloc::Global;
 use std::marker::Model;
 use torn_block::ClusterLayout;
 
-/// A running host: what it has learned since its start, and the operation that it carries out, one device call at a time.
+/// A running host: what it has learned since its start, and the task that it carries out, one device call at a time.
 ///
 /// No call but `start` takes memory.
 #[derive(Drop)]
@@ -42,12 +46,9 @@ pub struct HostCore {
     prefix: Vec<Command>,
     table: Table,
     said: Option<HostAnswer>,
-    beat: Option<Beat>,
+    beside: Beside,
     /// The readings of the last beat that ended well.
     readings: Option<Readings>,
-    marking: Option<Marking>,
-    /// The look under way, at the next slot.
-    look: Option<Look>,
 }
 
 impl Model for HostCore {
@@ -57,11 +58,11 @@ impl Model for HostCore {
     ghost use Rattle.lock_table.specs.Apply.{table_after};
     ghost use Rattle.lock_table.specs.Picture.{IsPictureOf};
     ghost use Rattle.slot_log.specs.Kept.{offered_of};
-    ghost use Rattle.host.specs.Kept.{Kept, IsOneAtATime, IsAloneToo, IsAlone};
+    ghost use Rattle.host.specs.Kept.{Kept, IsAlone};
 
     ghost Value = { Kept };
 
-    ghost view = { λ core. record { learner = core.learner; prefix = core.prefix.items; said = core.said; beat = core.beat; readings = core.readings; marking = core.marking; look = core.look } };
+    ghost view = { λ core. record { learner = core.learner; prefix = core.prefix.items; said = core.said; beside = core.beside; readings = core.readings } };
 
     ghost invariant = { λ core. record {
       host : core.learner.host ≡ core.host;
@@ -71,9 +72,7 @@ impl Model for HostCore {
       prefix : core.learner.learned ≡ map spelling core.prefix.items;
       room : core.learner.shape.slots ≤ vec_capacity core.prefix;
       table : IsPictureOf core.table (table_after core.prefix.items);
-      beat : IsOneAtATime core.learner core.beat;
-      marking : IsAloneToo core.learner core.beat core.marking;
-      look : IsAlone core.learner core.beat core.marking core.look;
+      alone : IsAlone core.learner core.beside;
     } };
 }
 
@@ -95,20 +94,18 @@ impl HostCore {
             prefix,
             table,
             said: None,
-            beat: None,
+            beside: Beside::Nothing,
             readings: None,
-            marking: None,
-            look: None,
         })
     }
 
-    /// Whether an operation may begin.
+    /// Whether a task may begin.
     pub fn idle(&self) -> bool
         ensures known { (c : Shape) (h : ℕ) (m : Memory) → LeadsTo c h m self.now →
-            result ≡ is_idle_in m m.doing }
+            result ≡ hosts.is_idle m }
         ensures idle { result ≡ is_idle self.now }
     {
-        self.learner.idle() && self.beat.is_none() && self.marking.is_none() && self.look.is_none()
+        self.learner.idle() && self.beside.is_nothing()
     }
 
     /// The host's number.
@@ -136,7 +133,7 @@ impl HostCore {
         &self.table
     }
 
-    /// What the last entry made the host say: how an operation ended, where one ended with it.
+    /// What the last entry made the host say: how a task ended, where one ended with it.
     pub fn answer(&self) -> Option<HostAnswer>
         // The reply of an acknowledgement is the table's reply at that slot, by `reply_after`.
         ensures known { (c : Shape) (h : ℕ) (m : Memory) → LeadsTo c h m self.now →
@@ -154,7 +151,23 @@ impl HostCore {
         self.said.is_none()
     }
 
-    /// Begins to put a command into the log. Up to `tries` attempts may be outrun, the last of which ends the operation.
+    /// Begins a task.
+    pub fn begin(&mut self, task: Task)
+        requires idle { is_idle self.old ≡ true }
+        requires may { MayBegin self.old task }
+        ensures { (c : Shape) (h : ℕ) (m : Memory) → LeadsTo c h m self.old →
+            LeadsTo c h (starts c m task) self.new }
+    {
+        match task {
+            Task::Submit { command, tries } => self.submit(command, tries),
+            Task::Recover { tries } => self.recover(tries),
+            Task::Look => self.look(),
+            Task::Beat => self.beat(),
+            Task::Mark { slot } => self.mark(slot),
+        }
+    }
+
+    /// Begins a `Task::Submit`.
     pub fn submit(&mut self, command: Command, tries: u8)
         requires idle { is_idle self.old ≡ true }
         requires host { command.host ≡ self.old.learner.host }
@@ -166,7 +179,7 @@ impl HostCore {
         self.said = HostAnswer::of(self.learner.said(), None);
     }
 
-    /// Begins to learn all that is in the log. Up to `tries` attempts may be outrun, the last of which ends the operation.
+    /// Begins a `Task::Recover`.
     pub fn recover(&mut self, tries: u8)
         requires idle { is_idle self.old ≡ true }
         requires tries { 1 ≤ tries }
@@ -177,31 +190,28 @@ impl HostCore {
         self.said = HostAnswer::of(self.learner.said(), None);
     }
 
-    /// Begins to learn the commands that marks tell, slot by slot, up to the first slot of which none does. Each slot's row is read first on
-    /// the disk that told the last command, and the first slot's on disk 0. A look syncs and writes nothing, and outruns nobody;
-    /// but what was acknowledged and not marked is not found.
+    /// Begins a `Task::Look`.
     pub fn look(&mut self)
         requires idle { is_idle self.old ≡ true }
         ensures { (c : Shape) (h : ℕ) (m : Memory) → LeadsTo c h m self.old →
-            LeadsTo c h (starts_look c m) self.new }
+            LeadsTo c h (looks_on c m 0) self.new }
     {
         let disks = self.config.disks();
         prove!(0 < disks);
         self.look_on(0);
     }
 
-    /// Begins a beat: this host's heartbeat blocks get their next sequence numbers, and the counters of all hosts are read.
+    /// Begins a `Task::Beat`.
     pub fn beat(&mut self)
         requires idle { is_idle self.old ≡ true }
         ensures { (c : Shape) (h : ℕ) (m : Memory) → LeadsTo c h m self.old →
-            LeadsTo c h (starts_beat m) self.new }
+            LeadsTo c h (does m (Beats [])) self.new }
     {
-        self.beat = Some(Beat::new(self.host.get(), self.config.disks()));
+        self.beside = Beside::Beat(Beat::new(self.host.get(), self.config.disks()));
         self.said = None;
     }
 
-    /// Begins to mark a slot: on each disk this host's block of the slot, where it holds what was learned, is written anew
-    /// with a mark, by which others learn it in one reading. A slot that is not learned is refused at once.
+    /// Begins a `Task::Mark`.
     pub fn mark(&mut self, slot: u16)
         requires idle { is_idle self.old ≡ true }
         ensures { (c : Shape) (h : ℕ) (m : Memory) → LeadsTo c h m self.old →
@@ -211,7 +221,7 @@ impl HostCore {
             Some(value) => {
                 let value = *value;
                 let disks = self.config.disks();
-                self.marking = Some(Marking::new(self.host.get(), slot, disks, value));
+                self.beside = Beside::Mark(Marking::new(self.host.get(), slot, disks, value));
                 self.said = None;
             }
             None => self.said = Some(HostAnswer::Refused(Refusal::NotLearned)),
@@ -229,15 +239,11 @@ impl HostCore {
         ensures range { IsWithin (image_length self.now.learner.shape.slots) result.call }
         ensures disk { result.disk < self.now.learner.shape.disks }
     {
-        if let Some(beat) = &self.beat {
-            return beat.call();
-        }
-        if let Some(marking) = &self.marking {
-            return marking.call();
-        }
-        match &self.look {
-            Some(look) => look.call(),
-            None => self.learner.call(),
+        match &self.beside {
+            Beside::Nothing => self.learner.call(),
+            Beside::Look(look) => look.call(),
+            Beside::Beat(beat) => beat.call(),
+            Beside::Mark(marking) => marking.call(),
         }
     }
 
@@ -253,44 +259,32 @@ impl HostCore {
         // makes a call on the slot meanwhile.
         ensures alone { (c : Shape) (h : ℕ) (m : Memory) → LeadsTo c h m self.old →
             IsAnsweredAlone c h m m.doing (record { disk = (due_call self.old).0; heard = heard_of heard.now }) }
-        // With this answer a beat has heard at most nine answers a disk. A beat acknowledges no command.
-        ensures nine { (c : Shape) (h : ℕ) (m : Memory) → LeadsTo c h m self.old →
-            IsWithinNine c m.beats.heard }
-        ensures silent { is_some self.old.beat ≡ true → AcknowledgesNone self.new.said }
-        // The same holds of a marking: at most nine answers a disk, and no command acknowledged.
-        ensures marked_nine { (c : Shape) (h : ℕ) (m : Memory) → LeadsTo c h m self.old →
-            IsMarkedWithinNine c m.marking }
-        ensures marks_silently { is_some self.old.marking ≡ true → AcknowledgesNone self.new.said }
-        // A look has heard at most two answers a disk of the slot that it is at, and it too acknowledges no command.
-        ensures looked_two { (c : Shape) (h : ℕ) (m : Memory) → LeadsTo c h m self.old →
-            IsLookedWithinTwo c m.looking }
-        ensures looks_silently { is_some self.old.look ≡ true → AcknowledgesNone self.new.said }
+        // With this answer a look has heard at most two answers a disk of the slot that it is at, and a beat or a marking at most nine.
+        ensures few { (c : Shape) (h : ℕ) (m : Memory) → LeadsTo c h m self.old →
+            HasHeardFew c m.doing }
+        // None of these acknowledges a command.
+        ensures silent { is_nothing self.old.beside ≡ false → AcknowledgesNone self.new.said }
     {
-        if self.beat.is_some() {
-            self.hear_beat(heard);
-        } else if self.marking.is_some() {
-            self.hear_marking(heard);
-        } else if self.look.is_some() {
-            self.hear_look(heard);
-        } else {
-            self.hear_attempt(heard);
+        match &self.beside {
+            Beside::Nothing => self.hear_attempt(heard),
+            Beside::Look(_) => self.hear_look(heard),
+            Beside::Beat(_) => self.hear_beat(heard),
+            Beside::Mark(_) => self.hear_marking(heard),
         }
     }
 
     // The attempt under way hears the answer.
     #[inline(always)]
     fn hear_attempt(&mut self, heard: &Heard<'_>)
-        requires resting { self.old.beat ≡ None }
-        requires unmarking { self.old.marking ≡ None }
-        requires unlooking { self.old.look ≡ None }
+        requires alone { self.old.beside ≡ beside.Nothing }
         requires busy { is_idle self.old ≡ false }
         requires fits { Fits (due_call self.old).1 (heard_of heard.now) }
         ensures leads { (c : Shape) (h : ℕ) (m : Memory) → LeadsTo c h m self.old →
-            LeadsTo c h (hears c h m m.doing (record { disk = (due_call self.old).0; heard = heard_of heard.now })) self.new }
+            LeadsTo c h (hears_from c h m m.doing (due_call self.old).0 (device_answer heard.now)) self.new }
         ensures alone { (c : Shape) (h : ℕ) (m : Memory) → LeadsTo c h m self.old →
             IsAnsweredAlone c h m m.doing (record { disk = (due_call self.old).0; heard = heard_of heard.now }) }
-        // An operation of the log is under way, not a beat.
-        ensures tries { (c : Shape) (h : ℕ) (m : Memory) → LeadsTo c h m self.old → is_some m.doing ≡ true }
+        ensures few { (c : Shape) (h : ℕ) (m : Memory) → LeadsTo c h m self.old →
+            HasHeardFew c m.doing }
     {
         self.learner.hear(heard);
         let Some(value) = self.learner.offered() else {
@@ -301,20 +295,55 @@ impl HostCore {
         self.said = HostAnswer::of(self.learner.said(), reply);
     }
 
-    // The beat under way hears the answer.
+    // The look under way hears the answer.
     #[inline(never)]
-    fn hear_beat(&mut self, heard: &Heard<'_>)
-        requires beats { is_some self.old.beat ≡ true }
+    fn hear_look(&mut self, heard: &Heard<'_>)
+        requires looks { is_looking self.old.beside ≡ true }
         requires fits { Fits (due_call self.old).1 (heard_of heard.now) }
         ensures leads { (c : Shape) (h : ℕ) (m : Memory) → LeadsTo c h m self.old →
             LeadsTo c h (hears_from c h m m.doing (due_call self.old).0 (device_answer heard.now)) self.new }
-        ensures nine { (c : Shape) (h : ℕ) (m : Memory) → LeadsTo c h m self.old →
-            IsWithinNine c m.beats.heard }
+        ensures alone { (c : Shape) (h : ℕ) (m : Memory) → LeadsTo c h m self.old →
+            IsAnsweredAlone c h m m.doing (record { disk = (due_call self.old).0; heard = heard_of heard.now }) }
+        ensures few { (c : Shape) (h : ℕ) (m : Memory) → LeadsTo c h m self.old →
+            HasHeardFew c m.doing }
         ensures silent { AcknowledgesNone self.new.said }
-        // No attempt is under way.
-        ensures rests { (c : Shape) (h : ℕ) (m : Memory) → LeadsTo c h m self.old → m.doing ≡ None }
     {
-        let Some(beat) = &mut self.beat else {
+        let Beside::Look(look) = &mut self.beside else {
+            return;
+        };
+        look.hear(heard);
+        let Some(end) = look.end() else {
+            self.said = None;
+            return;
+        };
+        self.beside = Beside::Nothing;
+        match end {
+            looks::End::Decided { disk, value } => self.learn_marked(disk, &value),
+            looks::End::Unmarked => {
+                let length = self.learner.learned().len() as u16;
+                self.said = Some(HostAnswer::Looked { length });
+            }
+            looks::End::NoMajority => {
+                let refusal = Refusal::NoMajority;
+                self.said = Some(HostAnswer::Refused(refusal));
+            }
+        }
+    }
+
+    // The beat under way hears the answer.
+    #[inline(never)]
+    fn hear_beat(&mut self, heard: &Heard<'_>)
+        requires beats { is_beating self.old.beside ≡ true }
+        requires fits { Fits (due_call self.old).1 (heard_of heard.now) }
+        ensures leads { (c : Shape) (h : ℕ) (m : Memory) → LeadsTo c h m self.old →
+            LeadsTo c h (hears_from c h m m.doing (due_call self.old).0 (device_answer heard.now)) self.new }
+        ensures alone { (c : Shape) (h : ℕ) (m : Memory) → LeadsTo c h m self.old →
+            IsAnsweredAlone c h m m.doing (record { disk = (due_call self.old).0; heard = heard_of heard.now }) }
+        ensures few { (c : Shape) (h : ℕ) (m : Memory) → LeadsTo c h m self.old →
+            HasHeardFew c m.doing }
+        ensures silent { AcknowledgesNone self.new.said }
+    {
+        let Beside::Beat(beat) = &mut self.beside else {
             return;
         };
         beat.hear(heard);
@@ -322,11 +351,11 @@ impl HostCore {
             None => self.said = None,
             Some(End::NoMajority) => {
                 self.said = Some(HostAnswer::Refused(Refusal::NoMajority));
-                self.beat = None;
+                self.beside = Beside::Nothing;
             }
             Some(End::Beaten) => {
                 let after = beat.readings();
-                self.beat = None;
+                self.beside = Beside::Nothing;
                 let host = self.suggested(&after);
                 self.readings = Some(after);
                 self.said = Some(HostAnswer::Beaten { host });
@@ -337,18 +366,17 @@ impl HostCore {
     // The marking under way hears the answer.
     #[inline(never)]
     fn hear_marking(&mut self, heard: &Heard<'_>)
-        requires resting { self.old.beat ≡ None }
-        requires marks { is_some self.old.marking ≡ true }
+        requires marks { is_marking self.old.beside ≡ true }
         requires fits { Fits (due_call self.old).1 (heard_of heard.now) }
         ensures leads { (c : Shape) (h : ℕ) (m : Memory) → LeadsTo c h m self.old →
             LeadsTo c h (hears_from c h m m.doing (due_call self.old).0 (device_answer heard.now)) self.new }
-        ensures nine { (c : Shape) (h : ℕ) (m : Memory) → LeadsTo c h m self.old →
-            IsMarkedWithinNine c m.marking }
+        ensures alone { (c : Shape) (h : ℕ) (m : Memory) → LeadsTo c h m self.old →
+            IsAnsweredAlone c h m m.doing (record { disk = (due_call self.old).0; heard = heard_of heard.now }) }
+        ensures few { (c : Shape) (h : ℕ) (m : Memory) → LeadsTo c h m self.old →
+            HasHeardFew c m.doing }
         ensures silent { AcknowledgesNone self.new.said }
-        // No attempt is under way.
-        ensures rests { (c : Shape) (h : ℕ) (m : Memory) → LeadsTo c h m self.old → m.doing ≡ None }
     {
-        let Some(marking) = &mut self.marking else {
+        let Beside::Mark(marking) = &mut self.beside else {
             return;
         };
         marking.hear(heard);
@@ -357,48 +385,11 @@ impl HostCore {
             Some(marks::End::NoMajority) => {
                 let refusal = Refusal::NoMajority;
                 self.said = Some(HostAnswer::Refused(refusal));
-                self.marking = None;
+                self.beside = Beside::Nothing;
             }
             Some(marks::End::Marked { count }) => {
                 self.said = Some(HostAnswer::Marked { count });
-                self.marking = None;
-            }
-        }
-    }
-
-    // The look under way hears the answer.
-    #[inline(never)]
-    fn hear_look(&mut self, heard: &Heard<'_>)
-        requires resting { self.old.beat ≡ None }
-        requires unmarking { self.old.marking ≡ None }
-        requires looks { is_some self.old.look ≡ true }
-        requires fits { Fits (due_call self.old).1 (heard_of heard.now) }
-        ensures leads { (c : Shape) (h : ℕ) (m : Memory) → LeadsTo c h m self.old →
-            LeadsTo c h (hears_from c h m m.doing (due_call self.old).0 (device_answer heard.now)) self.new }
-        ensures two { (c : Shape) (h : ℕ) (m : Memory) → LeadsTo c h m self.old →
-            IsLookedWithinTwo c m.looking }
-        ensures silent { AcknowledgesNone self.new.said }
-        // No attempt is under way.
-        ensures rests { (c : Shape) (h : ℕ) (m : Memory) → LeadsTo c h m self.old → m.doing ≡ None }
-    {
-        let Some(look) = &mut self.look else {
-            return;
-        };
-        look.hear(heard);
-        let Some(end) = look.end() else {
-            self.said = None;
-            return;
-        };
-        self.look = None;
-        match end {
-            looks::End::Decided { disk, value } => self.learn_marked(disk, &value),
-            looks::End::Unmarked => {
-                let length = self.learner.learned().len() as u16;
-                self.said = Some(HostAnswer::Looked { length });
-            }
-            looks::End::NoMajority => {
-                let refusal = Refusal::NoMajority;
-                self.said = Some(HostAnswer::Refused(refusal));
+                self.beside = Beside::Nothing;
             }
         }
     }
@@ -431,7 +422,7 @@ impl HostCore {
     {
         let slot = self.learner.learned().len() as u16;
         if slot < self.config.slots() {
-            self.look = Some(Look::new(slot, self.config.disks(), first));
+            self.beside = Beside::Look(Look::new(slot, self.config.disks(), first));
             self.said = None;
         } else {
             self.said = Some(HostAnswer::Looked { length: slot });

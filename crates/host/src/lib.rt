@@ -1,9 +1,12 @@
-//! One host: the log that it learns, the lock table after it, and the operation that it carries out.
+//! One host: the log that it learns, the lock table after it, and the task that it carries out.
 #![tactic(auto)]
 
 mod answer;
+mod beside;
 mod host_core;
+mod task;
 
 pub use answer::HostAnswer;
 pub use host_core::HostCore;
 pub use slot_log::{Config, Refusal};
+pub use task::Task;

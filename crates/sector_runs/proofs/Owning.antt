@@ -23,8 +23,8 @@ use Rattle.beats.specs.Status as beat
 use Rattle.marks.specs.Status as mark
 use Rattle.looks.specs.Status as look
 use Rattle.slot_log.specs.Shape.{Shape}
-use Rattle.host.specs.Host.{Doing, Marking, Looking, Memory, Host, Stopped, Running, setup_of, beat_of, marking_of, look_of, next_of, next_doing, next_beside, next_marking, next_look}
-use Rattle.world.specs.Entry.{Filled, Start, Stop, Submit, Recover, Look, Beat, Mark, Called, Torn, Crashed, Lost, Migrated, is_on, is_of, on_disk, of_host, host_step}
+use Rattle.host.specs.Host.{Doing, Attempts, Looks, Beats, Marks, Memory, Host, Stopped, Running, setup_of, beat_of, marking_of, look_of, next_of, next_doing}
+use Rattle.world.specs.Entry.{Filled, Start, Stop, Begin, Called, Torn, is_on, is_of, on_disk, of_host, host_step}
 use Rattle.at_once.specs.AtOnce.{MayDo, Does}
 use Rattle.world_safety.specs.Cluster.{at_cluster}
 use Rattle.sector_runs.specs.Owning.{host_of, IsOwn, IsOwnEntry, AllOwn, HostsWriteTheirOwn}
@@ -109,24 +109,12 @@ module _ (h : ℕ) (below : h < HOSTS) (k : ℕ) (call : Call) where
   look_in s f (look.Due d) due = same_call h d k (look.call_on s (f d)) call due (look_kind s (f d) (nat_lt (length (f d)) 1))
   look_in s f (look.Ended end) due = absurd (cc)
 
-  module _ (c : Shape) (m : Memory) where
-    look_own : (o : Option Looking) → next_look c m o ≡ Some (k, call) → IsOwn h call
-    look_own None due = absurd (cc)
-    look_own (Some t) due = look_in (look_of c m t.first) (on t.heard) (look.status (look_of c m t.first) (on t.heard)) due
-
-    mark_own : (o : Option Marking) → next_marking c h m o ≡ Some (k, call) → IsOwn h call
-    mark_own None due = look_own m.looking due
-    mark_own (Some t) due = mark_in (marking_of c h m t.slot) (on t.heard) (mark.status (marking_of c h m t.slot) (on t.heard)) refl due
-
-    beat_own : (o : Option (List beat_answers.Answered)) → next_beside c h m o ≡ Some (k, call) → IsOwn h call
-    beat_own None due = mark_own m.marking due
-    beat_own (Some heard) due = beat_in (beat_of c h) (beat_answers.on heard) (beat.status (beat_of c h) (beat_answers.on heard)) refl due
-
-    doing_own : (o : Option Doing) → next_doing c h m o ≡ Some (k, call) → IsOwn h call
-    doing_own None due = beat_own m.beats.heard due
-    doing_own (Some t) due =
-        let s = setup_of c h m t.operation in
-        attempt_in s (on t.heard) (status s (on t.heard)) refl due
+  doing_own : (c : Shape) (m : Memory) (o : Option Doing) → next_doing c h m o ≡ Some (k, call) → IsOwn h call
+  doing_own c m None due = absurd (cc)
+  doing_own c m (Some (Attempts t)) due = let s = setup_of c h m t.operation in attempt_in s (on t.heard) (status s (on t.heard)) refl due
+  doing_own c m (Some (Looks t)) due = let s = look_of c m t.first in look_in s (on t.heard) (look.status s (on t.heard)) due
+  doing_own c m (Some (Beats heard)) due = beat_in (beat_of c h) (beat_answers.on heard) (beat.status (beat_of c h) (beat_answers.on heard)) refl due
+  doing_own c m (Some (Marks t)) due = let s = marking_of c h m t.slot in mark_in s (on t.heard) (mark.status s (on t.heard)) refl due
 
   next_own : (c : Shape) (host : Host) → next_of c h host ≡ Some (k, call) → IsOwn h call
   next_own c Stopped due = absurd (cc)
@@ -162,16 +150,10 @@ module _ (c : Shape) (h : ℕ) where
   does_own [] does = tt
   does_own (Start g ∷ es) does = (tt, goes_on_own does.0.0 es (host_step c h Stopped (Start g)) does.1)
   does_own (Stop g ∷ es) does = absurd (let e = does.0 in cc)
-  does_own (Submit g command tries ∷ es) does = absurd (true≢false (sym does.0.0))
-  does_own (Recover g tries ∷ es) does = absurd (true≢false (sym does.0.0))
-  does_own (Look g ∷ es) does = absurd (true≢false (sym does.0))
-  does_own (Beat g ∷ es) does = absurd (true≢false (sym does.0))
-  does_own (Mark g slot ∷ es) does = absurd (true≢false (sym does.0.0))
+  does_own (Begin g task ∷ es) does = absurd (true≢false (sym does.0.0))
   does_own (Called g d call answer left ∷ es) does = absurd (let e = does.0 in cc)
   does_own (Torn g d call left ∷ es) does = absurd (let e = does.0 in cc)
-  does_own (Crashed d left ∷ es) does = absurd (does.0)
-  does_own (Lost d ∷ es) does = absurd (does.0)
-  does_own (Migrated disks commands ∷ es) does = absurd (does.0)
+  does_own (other ∷ es) does = absurd does.0
 
 -- ALL HOSTS
 

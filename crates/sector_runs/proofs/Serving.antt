@@ -7,7 +7,7 @@ use Rattle.disk.specs.declared.fault.DiskFault.TheVariants.{Reset, Failed, Gone}
 use Rattle.disk.specs.Disk.{DiskState, Call, Attach, Read, Write, Sync, Answer, Booted, Told, Done, Fault, IsUnder, Torn, put_at, written, synced, FailureLeaves, Step}
 use Rattle.disk.specs.Disk as disks
 use Rattle.slot_log.specs.Shape.{Shape}
-use Rattle.world.specs.Entry.{Filled, Start, Stop, Submit, Recover, Look, Beat, Mark, Called, Crashed, Lost, Migrated}
+use Rattle.world.specs.Entry.{Filled, Called, Crashed, Lost}
 use Rattle.world.specs.Entry as entry
 use Rattle.world.specs.World.{Tears}
 use Rattle.sectors.specs.declared.geometry.Geometry.{Geometry}

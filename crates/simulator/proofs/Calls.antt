@@ -1,5 +1,5 @@
 -- Device calls of hosts, and what events make of them.
-use Rattle.std.specs.Prelude.{not, nat_lt, ◌^◌, is_some, option_map, option_and_then}
+use Rattle.std.specs.Prelude.{not, nat_lt, ◌^◌, is_none, option_map, option_and_then}
 use Rattle.std.proofs.Common.{ℕ, ◌<◌, ◌≤◌, ◌≡◌, ◌&&◌, Bool, true, false, Option, Some, None, List, [], length, get_or, refl, sym, ap, ◌∙◌, subst, arith}
 use Rattle.std.proofs.Math.ListN.{set}
 use Rattle.std.proofs.lemmas.Bool.{ltb-true, lt-ltb}
@@ -11,8 +11,7 @@ use Rattle.disk.specs.Simulated.{SimState, refusal_of, crashed}
 use Rattle.paxos_block.specs.Places.{image_length}
 use Rattle.torn_block.specs.declared.layout.TheConstants.{HOSTS}
 use Rattle.slot_log.specs.Shape.{Shape}
-use Rattle.beats.specs.Answers.{Answered}
-use Rattle.host.specs.Host.{Host, Running, Memory, Marking, Looking, hears_from, Doing, is_idle_in, rests, next_in, next_of, next_doing, next_beside, next_look, next_marking}
+use Rattle.host.specs.Host.{Host, Running, Memory, hears_from, Doing, next_in, next_of, next_doing}
 use Rattle.host.specs.Kept as hosts
 use Rattle.host.proofs.Hosts.{idle_is}
 use Rattle.world.specs.Entry.{Filled, Called, Torn, Crashed, Lost, disk_step, host_step, called_by}
@@ -30,20 +29,8 @@ some_given given some = lt-ltb 0 (length given) some
 
 module _ (log : List Filled) (old : Kept) (leads : LeadsTo log old) where
   -- an idle host has no call
-  no_look : (c : Shape) (m : Memory) (o : Option Looking) → not (is_some o) ≡ true → next_look c m o ≡ None
-  no_look c m None is = refl
-  no_look c m (Some t) is = absurd (cc)
-
-  no_marking : (c : Shape) (h : ℕ) (m : Memory) (o : Option Marking) → (not (is_some o) && not (is_some m.looking)) ≡ true → next_marking c h m o ≡ None
-  no_marking c h m None is = no_look c m m.looking is
-  no_marking c h m (Some t) is = absurd (cc)
-
-  no_beside : (c : Shape) (h : ℕ) (m : Memory) (o : Option (List Answered)) → (rests o && not (is_some m.marking) && not (is_some m.looking)) ≡ true → next_beside c h m o ≡ None
-  no_beside c h m None is = no_marking c h m m.marking is
-  no_beside c h m (Some heard) is = absurd (cc)
-
-  no_doing : (c : Shape) (h : ℕ) (m : Memory) (o : Option Doing) → is_idle_in m o ≡ true → next_doing c h m o ≡ None
-  no_doing c h m None is = no_beside c h m m.beats.heard is
+  no_doing : (c : Shape) (h : ℕ) (m : Memory) (o : Option Doing) → is_none o ≡ true → next_doing c h m o ≡ None
+  no_doing c h m None is = refl
   no_doing c h m (Some t) is = absurd (cc)
 
   not_true : (b : Bool) → not b ≡ false → b ≡ true

@@ -7,7 +7,7 @@ use Rattle.std.proofs.lemmas.List.{take_more, take-take}
 use Rattle.std.proofs.lemmas.Option.{slice_get_within, get_or_from_slice_get}
 use Rattle.slot_log.specs.Shape.{Shape}
 use Rattle.host.specs.Host.{said_of}
-use Rattle.world.specs.Entry.{Filled, Start, Stop, Submit, Recover, Look, Beat, Mark, Called, Torn, Crashed, Lost, Migrated, is_of}
+use Rattle.world.specs.Entry.{Filled, Start, Stop, Begin, Called, Torn, Crashed, Lost, Migrated, is_of}
 use Rattle.world.specs.World.{world}
 use Rattle.world.specs.Happens.{Event, Line, entry_of, with_entry, happens, happen, host_of, lines_at, answers_from}
 use Rattle.world.specs.Chosen.{at, SaysAt}
@@ -140,11 +140,7 @@ told_from c log place (e ∷ es) k x found = elim (get_either (lines_at c log pl
 pub own : (e : Filled) (h : ℕ) → host_of e ≡ Some h → is_of h e ≡ true
 own (Start g) h is = eq-eqb g h (cc)
 own (Stop g) h is = eq-eqb g h (cc)
-own (Submit g command tries) h is = eq-eqb g h (cc)
-own (Recover g tries) h is = eq-eqb g h (cc)
-own (Look g) h is = eq-eqb g h (cc)
-own (Beat g) h is = eq-eqb g h (cc)
-own (Mark g slot) h is = eq-eqb g h (cc)
+own (Begin g task) h is = eq-eqb g h (cc)
 own (Called g k call answer left) h is = eq-eqb g h (cc)
 own (Torn g k call left) h is = eq-eqb g h (cc)
 own (Crashed k left) h is = absurd (cc)

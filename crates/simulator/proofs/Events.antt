@@ -1,23 +1,24 @@
 -- What each event does to a simulated cluster.
 use Rattle.std.specs.Prelude.{not, nat_lt}
-use Rattle.std.specs.Cmp.Derive.{both_true}
-use Rattle.std.proofs.Common.{ℕ, ◌<◌, ◌≡◌, ◌==◌, ◌&&◌, Bool, true, false, Option, Some, None, List, [], ◌∷◌, ◌++◌, get_or, refl, sym, ap, ◌∙◌, subst}
+use Rattle.std.proofs.Common.{ℕ, ◌<◌, ◌≡◌, ◌==◌, ◌&&◌, Bool, true, false, Option, Some, None, List, [], ◌∷◌, ◌++◌, get_or, refl, sym, ap, ◌∙◌, subst, arith}
 use Rattle.std.proofs.Math.ListN.{set}
 use Rattle.std.proofs.lemmas.List.{set-get_or}
 use Rattle.std.proofs.lemmas.Bool.{eq-eqb, lt-ltb}
 use Rattle.torn_block.specs.declared.layout.TheConstants.{HOSTS}
 use Rattle.slot_log.specs.Shape.{Shape}
 use Rattle.lock_command.specs.declared.command.Command.{Command}
-use Rattle.lock_command.specs.Command.{spelling, is_submittable, Fits as FitsCommand}
-use Rattle.lock_command.specs.Reading.{decoded}
-use Rattle.host.specs.Host.{Host, Stopped, Running, Memory, Submitting, Recovering, fresh, goes_on, starts_look, starts_beat, starts_marking, idles, is_stopped}
+use Rattle.lock_command.specs.Command.{is_submittable, Fits as FitsCommand}
+use Rattle.host.specs.declared.task.Task.{Task}
+use Rattle.host.specs.declared.task.Task.TheVariants.{Submit, Recover, Look, Beat, Mark}
+use Rattle.host.specs.Host.{Host, Stopped, Running, Memory, fresh, starts as starts_task, idles, is_stopped}
 use Rattle.host.specs.Kept as hosts
 use Rattle.host.proofs.Hosts.{idle_is}
 use Rattle.world.specs.Entry as entries
-use Rattle.world.specs.Entry.{Filled, Called, Torn, Crashed, Lost, is_on, is_of, disk_step, host_step, started, beats as beats_then, marks as marks_then}
-use Rattle.world.specs.World.{world}
-use Rattle.world.specs.Happens.{Start, Stop, Submit, Recover, Look, Beat, Mark, brings_if, submitted}
+use Rattle.world.specs.Entry.{Filled, host_step, started}
+use Rattle.world.specs.World.{MayBeGiven, world}
+use Rattle.world.specs.Happens.{Start, Stop, Begin, brings_if, submitted, task_entry, entry_of}
 use Rattle.world.proofs.Follow.{command_reads_back}
+use Rattle.world.proofs.Runs.{follows}
 use Rattle.host.specs.declared.answer.HostAnswer.{HostAnswer}
 use Rattle.world.specs.Happens.{lines_after}
 use Rattle.simulator.specs.Events.{lines_of}
@@ -39,6 +40,30 @@ self_eq h = eq-eqb h h refl
 -- an option that is kept of a host, put back, changes nothing
 put_back : (k : Kept) (h : ℕ) (o : Option hosts.Kept) → get_or k.hosts h None ≡ o → (record k { hosts = set k.hosts h o }) ≡ k
 put_back k h o is = ap (λ (hs : List (Option hosts.Kept)). record k { hosts = hs }) (ap (set k.hosts h) (sym is) ∙ set-get_or k.hosts h None)
+
+both : (a b : Bool) (o : Option Filled) → brings_if a (brings_if b o) ≡ brings_if (a && b) o
+both true b o = refl
+both false b o = refl
+
+-- a host may be given a command to submit where there is a try, and the command is its own, and one for which a client may ask
+pub submits_if : (c : Shape) (h : ℕ) (task : Task) (command : Command) (tries : ℕ) (may : Bool) → task ≡ Submit command tries → FitsCommand command
+    → may ≡ (nat_lt 0 tries && (command.host == h && is_submittable command)) → task_entry c h task ≡ brings_if may (Some (entries.Begin h task))
+submits_if c h task command tries may is fits passed =
+    let asked = command.host == h && is_submittable command in
+    let e : Filled = entries.Begin h (Submit command tries) in
+    ap (task_entry c h) is
+    ∙ ap (λ (o : Option Command). brings_if (nat_lt 0 tries) (submitted h tries o)) (command_reads_back command fits)
+    ∙ both (nat_lt 0 tries) asked (Some e)
+    ∙ ap (λ (b : Bool). brings_if b (Some e)) (sym passed)
+    ∙ ap (λ (t : Task). brings_if may (Some (entries.Begin h t))) (sym is)
+
+-- a task that a host may be given may be begun by what is kept of it
+may_of : (c : Shape) (h : ℕ) (task : Task) (core : hosts.Kept) → core.learner.host ≡ h → MayBeGiven c h task → hosts.MayBegin core task
+may_of c h (Submit command tries) core is m = (m.1 ∙ sym is, omega (arith, m.2))
+may_of c h (Recover tries) core is m = omega (arith, m)
+may_of c h Look core is m = tt
+may_of c h Beat core is m = tt
+may_of c h (Mark slot) core is m = tt
 
 module _ (log : List Filled) (old : Kept) (leads : LeadsTo log old) where
   -- what is kept of a host is its host of the world
@@ -86,149 +111,46 @@ module _ (log : List Filled) (old : Kept) (leads : LeadsTo log old) where
       leads.sized
       (λ place. says_nothing_by log old leads e h (self_eq h) refl place)
 
-  -- AN OPERATION BEGINS
+  -- A TASK BEGINS
 
-  -- a host that may begin none has none begun
+  -- a host that may begin none is not idle
   not_idle : (h : ℕ) (o : Option hosts.Kept) → get_or old.hosts h None ≡ o → is_free o ≡ false → idles ((world old.shape log).host h) ≡ false
   not_idle h None is busy = ap idles (stopped_at h is)
   not_idle h (Some core) is busy = let r = running_at h core is in ap idles r.1 ∙ sym (idle_is old.shape h r.0 core r.2) ∙ busy
 
-  pub submits_not : (h : ℕ) (command : Command) (tries : ℕ) (o : Option hosts.Kept) → get_or old.hosts h None ≡ o → is_free o ≡ false
-      → Brings log (Submit h command tries) old old None
-  submits_not h command tries o is busy =
-      nothing log old leads (Submit h command tries)
-      (ap (λ (b : Bool). brings_if (b && nat_lt 0 tries) (submitted h tries (decoded (spelling command)))) (not_idle h o is busy))
+  pub begins_not : (h : ℕ) (task : Task) (o : Option hosts.Kept) → get_or old.hosts h None ≡ o → is_free o ≡ false → Brings log (Begin h task) old old None
+  begins_not h task o is busy = nothing log old leads (Begin h task) (ap (λ (b : Bool). brings_if b (task_entry old.shape h task)) (not_idle h o is busy))
 
-  pub recovers_not : (h tries : ℕ) (o : Option hosts.Kept) → get_or old.hosts h None ≡ o → is_free o ≡ false → Brings log (Recover h tries) old old None
-  recovers_not h tries o is busy =
-      nothing log old leads (Recover h tries) (ap (λ (b : Bool). brings_if (b && nat_lt 0 tries) (Some (entries.Recover h tries))) (not_idle h o is busy))
+  -- nor one that it may not be given
+  pub given_not : (h : ℕ) (task : Task) → task_entry old.shape h task ≡ None → Brings log (Begin h task) old old None
+  given_not h task none =
+      let idle = idles ((world old.shape log).host h) in
+      nothing log old leads (Begin h task) (ap (brings_if idle) none ∙ brings_none idle)
 
-  pub looks_not : (h : ℕ) (o : Option hosts.Kept) → get_or old.hosts h None ≡ o → is_free o ≡ false → Brings log (Look h) old old None
-  looks_not h o is busy = nothing log old leads (Look h) (ap (λ (b : Bool). brings_if b (Some (entries.Look h))) (not_idle h o is busy))
+  -- an idle host begins one that it may be given
+  module _ (h : ℕ) (task : Task) (core : hosts.Kept) (given : task_entry old.shape h task ≡ Some (entries.Begin h task)) (is : get_or old.hosts h None ≡ Some core) (idle : hosts.is_idle core ≡ true) where
+    brings : entry_of old.shape (world old.shape log) (Begin h task) ≡ Some (entries.Begin h task)
+    brings =
+        let r = running_at h core is in
+        let may : idles ((world old.shape log).host h) ≡ true = ap idles r.1 ∙ sym (idle_is old.shape h r.0 core r.2) ∙ idle in
+        ap (λ (b : Bool). brings_if b (task_entry old.shape h task)) may ∙ given
 
-  pub beats_not : (h : ℕ) (o : Option hosts.Kept) → get_or old.hosts h None ≡ o → is_free o ≡ false → Brings log (Beat h) old old None
-  beats_not h o is busy = nothing log old leads (Beat h) (ap (λ (b : Bool). brings_if b (Some (entries.Beat h))) (not_idle h o is busy))
+    pub may_begin : hosts.MayBegin core task
+    may_begin =
+        let r = running_at h core is in
+        may_of old.shape h task core r.2.learner.is_host (follows old.shape log (Begin h task) (entries.Begin h task) leads.run brings).1
 
-  pub marks_not : (h slot : ℕ) (o : Option hosts.Kept) → get_or old.hosts h None ≡ o → is_free o ≡ false → Brings log (Mark h slot) old old None
-  marks_not h slot o is busy =
-      nothing log old leads (Mark h slot) (ap (λ (b : Bool). brings_if (b && nat_lt slot old.shape.slots) (Some (entries.Mark h slot))) (not_idle h o is busy))
-
-  -- behind the log
-  pub marks_behind : (h slot : ℕ) → nat_lt slot old.shape.slots ≡ false → Brings log (Mark h slot) old old None
-  marks_behind h slot behind =
-      nothing log old leads (Mark h slot)
-      (ap (λ (b : Bool). brings_if (idles ((world old.shape log).host h) && b) (Some (entries.Mark h slot))) behind
-      ∙ ap (λ (b : Bool). brings_if b (Some (entries.Mark h slot))) (and_no (idles ((world old.shape log).host h))))
-
-  -- without tries
-  pub submits_untried : (h : ℕ) (command : Command) (tries : ℕ) → tries ≡ 0 → Brings log (Submit h command tries) old old None
-  submits_untried h command tries none =
-      nothing log old leads (Submit h command tries)
-      (ap (λ (n : ℕ). brings_if (idles ((world old.shape log).host h) && nat_lt 0 n) (submitted h tries (decoded (spelling command)))) none
-      ∙ ap (λ (b : Bool). brings_if b (submitted h tries (decoded (spelling command)))) (and_no (idles ((world old.shape log).host h))))
-
-  -- a quiet purge
-  pub submits_quiet : (h : ℕ) (command : Command) (tries : ℕ) → FitsCommand command → is_submittable command ≡ false → Brings log (Submit h command tries) old old None
-  submits_quiet h command tries fits quiet =
-      let free = idles ((world old.shape log).host h) && nat_lt 0 tries in
-      let e : Filled = entries.Submit h command tries in
-      nothing log old leads (Submit h command tries)
-      (ap (λ (o : Option Command). brings_if free (submitted h tries o)) (command_reads_back command fits)
-      ∙ ap (λ (b : Bool). brings_if free (brings_if (command.host == h && b) (Some e))) quiet
-      ∙ ap (λ (b : Bool). brings_if free (brings_if b (Some e))) (and_no (command.host == h))
-      ∙ brings_none free)
-
-  pub recovers_untried : (h tries : ℕ) → tries ≡ 0 → Brings log (Recover h tries) old old None
-  recovers_untried h tries none =
-      nothing log old leads (Recover h tries)
-      (ap (λ (n : ℕ). brings_if (idles ((world old.shape log).host h) && nat_lt 0 n) (Some (entries.Recover h tries))) none
-      ∙ ap (λ (b : Bool). brings_if b (Some (entries.Recover h tries))) (and_no (idles ((world old.shape log).host h))))
-
-  idle_then : (h : ℕ) (core : hosts.Kept) → get_or old.hosts h None ≡ Some core → hosts.is_idle core ≡ true → idles ((world old.shape log).host h) ≡ true
-  idle_then h core is idle = let r = running_at h core is in ap idles r.1 ∙ sym (idle_is old.shape h r.0 core r.2) ∙ idle
-
-  idle_test : (h tries : ℕ) (core : hosts.Kept) → 0 < tries → get_or old.hosts h None ≡ Some core → hosts.is_idle core ≡ true
-      → (idles ((world old.shape log).host h) && nat_lt 0 tries) ≡ true
-  idle_test h tries core some is idle =
-      ap (λ (b : Bool). b && nat_lt 0 tries) (idle_then h core is idle) ∙ lt-ltb 0 tries some
-
-  pub submits : (h : ℕ) (command : Command) (tries : ℕ) (core new : hosts.Kept) → h < HOSTS → command.host ≡ h → FitsCommand command → is_submittable command ≡ true → 0 < tries
-      → get_or old.hosts h None ≡ Some core → hosts.is_idle core ≡ true
-      → ((c : Shape) (g : ℕ) (m : Memory) → hosts.LeadsTo c g m core → hosts.LeadsTo c g (goes_on c m (Submitting command) tries) new)
-      → Brings log (Submit h command tries) old (record old { hosts = set old.hosts h (Some new) }) (saying h new.said)
-  submits h command tries core new within own fits asked some is idle goes =
-      let e : Filled = entries.Submit h command tries in
-      let r = running_at h core is in
-      let reads : submitted h tries (decoded (spelling command)) ≡ Some e =
-      ap (submitted h tries) (command_reads_back command fits) ∙ ap (λ (b : Bool). brings_if b (Some e)) (both_true (eq-eqb command.host h own) asked) in
-      let steps : host_step old.shape h ((world old.shape log).host h) e ≡ Running (goes_on old.shape r.0 (Submitting command) tries) =
-      ap (λ (x : Host). host_step old.shape h x e) r.1 in
-      let kept : hosts.LeadsTo old.shape h (goes_on old.shape r.0 (Submitting command) tries) new = goes old.shape h r.0 r.2 in
-      something log old leads (Submit h command tries) e (record old { hosts = set old.hosts h (Some new) }) (saying h new.said)
-      (ap (λ (b : Bool). brings_if b (submitted h tries (decoded (spelling command)))) (idle_test h tries core some is idle) ∙ reads) refl
-      (by_host log old leads e h (Some new) within (λ d. refl) (λ g. refl) (subst (λ (x : Host). IsHost old.shape h x (Some new)) (sym steps) kept))
-      leads.sized
-      (λ place. says_by log old leads e h (goes_on old.shape r.0 (Submitting command) tries) new (self_eq h) steps kept place)
-
-  pub recovers : (h tries : ℕ) (core new : hosts.Kept) → h < HOSTS → 0 < tries
-      → get_or old.hosts h None ≡ Some core → hosts.is_idle core ≡ true
-      → ((c : Shape) (g : ℕ) (m : Memory) → hosts.LeadsTo c g m core → hosts.LeadsTo c g (goes_on c m Recovering tries) new)
-      → Brings log (Recover h tries) old (record old { hosts = set old.hosts h (Some new) }) (saying h new.said)
-  recovers h tries core new within some is idle goes =
-      let e : Filled = entries.Recover h tries in
-      let r = running_at h core is in
-      let steps : host_step old.shape h ((world old.shape log).host h) e ≡ Running (goes_on old.shape r.0 Recovering tries) =
-      ap (λ (x : Host). host_step old.shape h x e) r.1 in
-      let kept : hosts.LeadsTo old.shape h (goes_on old.shape r.0 Recovering tries) new = goes old.shape h r.0 r.2 in
-      something log old leads (Recover h tries) e (record old { hosts = set old.hosts h (Some new) }) (saying h new.said)
-      (ap (λ (b : Bool). brings_if b (Some e)) (idle_test h tries core some is idle)) refl
-      (by_host log old leads e h (Some new) within (λ d. refl) (λ g. refl) (subst (λ (x : Host). IsHost old.shape h x (Some new)) (sym steps) kept))
-      leads.sized
-      (λ place. says_by log old leads e h (goes_on old.shape r.0 Recovering tries) new (self_eq h) steps kept place)
-
-  pub looks : (h : ℕ) (core new : hosts.Kept) → h < HOSTS → get_or old.hosts h None ≡ Some core → hosts.is_idle core ≡ true
-      → ((c : Shape) (g : ℕ) (m : Memory) → hosts.LeadsTo c g m core → hosts.LeadsTo c g (starts_look c m) new)
-      → Brings log (Look h) old (record old { hosts = set old.hosts h (Some new) }) (saying h new.said)
-  looks h core new within is idle goes =
-      let e : Filled = entries.Look h in
-      let r = running_at h core is in
-      let steps : host_step old.shape h ((world old.shape log).host h) e ≡ Running (starts_look old.shape r.0) =
-      ap (λ (x : Host). host_step old.shape h x e) r.1 in
-      let kept : hosts.LeadsTo old.shape h (starts_look old.shape r.0) new = goes old.shape h r.0 r.2 in
-      something log old leads (Look h) e (record old { hosts = set old.hosts h (Some new) }) (saying h new.said)
-      (ap (λ (b : Bool). brings_if b (Some e)) (idle_then h core is idle)) refl
-      (by_host log old leads e h (Some new) within (λ d. refl) (λ g. refl) (subst (λ (x : Host). IsHost old.shape h x (Some new)) (sym steps) kept))
-      leads.sized
-      (λ place. says_by log old leads e h (starts_look old.shape r.0) new (self_eq h) steps kept place)
-
-  pub beats : (h : ℕ) (core new : hosts.Kept) → h < HOSTS → get_or old.hosts h None ≡ Some core → hosts.is_idle core ≡ true
-      → ((c : Shape) (g : ℕ) (m : Memory) → hosts.LeadsTo c g m core → hosts.LeadsTo c g (starts_beat m) new)
-      → Brings log (Beat h) old (record old { hosts = set old.hosts h (Some new) }) None
-  beats h core new within is idle goes =
-      let e : Filled = entries.Beat h in
-      let r = running_at h core is in
-      let steps : host_step old.shape h ((world old.shape log).host h) e ≡ Running (starts_beat r.0) = ap beats_then r.1 in
-      let kept : hosts.LeadsTo old.shape h (starts_beat r.0) new = goes old.shape h r.0 r.2 in
-      something log old leads (Beat h) e (record old { hosts = set old.hosts h (Some new) }) None
-      (ap (λ (b : Bool). brings_if b (Some e)) (idle_then h core is idle)) refl
-      (by_host log old leads e h (Some new) within (λ d. refl) (λ g. refl) (subst (λ (x : Host). IsHost old.shape h x (Some new)) (sym steps) kept))
-      leads.sized
-      (λ place. subst (λ (o : Option HostAnswer). lines_of place (saying h o) ≡ lines_after (world old.shape (log ++ e ∷ [])) place (Some h)) kept.said
-      (says_by log old leads e h (starts_beat r.0) new (self_eq h) steps kept place))
-
-  pub marks : (h slot : ℕ) (core new : hosts.Kept) → h < HOSTS → slot < old.shape.slots
-      → get_or old.hosts h None ≡ Some core → hosts.is_idle core ≡ true
-      → ((c : Shape) (g : ℕ) (m : Memory) → hosts.LeadsTo c g m core → hosts.LeadsTo c g (starts_marking m slot) new)
-      → Brings log (Mark h slot) old (record old { hosts = set old.hosts h (Some new) }) (saying h new.said)
-  marks h slot core new within inside is idle goes =
-      let e : Filled = entries.Mark h slot in
-      let r = running_at h core is in
-      let steps : host_step old.shape h ((world old.shape log).host h) e ≡ Running (starts_marking r.0 slot) = ap (λ (x : Host). marks_then x slot) r.1 in
-      let kept : hosts.LeadsTo old.shape h (starts_marking r.0 slot) new = goes old.shape h r.0 r.2 in
-      let applies : (idles ((world old.shape log).host h) && nat_lt slot old.shape.slots) ≡ true =
-      ap (λ (b : Bool). b && nat_lt slot old.shape.slots) (idle_then h core is idle) ∙ lt-ltb slot old.shape.slots inside in
-      something log old leads (Mark h slot) e (record old { hosts = set old.hosts h (Some new) }) (saying h new.said)
-      (ap (λ (b : Bool). brings_if b (Some e)) applies) refl
-      (by_host log old leads e h (Some new) within (λ d. refl) (λ g. refl) (subst (λ (x : Host). IsHost old.shape h x (Some new)) (sym steps) kept))
-      leads.sized
-      (λ place. says_by log old leads e h (starts_marking r.0 slot) new (self_eq h) steps kept place)
+    pub begins : (new : hosts.Kept) → h < HOSTS
+        → ((c : Shape) (g : ℕ) (m : Memory) → hosts.LeadsTo c g m core → hosts.LeadsTo c g (starts_task c m task) new)
+        → Brings log (Begin h task) old (record old { hosts = set old.hosts h (Some new) }) (saying h new.said)
+    begins new within goes =
+        let e : Filled = entries.Begin h task in
+        let r = running_at h core is in
+        let m : Memory = starts_task old.shape r.0 task in
+        let steps : host_step old.shape h ((world old.shape log).host h) e ≡ Running m = ap (λ (x : Host). host_step old.shape h x e) r.1 in
+        let kept : hosts.LeadsTo old.shape h m new = goes old.shape h r.0 r.2 in
+        something log old leads (Begin h task) e (record old { hosts = set old.hosts h (Some new) }) (saying h new.said)
+        brings refl
+        (by_host log old leads e h (Some new) within (λ d. refl) (λ g. refl) (subst (λ (x : Host). IsHost old.shape h x (Some new)) (sym steps) kept))
+        leads.sized
+        (λ place. says_by log old leads e h m new (self_eq h) steps kept place)

@@ -13,11 +13,13 @@ use Rattle.slot_log.specs.declared.outcome.Refusal.{Refusal}
 use Rattle.slot_log.specs.declared.outcome.Refusal.TheVariants as refusal
 use Rattle.host.specs.declared.answer.HostAnswer.{HostAnswer}
 use Rattle.host.specs.declared.answer.HostAnswer.TheVariants.{Refused}
-use Rattle.host.specs.Host.{Submitting, Host, Stopped, Running, begins, says, full_answer, with_marking, is_stopped, idles, next_of, said_of}
+use Rattle.host.specs.declared.task.Task.{Task}
+use Rattle.host.specs.declared.task.Task.TheVariants.{Submit, Recover, Look, Beat, Mark}
+use Rattle.host.specs.Host.{Submitting, Marks, Host, Stopped, Running, begins, does, says, full_answer, is_stopped, idles, next_of, said_of}
 use Rattle.world.specs.Entry as entries
 use Rattle.world.specs.Entry.{Filled, host_step}
 use Rattle.world.specs.World.{World, world}
-use Rattle.world.specs.Happens.{Event, Start, Stop, Submit, Recover, Look, Beat, Mark, Step, Tear, FailCall, DiskCrash, DiskGone, Line, brings_if, spread_over, torn_entry, torn, submitted, host_of, entry_of}
+use Rattle.world.specs.Happens.{Event, Start, Stop, Begin, Step, Tear, FailCall, DiskCrash, DiskGone, Line, brings_if, spread_over, torn_entry, torn, submitted, task_entry, host_of, entry_of}
 use Rattle.world.proofs.Projections.{host_here}
 use Rattle.simulator.specs.declared.simulated_cluster.Said.{Said}
 use Rattle.simulator.specs.Answers.{is_pictured, may_be_pictured}
@@ -50,32 +52,38 @@ module _ (c : Shape) (h : ℕ) (said : HostAnswer) (tells : is_pictured said ≡
   starts_silent g Stopped stopped says = cc
   starts_silent g (Running m) stopped says = cc
 
-  beats_silent : (g : ℕ) (old : Host) → Silent old (entries.Beat g)
-  beats_silent g Stopped says = cc
-  beats_silent g (Running m) says = cc
-
-  marks_silent : (g slot : ℕ) (old : Host) → Silent old (entries.Mark g slot)
-  marks_silent g slot Stopped says_so = cc
-  marks_silent g slot (Running m) says_so = go (nat_lt slot (length m.learned)) says_so
+  -- it does where it begins a recovery or a look
+  begins_silent : (g : ℕ) (task : Task) (old : Host) → may_be_pictured (Begin g task) ≡ false → Silent old (entries.Begin g task)
+  begins_silent g task Stopped none says_so = cc
+  begins_silent g (Recover tries) (Running m) none says_so = cc
+  begins_silent g Look (Running m) none says_so = cc
+  begins_silent g Beat (Running m) none says_so = cc
+  begins_silent g (Mark slot) (Running m) none says_so = go (nat_lt slot (length m.learned)) says_so
     where
-      go : (b : Bool) → said_of (Running (if b then with_marking m (Some (record { slot = slot; heard = [] })) None else with_marking m m.marking (Some (Refused refusal.NotLearned)))) ≡ Some said → ⊥
+      go : (b : Bool) → said_of (Running (if b then does m (Marks (record { slot = slot; heard = [] })) else says m (Refused refusal.NotLearned))) ≡ Some said → ⊥
       go true is = cc
       go false is = refuses refusal.NotLearned said tells is
-
-  submits_silent : (g : ℕ) (command : Command) (tries : ℕ) (old : Host) → Silent old (entries.Submit g command tries)
-  submits_silent g command tries Stopped says = cc
-  submits_silent g command tries (Running m) says_so = go (nat_lt (length m.learned) c.slots) says_so
+  begins_silent g (Submit command tries) (Running m) none says_so = go (nat_lt (length m.learned) c.slots) says_so
     where
       go : (b : Bool) → said_of (Running (if b then begins m (Submitting command) tries else says m (full_answer (Submitting command) (length m.learned)))) ≡ Some said → ⊥
       go true is = cc
       go false is = refuses refusal.LogFull said tells is
 
   module _ (w : World) (f : Filled) (of : host_of f ≡ Some h) (says_so : said_of (host_step c h (w.host h) f) ≡ Some said) where
+    no_begin : (g : ℕ) (task : Task) → may_be_pictured (Begin g task) ≡ false → entries.Begin g task ≡ f → ⊥
+    no_begin g task none one = begins_silent g task (w.host h) none (ap (λ (e : Filled). said_of (host_step c h (w.host h) e)) one ∙ says_so)
+
     no_submit : (g tries : ℕ) (o : Option Command) → submitted g tries o ≡ Some f → ⊥
     no_submit g tries None is = cc
     no_submit g tries (Some command) is =
-        given_if _ (Some (entries.Submit g command tries)) f ⊥ is (λ passed same. (let one : entries.Submit g command tries ≡ f = cc in
-        submits_silent g command tries (w.host h) (ap (λ (e : Filled). said_of (host_step c h (w.host h) e)) one ∙ says_so)))
+        given_if _ (Some (entries.Begin g (Submit command tries))) f ⊥ is (λ passed same. no_begin g (Submit command tries) refl (cc))
+
+    no_task : (g : ℕ) (task : Task) → may_be_pictured (Begin g task) ≡ false → task_entry c g task ≡ Some f → ⊥
+    no_task g (Submit command tries) none is = given_if (nat_lt 0 tries) (submitted g tries (decoded (spelling command))) f ⊥ is (λ passed same. no_submit g tries (decoded (spelling command)) same)
+    no_task g (Recover tries) none is = cc
+    no_task g Look none is = cc
+    no_task g Beat none is = no_begin g Beat refl (cc)
+    no_task g (Mark slot) none is = given_if (nat_lt slot c.slots) (Some (entries.Begin g (Mark slot))) f ⊥ is (λ passed same. no_begin g (Mark slot) refl (cc))
 
     no_tear_by : (g : ℕ) (given : List ℕ) (k : ℕ) (call : Call) (refusal : Option DiskFault) → torn_entry g given k call refusal ≡ Some f → ⊥
     no_tear_by g given k Attach None is = cc
@@ -95,8 +103,6 @@ module _ (c : Shape) (h : ℕ) (said : HostAnswer) (tells : is_pictured said ≡
     no_tear g given (Some x) is = no_tear_by g given x.0 x.1 (refusal_of (w.disk x.0) x.1) is
 
     only_these : (event : Event) → entry_of c w event ≡ Some f → may_be_pictured event ≡ true
-    only_these (Recover g tries) is = refl
-    only_these (Look g) is = refl
     only_these (Step g) is = refl
     only_these (FailCall g given) is = refl
     only_these (Start g) is =
@@ -111,16 +117,11 @@ module _ (c : Shape) (h : ℕ) (said : HostAnswer) (tells : is_pictured said ≡
         (let one : entries.Stop g ≡ f = cc in
         let says_none = ap (λ (e : Filled). said_of (host_step c h (w.host h) e)) one ∙ says_so in
         cc)))
-    only_these (Beat g) is =
-        absurd (given_if (idles (w.host g)) (Some (entries.Beat g)) f ⊥ is (λ passed same.
-        (let one : entries.Beat g ≡ f = cc in
-        beats_silent g (w.host h) (ap (λ (e : Filled). said_of (host_step c h (w.host h) e)) one ∙ says_so))))
-    only_these (Mark g slot) is =
-        absurd (given_if (idles (w.host g) && nat_lt slot c.slots) (Some (entries.Mark g slot)) f ⊥ is (λ passed same.
-        (let one : entries.Mark g slot ≡ f = cc in
-        marks_silent g slot (w.host h) (ap (λ (e : Filled). said_of (host_step c h (w.host h) e)) one ∙ says_so))))
-    only_these (Submit g command tries) is =
-        absurd (given_if (idles (w.host g) && nat_lt 0 tries) (submitted g tries (decoded (spelling command))) f ⊥ is (λ passed same. no_submit g tries (decoded (spelling command)) same))
+    only_these (Begin g task) is = go (may_be_pictured (Begin g task)) refl
+      where
+        go : (b : Bool) → may_be_pictured (Begin g task) ≡ b → may_be_pictured (Begin g task) ≡ true
+        go true one = one
+        go false none = absurd (given_if (idles (w.host g)) (task_entry c g task) f ⊥ is (λ passed same. no_task g task none same))
     only_these (Tear g given) is = absurd (given_if _ (option_and_then (torn w g given) (next_of c g (w.host g))) f ⊥ is (λ passed same. no_tear g given (next_of c g (w.host g)) same))
     only_these (DiskCrash k given) is =
         absurd (given_if _ (Some (entries.Crashed k _)) f ⊥ is (λ passed same. (let one = ap (option_and_then host_of) same in let both : None ≡ Some h = one ∙ of in cc)))

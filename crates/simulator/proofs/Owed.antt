@@ -12,22 +12,22 @@ use Rattle.disk.proofs.StepLemmas.{shape_fresh}
 use Rattle.paxos_block.specs.Places.{image_length}
 use Rattle.torn_block.specs.declared.layout.TheConstants.{HOSTS}
 use Rattle.slot_log.specs.Shape.{Shape}
-use Rattle.lock_command.specs.declared.command.Command.{Command}
-use Rattle.lock_command.specs.Command.{is_submittable, Fits as FitsCommand}
 use Rattle.phases.specs.declared.need.Need.{Need}
 use Rattle.phases.specs.declared.need.DeviceCall as code_call
 use Rattle.phases.specs.Calls.{call_of_need, device_call_of, IsWithin}
 use Rattle.host.specs.declared.answer.HostAnswer.{HostAnswer}
-use Rattle.host.specs.Host.{Stopped, Memory, Submitting, Recovering, fresh, goes_on, starts_look, hears_from, next_in, starts_beat, starts_marking}
+use Rattle.host.specs.declared.task.Task.{Task}
+use Rattle.host.specs.Host.{Stopped, Memory, fresh, starts as starts_task, hears_from, next_in}
 use Rattle.host.specs.Kept as hosts
+use Rattle.world.specs.Entry as entries
 use Rattle.world.specs.Entry.{Filled, called_by}
 use Rattle.world.specs.World.{world}
-use Rattle.world.specs.Happens.{Event, Start, Stop, Submit, Recover, Look, Beat, Mark, Step, Tear, FailCall, DiskCrash, DiskGone, answer_of, spread_over}
+use Rattle.world.specs.Happens.{Event, Start, Stop, Begin, Step, Tear, FailCall, DiskCrash, DiskGone, answer_of, spread_over, task_entry}
 use Rattle.simulator.specs.declared.simulated_cluster.Said.{Said}
 use Rattle.simulator.specs.declared.simulated_cluster.SimulatedCluster.TheInside.{Inside}
 use Rattle.simulator.specs.Calls.{is_write, may_crash, crashed_if, lost_if}
 use Rattle.simulator.specs.Kept.{Kept, calm, is_busy, is_free, said_by, said_now, IsHost, LeadsTo, IsReached, Brings}
-use Rattle.simulator.proofs.Shown.{named, saying}
+use Rattle.simulator.proofs.Shown.{named}
 use Rattle.simulator.proofs.Events as events
 use Rattle.simulator.proofs.Events.{running_at}
 use Rattle.simulator.proofs.Calls as calls
@@ -158,20 +158,8 @@ module _ (old : Kept) (h : ℕ) (p : Place old h) where
     pub tears_idle : (given : List ℕ) → 0 < length given → is_busy o ≡ false → (log : List Filled) → LeadsTo log old → Brings log (Tear h given) old old None
     tears_idle given some idle = here_is (λ j. Tear j given) old (λ log leads. calls.tears_not log old leads p.i given some (calls.no_call log old leads p.i o is idle))
 
-    pub submits_busy : (command : Command) (tries : ℕ) → is_free o ≡ false → (log : List Filled) → LeadsTo log old → Brings log (Submit h command tries) old old None
-    submits_busy command tries busy = here_is (λ j. Submit j command tries) old (λ log leads. events.submits_not log old leads p.i command tries o is busy)
-
-    pub recovers_busy : (tries : ℕ) → is_free o ≡ false → (log : List Filled) → LeadsTo log old → Brings log (Recover h tries) old old None
-    recovers_busy tries busy = here_is (λ j. Recover j tries) old (λ log leads. events.recovers_not log old leads p.i tries o is busy)
-
-    pub looks_busy : is_free o ≡ false → (log : List Filled) → LeadsTo log old → Brings log (Look h) old old None
-    looks_busy busy = here_is Look old (λ log leads. events.looks_not log old leads p.i o is busy)
-
-    pub beats_busy : is_free o ≡ false → (log : List Filled) → LeadsTo log old → Brings log (Beat h) old old None
-    beats_busy busy = here_is Beat old (λ log leads. events.beats_not log old leads p.i o is busy)
-
-    pub marks_busy : (slot : ℕ) → is_free o ≡ false → (log : List Filled) → LeadsTo log old → Brings log (Mark h slot) old old None
-    marks_busy slot busy = here_is (λ j. Mark j slot) old (λ log leads. events.marks_not log old leads p.i slot o is busy)
+    pub begins_busy : (task : Task) → is_free o ≡ false → (log : List Filled) → LeadsTo log old → Brings log (Begin h task) old old None
+    begins_busy task busy = here_is (λ j. Begin j task) old (λ log leads. events.begins_not log old leads p.i task o is busy)
 
     -- a call that is no write is not torn
     pub tears_no_write : IsReached old → (core : hosts.Kept) → o ≡ Some core → (need : Need)
@@ -188,40 +176,20 @@ module _ (old : Kept) (h : ℕ) (p : Place old h) where
   pub stops : (log : List Filled) → LeadsTo log old → Brings log (Stop h) old (record old { hosts = set old.hosts p.i None }) None
   stops = here_is Stop (record old { hosts = set old.hosts p.i None }) (λ log leads. events.stops log old leads p.i (get_or old.hosts p.i None) p.within refl)
 
-  -- a host that may begin an operation begins it
-  module _ (d : Idle old h p) (new : hosts.Kept) where
-    abbrev begun : Kept
-    begun = record old { hosts = set old.hosts p.i (Some new) }
+  -- an idle host begins a task that it may be given
+  module _ (d : Idle old h p) (task : Task) (given : task_entry old.shape h task ≡ Some (entries.Begin h task)) where
+    given_here : task_entry old.shape p.i task ≡ Some (entries.Begin p.i task)
+    given_here = subst (λ (j : ℕ). task_entry old.shape j task ≡ Some (entries.Begin j task)) (sym p.same) given
 
-    pub beats : ((c : Shape) (g : ℕ) (m : Memory) → hosts.LeadsTo c g m d.core → hosts.LeadsTo c g (starts_beat m) new)
-        → (log : List Filled) → LeadsTo log old → Brings log (Beat h) old begun None
-    beats goes = here_is Beat begun (λ log leads. events.beats log old leads p.i d.core new p.within d.found d.idle goes)
+    pub may_begin : IsReached old → hosts.MayBegin d.core task
+    may_begin is = events.may_begin is.log old is.leads p.i task d.core given_here d.found d.idle
 
-    module _ (said : Option Said) (is_said : said ≡ option_map (λ answer. record { host = h; answer = answer }) new.said) where
-      says_so : (event : ℕ → Event) → ((log : List Filled) → LeadsTo log old → Brings log (event p.i) old begun (saying p.i new.said))
-          → (log : List Filled) → LeadsTo log old → Brings log (event h) old begun said
-      says_so event brings log leads = named event log old begun p.i h new.said said p.same is_said (brings log leads)
-
-      pub submits : (command : Command) (tries : ℕ) → command.host ≡ h → FitsCommand command → is_submittable command ≡ true → 0 < tries
-          → ((c : Shape) (g : ℕ) (m : Memory) → hosts.LeadsTo c g m d.core → hosts.LeadsTo c g (goes_on c m (Submitting command) tries) new)
-          → (log : List Filled) → LeadsTo log old → Brings log (Submit h command tries) old begun said
-      submits command tries own fits asked some goes =
-          says_so (λ j. Submit j command tries)
-          (λ log leads. events.submits log old leads p.i command tries d.core new p.within (own ∙ sym p.same) fits asked some d.found d.idle goes)
-
-      pub recovers : (tries : ℕ) → 0 < tries
-          → ((c : Shape) (g : ℕ) (m : Memory) → hosts.LeadsTo c g m d.core → hosts.LeadsTo c g (goes_on c m Recovering tries) new)
-          → (log : List Filled) → LeadsTo log old → Brings log (Recover h tries) old begun said
-      recovers tries some goes = says_so (λ j. Recover j tries) (λ log leads. events.recovers log old leads p.i tries d.core new p.within some d.found d.idle goes)
-
-      pub looks : ((c : Shape) (g : ℕ) (m : Memory) → hosts.LeadsTo c g m d.core → hosts.LeadsTo c g (starts_look c m) new)
-          → (log : List Filled) → LeadsTo log old → Brings log (Look h) old begun said
-      looks goes = says_so Look (λ log leads. events.looks log old leads p.i d.core new p.within d.found d.idle goes)
-
-      pub marks : (slot : ℕ) → slot < old.shape.slots
-          → ((c : Shape) (g : ℕ) (m : Memory) → hosts.LeadsTo c g m d.core → hosts.LeadsTo c g (starts_marking m slot) new)
-          → (log : List Filled) → LeadsTo log old → Brings log (Mark h slot) old begun said
-      marks slot inside goes = says_so (λ j. Mark j slot) (λ log leads. events.marks log old leads p.i slot d.core new p.within inside d.found d.idle goes)
+    pub begins : (new : hosts.Kept) (said : Option Said) → said ≡ option_map (λ answer. record { host = h; answer = answer }) new.said
+        → ((c : Shape) (g : ℕ) (m : Memory) → hosts.LeadsTo c g m d.core → hosts.LeadsTo c g (starts_task c m task) new)
+        → (log : List Filled) → LeadsTo log old → Brings log (Begin h task) old (record old { hosts = set old.hosts p.i (Some new) }) said
+    begins new said is_said goes log leads =
+        named (λ j. Begin j task) log old (record old { hosts = set old.hosts p.i (Some new) }) p.i h new.said said p.same is_said
+        (events.begins log old leads p.i task d.core given_here d.found d.idle new p.within goes)
 
 -- A CALL
 

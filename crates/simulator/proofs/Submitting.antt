@@ -8,12 +8,14 @@ use Rattle.lock_command.specs.declared.command.Command.{Command}
 use Rattle.lock_command.specs.Command.{spelling, is_submittable}
 use Rattle.lock_command.specs.Reading.{decoded}
 use Rattle.slot_log.specs.Shape.{Shape}
+use Rattle.host.specs.declared.task.Task.{Task}
+use Rattle.host.specs.declared.task.Task.TheVariants.{Submit, Recover, Look, Beat, Mark}
 use Rattle.host.specs.Host.{idles, next_of}
 use Rattle.host.proofs.Hosts.{decoded_spelled}
 use Rattle.world.specs.Entry as entries
 use Rattle.world.specs.Entry.{Filled}
 use Rattle.world.specs.World.{World}
-use Rattle.world.specs.Happens.{Event, Start, Stop, Submit, Recover, Look, Beat, Mark, Step, Tear, FailCall, DiskCrash, DiskGone, brings_if, stepped, failed_entry, failed, torn_entry, torn, submitted, entry_of}
+use Rattle.world.specs.Happens.{Event, Start, Stop, Begin, Step, Tear, FailCall, DiskCrash, DiskGone, brings_if, stepped, failed_entry, failed, torn_entry, torn, submitted, task_entry, entry_of}
 
 -- an entry that is brought under a test is the one that stands there
 brought : (b : Bool) (o : Option Filled) (e : Filled) → brings_if b o ≡ Some e → o ≡ Some e
@@ -23,20 +25,20 @@ brought false o e is = absurd (cc)
 -- the event submits a command of the same spelling
 pub record Submits (event : Event) (h : ℕ) (command : Command) (tries : ℕ) : Type 0 where
   pub given : Command
-  pub is : event ≡ Submit h given tries
+  pub is : event ≡ Begin h (Submit given tries)
   pub spelled : spelling given ≡ spelling command
 
 module _ (c : Shape) (w : World) (h : ℕ) (command : Command) (tries : ℕ) where
   -- a device call that is made, torn or fails is no submission
-  no_step : (g : ℕ) (next : Option (ℕ × Call)) → option_map (stepped w g) next ≡ Some (entries.Submit h command tries) → ⊥
+  no_step : (g : ℕ) (next : Option (ℕ × Call)) → option_map (stepped w g) next ≡ Some (entries.Begin h (Submit command tries)) → ⊥
   no_step g None is = cc
   no_step g (Some x) is = cc
 
-  no_failure : (g : ℕ) (given : List ℕ) (x : ℕ × Call) (refusal : Option DiskFault) → failed_entry g given x refusal ≡ Some (entries.Submit h command tries) → ⊥
+  no_failure : (g : ℕ) (given : List ℕ) (x : ℕ × Call) (refusal : Option DiskFault) → failed_entry g given x refusal ≡ Some (entries.Begin h (Submit command tries)) → ⊥
   no_failure g given x None is = cc
   no_failure g given x (Some fault) is = cc
 
-  no_tear : (g : ℕ) (given : List ℕ) (k : ℕ) (call : Call) (refusal : Option DiskFault) → torn_entry g given k call refusal ≡ Some (entries.Submit h command tries) → ⊥
+  no_tear : (g : ℕ) (given : List ℕ) (k : ℕ) (call : Call) (refusal : Option DiskFault) → torn_entry g given k call refusal ≡ Some (entries.Begin h (Submit command tries)) → ⊥
   no_tear g given k Attach None is = cc
   no_tear g given k (Read boot at len) None is = cc
   no_tear g given k (Write boot at from) None is = cc
@@ -46,38 +48,40 @@ module _ (c : Shape) (w : World) (h : ℕ) (command : Command) (tries : ℕ) whe
   no_tear g given k (Write boot at from) (Some fault) is = cc
   no_tear g given k (Sync boot) (Some fault) is = cc
 
-  no_failed : (g : ℕ) (given : List ℕ) (next : Option (ℕ × Call)) → option_and_then (failed w g given) next ≡ Some (entries.Submit h command tries) → ⊥
+  no_failed : (g : ℕ) (given : List ℕ) (next : Option (ℕ × Call)) → option_and_then (failed w g given) next ≡ Some (entries.Begin h (Submit command tries)) → ⊥
   no_failed g given None is = cc
   no_failed g given (Some x) is = no_failure g given x (refusal_of (w.disk x.0) x.1) is
 
-  no_torn : (g : ℕ) (given : List ℕ) (next : Option (ℕ × Call)) → option_and_then (torn w g given) next ≡ Some (entries.Submit h command tries) → ⊥
+  no_torn : (g : ℕ) (given : List ℕ) (next : Option (ℕ × Call)) → option_and_then (torn w g given) next ≡ Some (entries.Begin h (Submit command tries)) → ⊥
   no_torn g given None is = cc
   no_torn g given (Some x) is = no_tear g given x.0 x.1 (refusal_of (w.disk x.0) x.1) is
 
-  of_submit : (g t : ℕ) (given : Command) (o : Option Command) → decoded (spelling given) ≡ o → submitted g t o ≡ Some (entries.Submit h command tries)
-      → Submits (Submit g given t) h command tries
+  of_submit : (g t : ℕ) (given : Command) (o : Option Command) → decoded (spelling given) ≡ o → submitted g t o ≡ Some (entries.Begin h (Submit command tries))
+      → Submits (Begin g (Submit given t)) h command tries
   of_submit g t given None reads is = absurd (cc)
   of_submit g t given (Some found) reads is =
-      let same : entries.Submit g found t ≡ entries.Submit h command tries =
-      (let some = brought (found.host == g && is_submittable found) (Some (entries.Submit g found t)) (entries.Submit h command tries) is in cc) in
+      let same : entries.Begin g (Submit found t) ≡ entries.Begin h (Submit command tries) =
+      (let some = brought (found.host == g && is_submittable found) (Some (entries.Begin g (Submit found t))) (entries.Begin h (Submit command tries)) is in cc) in
       let one_host : g ≡ h = cc in
       let one_command : found ≡ command = cc in
       let one_tries : t ≡ tries = cc in
       record {
         given = given;
-        is = ap (λ (k : ℕ). Submit k given t) one_host ∙ ap (λ (k : ℕ). Submit h given k) one_tries;
+        is = ap (λ (k : ℕ). Begin k (Submit given t)) one_host ∙ ap (λ (k : ℕ). Begin h (Submit given k)) one_tries;
         spelled = decoded_spelled (spelling given) found reads ∙ ap spelling one_command;
       }
 
-  pub of_submission : (event : Event) → entry_of c w event ≡ Some (entries.Submit h command tries) → Submits event h command tries
+  of_task : (g : ℕ) (task : Task) → task_entry c g task ≡ Some (entries.Begin h (Submit command tries)) → Submits (Begin g task) h command tries
+  of_task g (Submit given t) is = of_submit g t given (decoded (spelling given)) refl (brought (nat_lt 0 t) (submitted g t (decoded (spelling given))) _ is)
+  of_task g (Recover t) is = absurd (let some = brought (nat_lt 0 t) (Some (entries.Begin g (Recover t))) _ is in cc)
+  of_task g Look is = absurd (cc)
+  of_task g Beat is = absurd (cc)
+  of_task g (Mark slot) is = absurd (let some = brought (nat_lt slot c.slots) (Some (entries.Begin g (Mark slot))) _ is in cc)
+
+  pub of_submission : (event : Event) → entry_of c w event ≡ Some (entries.Begin h (Submit command tries)) → Submits event h command tries
   of_submission (Start g) is = absurd (let some = brought _ (Some (entries.Start g)) _ is in cc)
   of_submission (Stop g) is = absurd (let some = brought _ (Some (entries.Stop g)) _ is in cc)
-  of_submission (Submit g given t) is = of_submit g t given (decoded (spelling given)) refl
-      (brought (idles (w.host g) && nat_lt 0 t) (submitted g t (decoded (spelling given))) _ is)
-  of_submission (Recover g t) is = absurd (let some = brought _ (Some (entries.Recover g t)) _ is in cc)
-  of_submission (Look g) is = absurd (let some = brought _ (Some (entries.Look g)) _ is in cc)
-  of_submission (Beat g) is = absurd (let some = brought _ (Some (entries.Beat g)) _ is in cc)
-  of_submission (Mark g slot) is = absurd (let some = brought _ (Some (entries.Mark g slot)) _ is in cc)
+  of_submission (Begin g task) is = of_task g task (brought (idles (w.host g)) (task_entry c g task) _ is)
   of_submission (Step g) is = absurd (no_step g (next_of c g (w.host g)) is)
   of_submission (Tear g given) is = absurd (no_torn g given (next_of c g (w.host g)) (brought _ (option_and_then (torn w g given) (next_of c g (w.host g))) _ is))
   of_submission (FailCall g given) is = absurd (no_failed g given (next_of c g (w.host g)) (brought _ (option_and_then (failed w g given) (next_of c g (w.host g))) _ is))

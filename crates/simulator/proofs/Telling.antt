@@ -11,9 +11,10 @@ use Rattle.lock_table.specs.Apply.{table_after}
 use Rattle.slot_log.specs.Shape.{Shape}
 use Rattle.host.specs.declared.answer.HostAnswer.{HostAnswer}
 use Rattle.host.specs.declared.answer.HostAnswer.TheVariants.{Ack, Recovered, Looked, Beaten, Marked, Refused}
+use Rattle.host.specs.declared.task.Task.TheVariants.{Submit}
 use Rattle.host.specs.Host.{idles, learned_of}
 use Rattle.host.specs.Kept as hosts
-use Rattle.world.specs.Entry.{Filled, Submit, Migrated}
+use Rattle.world.specs.Entry.{Filled, Begin, Migrated}
 use Rattle.world.specs.World.{World, world, IsRun}
 use Rattle.world.specs.Happens.{Event, Line, happen}
 use Rattle.world.specs.Opening.{Opening, begun, run_of, world_after, answers_to}
@@ -82,7 +83,7 @@ module _ (o : Opening) (events : List Event) (r : IsRun o.shape (run_of o events
     moved_there is = (is.0, slice_get-map spelling o.moved is.0 ∙ ap (option_map spelling) is.1 ∙ ap Some (sym s.spelled))
 
     by_entry : (e : Filled) → From c first events s.place e → Submits e s.command → IsGivenBefore o events i value
-    by_entry (Submit h given tries) f is =
+    by_entry (Begin h (Submit given tries)) f is =
         let by = of_submission c (world c (happen c first (take f.n events))) h given tries f.event f.brings in
         inr (record {
           place = f.n;

@@ -4,10 +4,11 @@ use Rattle.lock_table.specs.Apply.{Plain, table_after}
 use Rattle.lock_table.specs.Picture.{Shown}
 use Rattle.host.specs.declared.answer.HostAnswer.{HostAnswer}
 use Rattle.host.specs.declared.answer.HostAnswer.TheVariants.{Ack, Recovered, Looked, Beaten, Marked, Refused}
+use Rattle.host.specs.declared.task.Task.TheVariants.{Recover, Look}
 use Rattle.host.specs.Host.{learned_of}
 use Rattle.world.specs.Entry.{Filled}
 use Rattle.world.specs.World.{World, world}
-use Rattle.world.specs.Happens.{Event, Recover, Look, Step, FailCall, Line}
+use Rattle.world.specs.Happens.{Event, Begin, Step, FailCall, Line}
 use Rattle.world.specs.Opening.{Opening, world_after}
 use Rattle.world.specs.Told.{ShowsTable}
 use Rattle.simulator.specs.declared.answer.Answer.{Answer}
@@ -30,8 +31,8 @@ is_pictured other = false
 
 -- whether a host may answer so with the event: it begins a recovery or a look then, or makes a device call
 abbrev pub may_be_pictured : Event → Bool
-may_be_pictured (Recover h tries) = true
-may_be_pictured (Look h) = true
+may_be_pictured (Begin h (Recover tries)) = true
+may_be_pictured (Begin h Look) = true
 may_be_pictured (Step h) = true
 may_be_pictured (FailCall h given) = true
 may_be_pictured other = false

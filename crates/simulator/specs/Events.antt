@@ -4,17 +4,18 @@ use Rattle.lock_script.specs.declared.event.Event as code
 use Rattle.lock_script.specs.declared.event.Event.TheVariants as of_code
 use Rattle.lock_script.specs.declared.script.Script.{Script}
 use Rattle.world.specs.Opening.{Opening}
-use Rattle.world.specs.Happens.{Event, Start, Stop, Submit, Recover, Look, Beat, Mark, Step, Tear, FailCall, DiskCrash, DiskGone, Line}
+use Rattle.host.specs.declared.task.Task.TheVariants.{Submit, Recover, Look, Beat, Mark}
+use Rattle.world.specs.Happens.{Event, Start, Stop, Begin, Step, Tear, FailCall, DiskCrash, DiskGone, Line}
 use Rattle.simulator.specs.declared.simulated_cluster.Said.{Said}
 
 abbrev pub event_of : code.Event → Event
 event_of (of_code.Start host) = Start host
 event_of (of_code.Stop host) = Stop host
-event_of (of_code.Submit command tries) = Submit command.host command tries
-event_of (of_code.Recover host tries) = Recover host tries
-event_of (of_code.Look host) = Look host
-event_of (of_code.Beat host) = Beat host
-event_of (of_code.Mark host slot) = Mark host slot
+event_of (of_code.Submit command tries) = Begin command.host (Submit command tries)
+event_of (of_code.Recover host tries) = Begin host (Recover tries)
+event_of (of_code.Look host) = Begin host Look
+event_of (of_code.Beat host) = Begin host Beat
+event_of (of_code.Mark host slot) = Begin host (Mark slot)
 event_of (of_code.Step host) = Step host
 event_of (of_code.Tear host given) = Tear host given
 event_of (of_code.FailCall host given) = FailCall host given

@@ -3,16 +3,17 @@ ghost use Rattle.disk.specs.Simulated.{fresh_disk};
 ghost use Rattle.paxos_block.specs.Places.{image_length};
 ghost use Rattle.std.specs.Option.{option_map};
 ghost use Rattle.slot_log.specs.Shape.{Shape};
+ghost use Rattle.world.specs.Entry as entries;
 ghost use Rattle.world.specs.Entry.{Filled};
 ghost use Rattle.world.specs.Opening.{CanBegin, begun};
-ghost use Rattle.world.specs.Happens.{Start, Stop, Submit, Recover, Look, Beat, Mark, Step, Tear, FailCall, DiskCrash, DiskGone};
+ghost use Rattle.world.specs.Happens.{Start, Stop, Begin, Step, Tear, FailCall, DiskCrash, DiskGone, brings_if, task_entry};
 ghost use Rattle.simulator.specs.Events.{event_of};
 ghost use Rattle.simulator.specs.Kept.{TellsNext, Kept, LeadsTo, Brings, BringsAll, said_now, calm, is_busy, is_free};
 
 use crate::device_call::{crash_disk, is_write, lose_disk, make, refusal_of, spoil};
 use crate::migrated::{migrate_again, migrated_disks};
 use disk::{DiskFault, NoMemory, SimDisk};
-use host::{HostAnswer, HostCore};
+use host::{HostAnswer, HostCore, Task};
 use lock_command::{Command, HOSTS, HostNumber};
 use lock_script::Event;
 use phases::Heard;
@@ -149,14 +150,19 @@ impl SimulatedCluster {
                 self.stop(*host);
                 Ok(None)
             }
-            Event::Submit { command, tries } => Ok(self.submit(command, *tries)),
-            Event::Recover { host, tries } => Ok(self.recover(*host, *tries)),
-            Event::Look(host) => Ok(self.look(*host)),
-            Event::Beat(host) => {
-                self.beat(*host);
-                Ok(None)
+            Event::Submit { command, tries } => Ok(self.begin(
+                command.host,
+                Task::Submit {
+                    command: *command,
+                    tries: *tries,
+                },
+            )),
+            Event::Recover { host, tries } => {
+                Ok(self.begin(*host, Task::Recover { tries: *tries }))
             }
-            Event::Mark { host, slot } => Ok(self.mark(*host, *slot)),
+            Event::Look(host) => Ok(self.begin(*host, Task::Look)),
+            Event::Beat(host) => Ok(self.begin(*host, Task::Beat)),
+            Event::Mark { host, slot } => Ok(self.begin(*host, Task::Mark { slot: *slot })),
             Event::Step(host) => Ok(self.step(*host)),
             Event::Tear { host, given } => {
                 self.tear(*host, given.as_slice());
@@ -193,33 +199,12 @@ impl SimulatedCluster {
         self.hosts[usize::from(host.get())] = None;
     }
 
-    fn submit(&mut self, command: &Command, tries: u8) -> Option<Said>
-        ensures { (log : List Filled) → LeadsTo log self.old → Brings log (Submit command.now.host command.now tries) self.old self.new result }
-    {
-        let at = usize::from(command.host.get());
-        if tries == 0 {
-            return None;
-        }
-        // Called for its contract only: the command's numbers are in their ranges.
-        let _ = command.encode();
-        if !command.is_submittable() {
-            return None;
-        }
-        if !is_free(&self.hosts[at]) {
-            return None;
-        }
-        let Some(core) = &mut self.hosts[at] else {
-            unreachable!()
-        };
-        core.submit(*command, tries);
-        answer_of(command.host, core)
-    }
-
-    fn recover(&mut self, host: HostNumber, tries: u8) -> Option<Said>
-        ensures { (log : List Filled) → LeadsTo log self.old → Brings log (Recover host tries) self.old self.new result }
+    /// Gives an idle host a task.
+    fn begin(&mut self, host: HostNumber, task: Task) -> Option<Said>
+        ensures { (log : List Filled) → LeadsTo log self.old → Brings log (Begin host task) self.old self.new result }
     {
         let at = usize::from(host.get());
-        if tries == 0 {
+        if !may_be_given(self.config, host, &task) {
             return None;
         }
         if !is_free(&self.hosts[at]) {
@@ -228,51 +213,7 @@ impl SimulatedCluster {
         let Some(core) = &mut self.hosts[at] else {
             unreachable!()
         };
-        core.recover(tries);
-        answer_of(host, core)
-    }
-
-    fn look(&mut self, host: HostNumber) -> Option<Said>
-        ensures { (log : List Filled) → LeadsTo log self.old → Brings log (Look host) self.old self.new result }
-    {
-        let at = usize::from(host.get());
-        if !is_free(&self.hosts[at]) {
-            return None;
-        }
-        let Some(core) = &mut self.hosts[at] else {
-            unreachable!()
-        };
-        core.look();
-        answer_of(host, core)
-    }
-
-    fn beat(&mut self, host: HostNumber)
-        ensures { (log : List Filled) → LeadsTo log self.old → Brings log (Beat host) self.old self.new None }
-    {
-        let at = usize::from(host.get());
-        if !is_free(&self.hosts[at]) {
-            return;
-        }
-        let Some(core) = &mut self.hosts[at] else {
-            unreachable!()
-        };
-        core.beat();
-    }
-
-    fn mark(&mut self, host: HostNumber, slot: u16) -> Option<Said>
-        ensures { (log : List Filled) → LeadsTo log self.old → Brings log (Mark host slot) self.old self.new result }
-    {
-        let at = usize::from(host.get());
-        if slot >= self.config.slots() {
-            return None;
-        }
-        if !is_free(&self.hosts[at]) {
-            return None;
-        }
-        let Some(core) = &mut self.hosts[at] else {
-            unreachable!()
-        };
-        core.mark(slot);
+        core.begin(task);
         answer_of(host, core)
     }
 
@@ -421,6 +362,25 @@ fn is_free(slot: &Option<HostCore>) -> bool
     match slot {
         None => false,
         Some(core) => core.idle(),
+    }
+}
+
+/// Whether an idle host may be given the task.
+fn may_be_given(config: Config, host: HostNumber, task: &Task) -> bool
+    ensures { task_entry config host task.now ≡ brings_if result (Some (entries.Begin host task.now)) }
+{
+    match task {
+        Task::Submit { command, tries } => {
+            // Called for its contract only: the command's numbers are in their ranges.
+            let _ = command.encode();
+            if *tries == 0 {
+                return false;
+            }
+            command.host == host && command.is_submittable()
+        }
+        Task::Recover { tries } => 0 < *tries,
+        Task::Look | Task::Beat => true,
+        Task::Mark { slot } => *slot < config.slots(),
     }
 }
 

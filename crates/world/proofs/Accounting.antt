@@ -1,8 +1,8 @@
 -- A host's account: what it has learned, its floor and its refusals follow from how its attempts ended and what its looks were told, and its
 -- readings from how its beats did.
-use Rattle.std.specs.Prelude.{◌-◌, ◌&&◌, not, is_some, max, nat_lt, nat_le, if◌then◌else◌}
+use Rattle.std.specs.Prelude.{◌-◌, max, nat_lt, nat_le, if◌then◌else◌}
 use Rattle.std.proofs.Common.{ℕ, ◌+◌, ◌<◌, ◌≤◌, ◌≡◌, ◌==◌, ◌↔◌, Bool, true, false, Option, Some, None, List, [], ◌∷◌, ◌++◌, length, refl, sym, ap, ◌∙◌, subst, arith, append_assoc, append-nil, length-append}
-use Rattle.std.proofs.lemmas.Bool.{and_parts, eq-eqb, ne_eqb, leb-true, leb-false}
+use Rattle.std.proofs.lemmas.Bool.{eq-eqb, ne_eqb, leb-true, leb-false}
 use Rattle.std.specs.Option.{option_or}
 use Rattle.attempt.specs.Answers.{Answered, on, heard_as}
 use Rattle.attempt.specs.Setup.{Setup}
@@ -19,11 +19,15 @@ use Rattle.lock_command.specs.Reading.{decoded}
 use Rattle.slot_log.specs.Shape.{Shape}
 use Rattle.slot_log.specs.declared.outcome.Refusal.TheVariants as refusal
 use Rattle.host.specs.declared.answer.HostAnswer.{HostAnswer}
-use Rattle.host.specs.declared.answer.HostAnswer.TheVariants.{Looked, Refused}
-use Rattle.host.specs.Host.{Operation, Submitting, Recovering, Looking, Doing, Beats, Memory, look_of, look_by, looking_with, hears_look, hears_apart, looks_on, takes_marked, with_looking, starts_look, Host, Stopped, Running, fresh, says, begins, goes_on, full_answer, learns, is_submitted, after_learning, takes, tries_again, with_floor, ended, by_status, with_heard, setup_of, Marking, beat_of, beat_by, hears_beat, hears_beside, hears_marking, marking_by, marking_with, marking_of, with_marking, starts_marking, hears_from, rests, is_idle, is_idle_in, said_of, learned_of}
+use Rattle.host.specs.declared.answer.HostAnswer.TheVariants.{Looked, Marked, Refused}
+use Rattle.host.specs.declared.task.Task.{Task}
+use Rattle.host.specs.declared.task.Task.TheVariants.{Submit, Recover, Look, Beat, Mark}
+use Rattle.host.specs.Host.{Operation, Submitting, Recovering, Attempt, Marking, Looking, Doing, Attempts, Looks, Beats, Marks, Memory, Host, Stopped, Running, fresh, says, does, begins, goes_on, full_answer, learns, is_submitted, after_learning, takes, tries_again, with_floor, ended, by_status, with_heard, setup_of, look_of, look_by, looking_with, looks_on, takes_marked, beat_of, beat_by, marking_of, marking_by, marking_with, starts_marking, starts, hears_from, said_of, learned_of}
+use Rattle.host.proofs.Hosts.{operating-hears}
 use Rattle.world.specs.Entry as entries
 use Rattle.world.specs.Entry.{Filled, Called, Torn, Crashed, Lost, Migrated, host_step, host_after}
-use Rattle.world.specs.Account.{Ending, told_by, told_in, told_apart, told_beside, ending_by, ending_in, ending_at, endings, read_as, committed_by, committed, outran, greatest_on, one_if_outrun, outruns, beat_ended_by, beat_ended_in, beat_ended_at, beats_ended, read_by, last_read, floor_of, readings_of, GoesOn, AllGoOn, AccountsFor, BeginsWith, IsCalled, AllCalled, GivesUp}
+use Rattle.world.specs.Account.{Ending, told_by, ending_by, ending_in, ending_at, endings, read_as, committed_by, committed, outran, greatest_on, one_if_outrun, outruns, beat_ended_by, beat_ended_in, beat_ended_at, beats_ended, read_by, last_read, floor_of, readings_of, GoesOn, AllGoOn, AccountsFor, BeginsWith, IsCalled, AllCalled, GivesUp}
+use Rattle.world.proofs.Enduring.{on_either}
 
 -- SUMS OF ENDINGS
 
@@ -76,12 +80,18 @@ abbrev AccountsAt : Host → List Ending → Type 0
 AccountsAt Stopped past = ⊥
 AccountsAt (Running m) past = Accounts m past
 
--- a memory of the same learned commands and floor has the same account
-same_account : (m new : Memory) (past : List Ending) → new.learned ≡ m.learned → new.floor ≡ m.floor → Accounts m past → Accounts new (past ++ [])
-same_account m new past learned floor is = subst (Accounts new) (sym (append-nil past)) (record {
-  learned = learned ∙ is.learned;
-  floor = floor ∙ is.floor ∙ ap (λ (l : List Command). greatest_on (length l) past) (sym learned);
-  up_to = subst (λ (l : List Command). AreUpTo (length l) past) (sym learned) is.up_to;
+-- what is under way and what is said may differ, and nothing else
+record Stays (m new : Memory) : Type 0 where
+  learned : new.learned ≡ m.learned
+  floor : new.floor ≡ m.floor
+  readings : new.readings ≡ m.readings
+
+-- so the account is the same
+same_account : (m new : Memory) (past : List Ending) → Stays m new → Accounts m past → Accounts new (past ++ [])
+same_account m new past stays is = subst (Accounts new) (sym (append-nil past)) (record {
+  learned = stays.learned ∙ is.learned;
+  floor = stays.floor ∙ is.floor ∙ ap (λ (l : List Command). greatest_on (length l) past) (sym stays.learned);
+  up_to = subst (λ (l : List Command). AreUpTo (length l) past) (sym stays.learned) is.up_to;
 })
 
 module _ (m new : Memory) (past : List Ending) (is : Accounts m past) where
@@ -114,49 +124,65 @@ module _ (m new : Memory) (past : List Ending) (is : Accounts m past) where
         up_to = subst (λ (n : ℕ). AreUpTo n (past ++ x ∷ [])) (sym long) (up_to_next (length m.learned) (past ++ x ∷ []) both);
       }
 
--- what holds of either memory holds of the one that is chosen
-on_either : (b : Bool) (x y : Memory) (P : Memory → Type 0) → (b ≡ true → P x) → (b ≡ false → P y) → P (if b then x else y)
-on_either true x y P first second = first refl
-on_either false x y P first second = second refl
+module _ (m : Memory) where
+  still : Stays m m
+  still = record { learned = refl; floor = refl; readings = refl }
 
--- the next slot is tried, or there is none: nothing else changes
-learned_on : (c : Shape) (m : Memory) (operation : Operation) (tries : ℕ) → (goes_on c m operation tries).learned ≡ m.learned
-learned_on c m operation tries =
-    on_either (nat_lt (length m.learned) c.slots) (begins m operation tries) (says m (full_answer operation (length m.learned))) (λ k. k.learned ≡ m.learned) (λ e. refl) (λ e. refl)
+  says_so : (said : HostAnswer) → Stays m (says m said)
+  says_so said = record { learned = refl; floor = refl; readings = refl }
 
-floor_on : (c : Shape) (m : Memory) (operation : Operation) (tries : ℕ) → (goes_on c m operation tries).floor ≡ m.floor
-floor_on c m operation tries =
-    on_either (nat_lt (length m.learned) c.slots) (begins m operation tries) (says m (full_answer operation (length m.learned))) (λ k. k.floor ≡ m.floor) (λ e. refl) (λ e. refl)
+  does_so : (doing : Doing) → Stays m (does m doing)
+  does_so doing = record { learned = refl; floor = refl; readings = refl }
 
-learned_again : (m : Memory) (operation : Operation) (tries : ℕ) → (tries_again m operation tries).learned ≡ m.learned
-learned_again m operation tries = on_either (nat_le tries 1) (says m (Refused refusal.Outrun)) (begins m operation (tries - 1)) (λ k. k.learned ≡ m.learned) (λ e. refl) (λ e. refl)
+  -- the next slot is tried or looked at, or there is none
+  goes_so : (c : Shape) (operation : Operation) (tries : ℕ) → Stays m (goes_on c m operation tries)
+  goes_so c operation tries =
+      on_either (nat_lt (length m.learned) c.slots) (begins m operation tries) (says m (full_answer operation (length m.learned))) (Stays m)
+      (λ e. does_so (Attempts (record { operation = operation; tries = tries; heard = [] }))) (λ e. says_so (full_answer operation (length m.learned)))
 
-floor_again : (m : Memory) (operation : Operation) (tries : ℕ) → (tries_again m operation tries).floor ≡ m.floor
-floor_again m operation tries = on_either (nat_le tries 1) (says m (Refused refusal.Outrun)) (begins m operation (tries - 1)) (λ k. k.floor ≡ m.floor) (λ e. refl) (λ e. refl)
+  again_so : (operation : Operation) (tries : ℕ) → Stays m (tries_again m operation tries)
+  again_so operation tries =
+      on_either (nat_le tries 1) (says m (Refused refusal.Outrun)) (begins m operation (tries - 1)) (Stays m)
+      (λ e. says_so (Refused refusal.Outrun)) (λ e. does_so (Attempts (record { operation = operation; tries = tries - 1; heard = [] })))
 
--- so it is where the next slot is looked at
-looked_learned : (c : Shape) (m : Memory) (first : ℕ) → (looks_on c m first).learned ≡ m.learned
-looked_learned c m first =
-    on_either (nat_lt (length m.learned) c.slots) (with_looking m (Some (record { first = first; heard = [] })) None) (with_looking m None (Some (Looked (length m.learned)))) (λ k. k.learned ≡ m.learned) (λ e. refl) (λ e. refl)
+  looks_so : (c : Shape) (first : ℕ) → Stays m (looks_on c m first)
+  looks_so c first =
+      on_either (nat_lt (length m.learned) c.slots) (does m (Looks (record { first = first; heard = [] }))) (says m (Looked (length m.learned))) (Stays m)
+      (λ e. does_so (Looks (record { first = first; heard = [] }))) (λ e. says_so (Looked (length m.learned)))
 
-looked_floor : (c : Shape) (m : Memory) (first : ℕ) → (looks_on c m first).floor ≡ m.floor
-looked_floor c m first =
-    on_either (nat_lt (length m.learned) c.slots) (with_looking m (Some (record { first = first; heard = [] })) None) (with_looking m None (Some (Looked (length m.learned)))) (λ k. k.floor ≡ m.floor) (λ e. refl) (λ e. refl)
+  marks_so : (slot : ℕ) → Stays m (starts_marking m slot)
+  marks_so slot =
+      on_either (nat_lt slot (length m.learned)) (does m (Marks (record { slot = slot; heard = [] }))) (says m (Refused refusal.NotLearned)) (Stays m)
+      (λ e. does_so (Marks (record { slot = slot; heard = [] }))) (λ e. says_so (Refused refusal.NotLearned))
+
+  -- so it is where a task begins
+  begins_so : (c : Shape) (task : Task) → Stays m (starts c m task)
+  begins_so c (Submit command tries) = goes_so c (Submitting command) tries
+  begins_so c (Recover tries) = goes_so c Recovering tries
+  begins_so c Look = looks_so c 0
+  begins_so c Beat = does_so (Beats [])
+  begins_so c (Mark slot) = marks_so slot
+
+  -- and where a marking goes on, or ends
+  marking_so : (t : Marking) (st : mark.Status) → Stays m (marking_by m t st)
+  marking_so t (mark.Due disk) = does_so (Marks t)
+  marking_so t (mark.Ended (mark.Marked count)) = says_so (Marked count)
+  marking_so t (mark.Ended mark.NoMajority) = says_so (Refused refusal.NoMajority)
 
 module _ (c : Shape) (h : ℕ) (m : Memory) (past : List Ending) (is : Accounts m past) where
-  learning : (t : Doing) (ballot : ℕ) (end : End) (command : Command) → committed_by end ≡ command ∷ [] → (b : Bool)
+  learning : (t : Attempt) (ballot : ℕ) (end : End) (command : Command) → committed_by end ≡ command ∷ [] → (b : Bool)
       → Accounts (after_learning c m t command b) (past ++ record { slot = length m.learned; ballot = ballot; end = end } ∷ [])
   learning t ballot end command told true = learns_one m (after_learning c m t command true) past is ballot end command told refl refl
   learning t ballot end command told false =
-      let m' : Memory = record { learned = m.learned ++ command ∷ []; floor = 0; doing = None; said = None; beats = m.beats; marking = m.marking; looking = m.looking } in
-      learns_one m (after_learning c m t command false) past is ballot end command told (learned_on c m' t.operation t.tries) (floor_on c m' t.operation t.tries)
+      let stays = goes_so (learns m command) c t.operation t.tries in
+      learns_one m (after_learning c m t command false) past is ballot end command told stays.learned stays.floor
 
-  taking : (t : Doing) (ballot : ℕ) (value : List ℕ) (end : End) → outran end ≡ 0 → (read : Option Command) → committed_by end ≡ read_as read
+  taking : (t : Attempt) (ballot : ℕ) (value : List ℕ) (end : End) → outran end ≡ 0 → (read : Option Command) → committed_by end ≡ read_as read
       → Accounts (takes c m t ballot value read) (past ++ record { slot = length m.learned; ballot = ballot; end = end } ∷ [])
   taking t ballot value end calm None told = counts m (takes c m t ballot value None) past is ballot end told refl (omega (arith, calm))
   taking t ballot value end calm (Some command) told = learning t ballot end command told (is_submitted t.operation value)
 
-  ending : (t : Doing) (ballot : ℕ) (end : End) → Accounts (ended c m t ballot end) (past ++ record { slot = length m.learned; ballot = ballot; end = end } ∷ [])
+  ending : (t : Attempt) (ballot : ℕ) (end : End) → Accounts (ended c m t ballot end) (past ++ record { slot = length m.learned; ballot = ballot; end = end } ∷ [])
   ending t ballot (attempt.Committed value) = taking t ballot value (attempt.Committed value) refl (decoded value) refl
   ending t ballot (attempt.Decided value) = taking t ballot value (attempt.Decided value) refl (decoded value) refl
   ending t ballot attempt.Empty = counts m (ended c m t ballot attempt.Empty) past is ballot attempt.Empty refl refl (omega arith)
@@ -165,85 +191,58 @@ module _ (c : Shape) (h : ℕ) (m : Memory) (past : List Ending) (is : Accounts 
   ending t ballot (attempt.Outrun mbal) =
       let m' = with_floor (with_floor m ballot) mbal in
       let same : max (max m.floor ballot) mbal ≡ max m.floor (max ballot mbal) = omega arith in
-      counts m (ended c m t ballot (attempt.Outrun mbal)) past is ballot (attempt.Outrun mbal) refl (learned_again m' t.operation t.tries) (floor_again m' t.operation t.tries ∙ same)
+      let stays = again_so m' t.operation t.tries in
+      counts m (ended c m t ballot (attempt.Outrun mbal)) past is ballot (attempt.Outrun mbal) refl stays.learned (stays.floor ∙ same)
 
-  by_ending : (t : Doing) (s : Setup) (heard : List Answered) → s.slot ≡ length m.learned → (st : Status) → Accounts (by_status c m t (taken s (on heard)) st) (past ++ ending_by s heard st)
-  by_ending t s heard slot (Due phase d) = same_account m (by_status c m t (taken s (on heard)) (Due phase d)) past refl refl is
+  by_ending : (t : Attempt) (s : Setup) (heard : List Answered) → s.slot ≡ length m.learned → (st : Status) → Accounts (by_status c m t (taken s (on heard)) st) (past ++ ending_by s heard st)
+  by_ending t s heard slot (Due phase d) = same_account m (does m (Attempts t)) past (does_so m (Attempts t)) is
   by_ending t s heard slot (Ended end) =
       subst (λ (n : ℕ). Accounts (ended c m t (taken s (on heard)) end) (past ++ record { slot = n; ballot = taken s (on heard); end = end } ∷ [])) (sym slot) (ending t (taken s (on heard)) end)
 
   by_beat : (heard : List beat_answers.Answered) (st : beat.Status) → Accounts (beat_by h m heard st) (past ++ [])
-  by_beat heard (beat.Due disk) = same_account m (beat_by h m heard (beat.Due disk)) past refl refl is
-  by_beat heard (beat.Ended (beat.Beaten readings)) = same_account m (beat_by h m heard (beat.Ended (beat.Beaten readings))) past refl refl is
-  by_beat heard (beat.Ended beat.NoMajority) = same_account m (beat_by h m heard (beat.Ended beat.NoMajority)) past refl refl is
+  by_beat heard (beat.Due disk) = same_account m (does m (Beats heard)) past (does_so m (Beats heard)) is
+  by_beat heard (beat.Ended (beat.Beaten readings)) = subst (Accounts (beat_by h m heard (beat.Ended (beat.Beaten readings)))) (sym (append-nil past)) (record { learned = is.learned; floor = is.floor; up_to = is.up_to })
+  by_beat heard (beat.Ended beat.NoMajority) = same_account m (says m (Refused refusal.NoMajority)) past (says_so m (Refused refusal.NoMajority)) is
 
-  beating : (o : Option (List beat_answers.Answered)) (x : beat_answers.Answered) → Accounts (hears_beat c h m o x) (past ++ [])
-  beating None x = same_account m m past refl refl is
-  beating (Some heard) x = by_beat (heard ++ x ∷ []) (beat.status (beat_of c h) (beat_answers.on (heard ++ x ∷ [])))
-
-  by_marking : (t : Marking) (st : mark.Status) → Accounts (marking_by m t st) (past ++ [])
-  by_marking t (mark.Due disk) = same_account m (marking_by m t (mark.Due disk)) past refl refl is
-  by_marking t (mark.Ended (mark.Marked count)) = same_account m (marking_by m t (mark.Ended (mark.Marked count))) past refl refl is
-  by_marking t (mark.Ended mark.NoMajority) = same_account m (marking_by m t (mark.Ended mark.NoMajority)) past refl refl is
-
-  marking : (o : Option Marking) (x : Answered) → Accounts (hears_marking c h m o x) (past ++ [])
-  marking None x = same_account m m past refl refl is
-  marking (Some t) x = by_marking (marking_with t x) (mark.status (marking_of c h m t.slot) (on (marking_with t x).heard))
-
-  -- a look that goes on, or ends untold
-  looked : (looking : Option Looking) (said : Option HostAnswer) → Accounts (with_looking m looking said) (past ++ [])
-  looked looking said = same_account m (with_looking m looking said) past refl refl is
-
-  -- one that is told what a mark says
+  -- a look that is told what a mark says
   told_one : (d : ℕ) (value : List ℕ) (read : Option Command) → committed_by (attempt.Decided value) ≡ read_as read
       → Accounts (takes_marked c m d read) (past ++ record { slot = length m.learned; ballot = 0; end = attempt.Decided value } ∷ [])
   told_one d value None told = counts m (takes_marked c m d None) past is 0 (attempt.Decided value) told refl (omega arith)
   told_one d value (Some command) told =
-      learns_one m (takes_marked c m d (Some command)) past is 0 (attempt.Decided value) command told (looked_learned c (learns m command) d) (looked_floor c (learns m command) d)
+      let stays = looks_so (learns m command) c d in
+      learns_one m (takes_marked c m d (Some command)) past is 0 (attempt.Decided value) command told stays.learned stays.floor
 
   by_look : (t : Looking) (st : look.Status) → Accounts (look_by c m t st) (past ++ told_by (look_of c m t.first) st)
-  by_look t (look.Due disk) = looked (Some t) None
+  by_look t (look.Due disk) = same_account m (does m (Looks t)) past (does_so m (Looks t)) is
   by_look t (look.Ended (look.Decided disk value)) = told_one disk value (decoded value) refl
-  by_look t (look.Ended look.Unmarked) = looked None (Some (Looked (length m.learned)))
-  by_look t (look.Ended look.NoMajority) = looked None (Some (Refused refusal.NoMajority))
-
-  looking_at : (o : Option Looking) (x : Answered) → Accounts (hears_look c m o x) (past ++ told_in c m o x)
-  looking_at None x = same_account m m past refl refl is
-  looking_at (Some t) x = by_look (looking_with t x) (look.status (look_of c m t.first) (on (looking_with t x).heard))
-
-  apart : (o : Option Marking) (x : Answered) → Accounts (hears_apart c h m o x) (past ++ told_apart c m o x)
-  apart None x = looking_at m.looking x
-  apart (Some t) x = marking (Some t) x
-
-  beside : (o : Option (List beat_answers.Answered)) (d : ℕ) (answer : Answer) → Accounts (hears_beside c h m o d answer) (past ++ told_beside c m o (record { disk = d; heard = heard_as answer }))
-  beside None d answer = apart m.marking (record { disk = d; heard = heard_as answer })
-  beside (Some heard) d answer = beating (Some heard) (record { disk = d; heard = beat_answers.heard_as answer })
+  by_look t (look.Ended look.Unmarked) = same_account m (says m (Looked (length m.learned))) past (says_so m (Looked (length m.learned))) is
+  by_look t (look.Ended look.NoMajority) = same_account m (says m (Refused refusal.NoMajority)) past (says_so m (Refused refusal.NoMajority)) is
 
   hearing : (o : Option Doing) (d : ℕ) (answer : Answer) → Accounts (hears_from c h m o d answer) (past ++ ending_in c h m o (record { disk = d; heard = heard_as answer }))
-  hearing None d answer = beside m.beats.heard d answer
-  hearing (Some t) d answer =
-      let x : Answered = record { disk = d; heard = heard_as answer } in
+  hearing None d answer = same_account m m past (still m) is
+  hearing (Some (Attempts t)) d answer =
+      let more = with_heard t (record { disk = d; heard = heard_as answer }) in
       let s = setup_of c h m t.operation in
-      by_ending (with_heard t x) s (with_heard t x).heard refl (status s (on (with_heard t x).heard))
+      by_ending more s more.heard refl (status s (on more.heard))
+  hearing (Some (Looks t)) d answer = let more = looking_with t (record { disk = d; heard = heard_as answer }) in by_look more (look.status (look_of c m t.first) (on more.heard))
+  hearing (Some (Beats heard)) d answer =
+      let more = heard ++ record { disk = d; heard = beat_answers.heard_as answer } ∷ [] in by_beat more (beat.status (beat_of c h) (beat_answers.on more))
+  hearing (Some (Marks t)) d answer =
+      let more = marking_with t (record { disk = d; heard = heard_as answer }) in
+      let st = mark.status (marking_of c h m t.slot) (on more.heard) in
+      same_account m (marking_by m more st) past (marking_so m more st) is
 
 -- each entry by which the host does not stop
 one_accounts : (c : Shape) (h : ℕ) (host : Host) (past : List Ending) (e : Filled) → GoesOn e → AccountsAt host past → AccountsAt (host_step c h host e) (past ++ ending_at c h host e)
 one_accounts c h Stopped past e on is = absurd is
-one_accounts c h (Running m) past (entries.Start g) on is = same_account m m past refl refl is
+one_accounts c h (Running m) past (entries.Start g) on is = same_account m m past (still m) is
 one_accounts c h (Running m) past (entries.Stop g) on is = absurd on
-one_accounts c h (Running m) past (entries.Submit g command tries) on is =
-    same_account m (goes_on c m (Submitting command) tries) past (learned_on c m (Submitting command) tries) (floor_on c m (Submitting command) tries) is
-one_accounts c h (Running m) past (entries.Recover g tries) on is = same_account m (goes_on c m Recovering tries) past (learned_on c m Recovering tries) (floor_on c m Recovering tries) is
-one_accounts c h (Running m) past (entries.Look g) on is = same_account m (starts_look c m) past (looked_learned c m 0) (looked_floor c m 0) is
-one_accounts c h (Running m) past (entries.Beat g) on is = same_account m _ past refl refl is
-one_accounts c h (Running m) past (entries.Mark g slot) on is =
-    on_either (nat_lt slot (length m.learned)) (with_marking m (Some (record { slot = slot; heard = [] })) None) (with_marking m m.marking (Some (Refused refusal.NotLearned))) (λ n. Accounts n (past ++ []))
-    (λ e. same_account m _ past refl refl is) (λ e. same_account m _ past refl refl is)
+one_accounts c h (Running m) past (entries.Begin g task) on is = same_account m (starts c m task) past (begins_so m c task) is
 one_accounts c h (Running m) past (Called g d call answer left) on is = hearing c h m past is m.doing d answer
 one_accounts c h (Running m) past (Torn g d call left) on is = absurd on
-one_accounts c h (Running m) past (Crashed d left) on is = same_account m m past refl refl is
-one_accounts c h (Running m) past (Lost d) on is = same_account m m past refl refl is
-one_accounts c h (Running m) past (Migrated disks log) on is = same_account m m past refl refl is
+one_accounts c h (Running m) past (Crashed d left) on is = same_account m m past (still m) is
+one_accounts c h (Running m) past (Lost d) on is = same_account m m past (still m) is
+one_accounts c h (Running m) past (Migrated disks log) on is = same_account m m past (still m) is
 
 all_account : (c : Shape) (h : ℕ) (es : List Filled) (host : Host) (past : List Ending) → AllGoOn es → AccountsAt host past → AccountsAt (host_after c h host es) (past ++ endings c h host es)
 all_account c h [] host past on is = subst (AccountsAt host) (sym (append-nil past)) is
@@ -273,99 +272,38 @@ last_more : (xs ys : List beat.End) → last_read (xs ++ ys) ≡ option_or (last
 last_more [] ys = sym (or_none (last_read ys))
 last_more (x ∷ xs) ys = ap (λ (o : Option Readings). option_or o (read_by x)) (last_more xs ys) ∙ or_or (last_read ys) (last_read xs) (read_by x)
 
--- an operation leaves them
-beats_on : (c : Shape) (m : Memory) (operation : Operation) (tries : ℕ) → (goes_on c m operation tries).beats ≡ m.beats
-beats_on c m operation tries =
-    on_either (nat_lt (length m.learned) c.slots) (begins m operation tries) (says m (full_answer operation (length m.learned))) (λ k. k.beats ≡ m.beats) (λ e. refl) (λ e. refl)
-
-beats_again : (m : Memory) (operation : Operation) (tries : ℕ) → (tries_again m operation tries).beats ≡ m.beats
-beats_again m operation tries = on_either (nat_le tries 1) (says m (Refused refusal.Outrun)) (begins m operation (tries - 1)) (λ k. k.beats ≡ m.beats) (λ e. refl) (λ e. refl)
-
-module _ (c : Shape) (m : Memory) (t : Doing) (ballot : ℕ) where
-  beats_learning : (command : Command) (b : Bool) → (after_learning c m t command b).beats ≡ m.beats
-  beats_learning command true = refl
-  beats_learning command false = beats_on c (learns m command) t.operation t.tries
-
-  beats_taking : (value : List ℕ) (read : Option Command) → (takes c m t ballot value read).beats ≡ m.beats
-  beats_taking value None = refl
-  beats_taking value (Some command) = beats_learning command (is_submitted t.operation value)
-
-  beats_by : (st : Status) → (by_status c m t ballot st).beats ≡ m.beats
-  beats_by (Due phase d) = refl
-  beats_by (Ended (attempt.Committed value)) = beats_taking value (decoded value)
-  beats_by (Ended (attempt.Decided value)) = beats_taking value (decoded value)
-  beats_by (Ended attempt.Empty) = refl
-  beats_by (Ended (attempt.Outrun mbal)) = beats_again (with_floor (with_floor m ballot) mbal) t.operation t.tries
-  beats_by (Ended attempt.NoMajority) = refl
-  beats_by (Ended attempt.BallotsSpent) = refl
-
--- a marking leaves them
-beats_marked : (m : Memory) (t : Marking) (st : mark.Status) → (marking_by m t st).beats ≡ m.beats
-beats_marked m t (mark.Due disk) = refl
-beats_marked m t (mark.Ended (mark.Marked count)) = refl
-beats_marked m t (mark.Ended mark.NoMajority) = refl
-
-beats_marking : (c : Shape) (h : ℕ) (m : Memory) (o : Option Marking) (x : Answered) → (hears_marking c h m o x).beats ≡ m.beats
-beats_marking c h m None x = refl
-beats_marking c h m (Some t) x = let more = marking_with t x in beats_marked m more (mark.status (marking_of c h m t.slot) (on more.heard))
-
--- and so does a look
-beats_looked : (c : Shape) (m : Memory) (first : ℕ) → (looks_on c m first).beats ≡ m.beats
-beats_looked c m first =
-    on_either (nat_lt (length m.learned) c.slots) (with_looking m (Some (record { first = first; heard = [] })) None) (with_looking m None (Some (Looked (length m.learned)))) (λ k. k.beats ≡ m.beats) (λ e. refl) (λ e. refl)
-
-beats_told : (c : Shape) (m : Memory) (d : ℕ) (read : Option Command) → (takes_marked c m d read).beats ≡ m.beats
-beats_told c m d None = refl
-beats_told c m d (Some command) = beats_looked c (learns m command) d
-
-beats_look_by : (c : Shape) (m : Memory) (t : Looking) (st : look.Status) → (look_by c m t st).beats ≡ m.beats
-beats_look_by c m t (look.Due disk) = refl
-beats_look_by c m t (look.Ended (look.Decided disk value)) = beats_told c m disk (decoded value)
-beats_look_by c m t (look.Ended look.Unmarked) = refl
-beats_look_by c m t (look.Ended look.NoMajority) = refl
-
-beats_look : (c : Shape) (m : Memory) (o : Option Looking) (x : Answered) → (hears_look c m o x).beats ≡ m.beats
-beats_look c m None x = refl
-beats_look c m (Some t) x = let more = looking_with t x in beats_look_by c m more (look.status (look_of c m t.first) (on more.heard))
-
-beats_apart : (c : Shape) (h : ℕ) (m : Memory) (o : Option Marking) (x : Answered) → (hears_apart c h m o x).beats ≡ m.beats
-beats_apart c h m None x = beats_look c m m.looking x
-beats_apart c h m (Some t) x = beats_marking c h m (Some t) x
-
-beats_starting : (m : Memory) (slot : ℕ) → (starts_marking m slot).beats ≡ m.beats
-beats_starting m slot =
-    on_either (nat_lt slot (length m.learned)) (with_marking m (Some (record { slot = slot; heard = [] })) None) (with_marking m m.marking (Some (Refused refusal.NotLearned))) (λ k. k.beats ≡ m.beats) (λ e. refl) (λ e. refl)
-
--- a beat that ends well leaves its own
+-- a beat that ends well leaves its own, and nothing else changes them
 module _ (c : Shape) (h : ℕ) (m : Memory) where
-  read_by_status : (heard : List beat_answers.Answered) (st : beat.Status) → (beat_by h m heard st).beats.readings ≡ option_or (last_read (beat_ended_by st)) m.beats.readings
-  read_by_status heard (beat.Due disk) = refl
-  read_by_status heard (beat.Ended (beat.Beaten readings)) = refl
-  read_by_status heard (beat.Ended beat.NoMajority) = refl
+  read_by_beat : (heard : List beat_answers.Answered) (st : beat.Status) → (beat_by h m heard st).readings ≡ option_or (last_read (beat_ended_by st)) m.readings
+  read_by_beat heard (beat.Due disk) = refl
+  read_by_beat heard (beat.Ended (beat.Beaten readings)) = refl
+  read_by_beat heard (beat.Ended beat.NoMajority) = refl
 
-  read_beside : (o : Option (List beat_answers.Answered)) (d : ℕ) (answer : Answer)
-      → (hears_beside c h m o d answer).beats.readings ≡ option_or (last_read (beat_ended_in c h None o (record { disk = d; heard = beat_answers.heard_as answer }))) m.beats.readings
-  read_beside None d answer = ap (λ (b : Beats). b.readings) (beats_apart c h m m.marking (record { disk = d; heard = heard_as answer }))
-  read_beside (Some heard) d answer =
-      let all = heard ++ record { disk = d; heard = beat_answers.heard_as answer } ∷ [] in read_by_status all (beat.status (beat_of c h) (beat_answers.on all))
+  read_told : (d : ℕ) (read : Option Command) → (takes_marked c m d read).readings ≡ m.readings
+  read_told d None = refl
+  read_told d (Some command) = (looks_so (learns m command) c d).readings
+
+  read_by_look : (t : Looking) (st : look.Status) → (look_by c m t st).readings ≡ m.readings
+  read_by_look t (look.Due disk) = refl
+  read_by_look t (look.Ended (look.Decided disk value)) = read_told disk (decoded value)
+  read_by_look t (look.Ended look.Unmarked) = refl
+  read_by_look t (look.Ended look.NoMajority) = refl
 
   read_hearing : (o : Option Doing) (d : ℕ) (answer : Answer)
-      → (hears_from c h m o d answer).beats.readings ≡ option_or (last_read (beat_ended_in c h o m.beats.heard (record { disk = d; heard = beat_answers.heard_as answer }))) m.beats.readings
-  read_hearing None d answer = read_beside m.beats.heard d answer
-  read_hearing (Some t) d answer =
-      let going = with_heard t (record { disk = d; heard = heard_as answer }) in
-      let s = setup_of c h m t.operation in
-      ap (λ (b : Beats). b.readings) (beats_by c m going (taken s (on going.heard)) (status s (on going.heard)))
+      → (hears_from c h m o d answer).readings ≡ option_or (last_read (beat_ended_in c h o (record { disk = d; heard = beat_answers.heard_as answer }))) m.readings
+  read_hearing None d answer = refl
+  read_hearing (Some (Attempts t)) d answer = (operating-hears c h m t (record { disk = d; heard = heard_as answer })).readings
+  read_hearing (Some (Looks t)) d answer = let more = looking_with t (record { disk = d; heard = heard_as answer }) in read_by_look more (look.status (look_of c m t.first) (on more.heard))
+  read_hearing (Some (Beats heard)) d answer =
+      let more = heard ++ record { disk = d; heard = beat_answers.heard_as answer } ∷ [] in read_by_beat more (beat.status (beat_of c h) (beat_answers.on more))
+  read_hearing (Some (Marks t)) d answer =
+      let more = marking_with t (record { disk = d; heard = heard_as answer }) in (marking_so m more (mark.status (marking_of c h m t.slot) (on more.heard))).readings
 
 -- each entry by which the host does not stop
 one_read : (c : Shape) (h : ℕ) (host : Host) (e : Filled) → GoesOn e → readings_of (host_step c h host e) ≡ option_or (last_read (beat_ended_at c h host e)) (readings_of host)
 one_read c h Stopped (entries.Start g) on = refl
 one_read c h Stopped (entries.Stop g) on = refl
-one_read c h Stopped (entries.Submit g command tries) on = refl
-one_read c h Stopped (entries.Recover g tries) on = refl
-one_read c h Stopped (entries.Look g) on = refl
-one_read c h Stopped (entries.Beat g) on = refl
-one_read c h Stopped (entries.Mark g slot) on = refl
+one_read c h Stopped (entries.Begin g task) on = refl
 one_read c h Stopped (Called g d call answer left) on = refl
 one_read c h Stopped (Torn g d call left) on = refl
 one_read c h Stopped (Crashed d left) on = refl
@@ -373,11 +311,7 @@ one_read c h Stopped (Lost d) on = refl
 one_read c h Stopped (Migrated disks log) on = refl
 one_read c h (Running m) (entries.Start g) on = refl
 one_read c h (Running m) (entries.Stop g) on = absurd on
-one_read c h (Running m) (entries.Submit g command tries) on = ap (λ (b : Beats). b.readings) (beats_on c m (Submitting command) tries)
-one_read c h (Running m) (entries.Recover g tries) on = ap (λ (b : Beats). b.readings) (beats_on c m Recovering tries)
-one_read c h (Running m) (entries.Look g) on = ap (λ (b : Beats). b.readings) (beats_looked c m 0)
-one_read c h (Running m) (entries.Beat g) on = refl
-one_read c h (Running m) (entries.Mark g slot) on = ap (λ (b : Beats). b.readings) (beats_starting m slot)
+one_read c h (Running m) (entries.Begin g task) on = (begins_so m c task).readings
 one_read c h (Running m) (Called g d call answer left) on = read_hearing c h m m.doing d answer
 one_read c h (Running m) (Torn g d call left) on = absurd on
 one_read c h (Running m) (Crashed d left) on = refl
@@ -403,17 +337,12 @@ accounts_for c h since on =
 
 -- so many attempts of an operation were outrun: its tries and these make all that it began with; or it has ended, by the last of them
 abbrev IsTried : ℕ → Option Doing → Option HostAnswer → ℕ → Type 0
-IsTried tries (Some t) said n = (t.tries + n ≡ tries) × (1 ≤ t.tries) × (said ≡ None)
 IsTried tries None said n = (n ≤ tries) × ((said ≡ Some (Refused refusal.Outrun)) ↔ (n ≡ tries))
-
--- and no beat, marking or look is under way
-record AreResting (heard : Option (List beat_answers.Answered)) (marking : Option Marking) (looking : Option Looking) : Type 0 where
-  beat : heard ≡ None
-  mark : marking ≡ None
-  look : looking ≡ None
+IsTried tries (Some (Attempts t)) said n = (t.tries + n ≡ tries) × (1 ≤ t.tries) × (said ≡ None)
+IsTried tries (Some other) said n = ⊥
 
 abbrev Tried : ℕ → Memory → ℕ → Type 0
-Tried tries m n = IsTried tries m.doing m.said n × AreResting m.beats.heard m.marking m.looking
+Tried tries m n = IsTried tries m.doing m.said n
 
 abbrev TriedAt : ℕ → Host → ℕ → Type 0
 TriedAt tries Stopped n = ⊥
@@ -427,63 +356,50 @@ not_full : (operation : Operation) (learned : ℕ) → Some (full_answer operati
 not_full (Submitting command) learned is = cc
 not_full Recovering learned is = cc
 
-tried_on : (c : Shape) (m : Memory) (operation : Operation) (k tries n : ℕ) → k + n ≡ tries → 1 ≤ k → AreResting m.beats.heard m.marking m.looking → Tried tries (goes_on c m operation k) n
-tried_on c m operation k tries n all some rest =
+tried_on : (c : Shape) (m : Memory) (operation : Operation) (k tries n : ℕ) → k + n ≡ tries → 1 ≤ k → Tried tries (goes_on c m operation k) n
+tried_on c m operation k tries n all some =
     on_either (nat_lt (length m.learned) c.slots) (begins m operation k) (says m (full_answer operation (length m.learned))) (λ x. Tried tries x n)
-    (λ e. ((all, some, refl), rest))
-    (λ e. (ends_so tries n (full_answer operation (length m.learned)) (omega arith) (not_full operation (length m.learned)), rest))
+    (λ e. (all, some, refl))
+    (λ e. ends_so tries n (full_answer operation (length m.learned)) (omega arith) (not_full operation (length m.learned)))
 
-module _ (c : Shape) (h tries : ℕ) (m : Memory) (t : Doing) (n : ℕ) (all : t.tries + n ≡ tries) (some : 1 ≤ t.tries) (rest : AreResting m.beats.heard m.marking m.looking) where
+module _ (c : Shape) (tries : ℕ) (m : Memory) (t : Attempt) (n : ℕ) (all : t.tries + n ≡ tries) (some : 1 ≤ t.tries) where
   tries_left : n < tries
   tries_left = omega (arith, all, some)
 
   tried_learning : (command : Command) (b : Bool) → Tried tries (after_learning c m t command b) n
-  tried_learning command true = (ends_so tries n _ tries_left (λ is. cc), rest)
-  tried_learning command false = tried_on c (record { learned = m.learned ++ command ∷ []; floor = 0; doing = None; said = None; beats = m.beats; marking = m.marking; looking = m.looking }) t.operation t.tries tries n all some rest
+  tried_learning command true = ends_so tries n _ tries_left (λ is. cc)
+  tried_learning command false = tried_on c (learns m command) t.operation t.tries tries n all some
 
   tried_taking : (ballot : ℕ) (value : List ℕ) (read : Option Command) → Tried tries (takes c m t ballot value read) n
-  tried_taking ballot value None = (ends_so tries n _ tries_left (λ is. cc), rest)
+  tried_taking ballot value None = ends_so tries n _ tries_left (λ is. cc)
   tried_taking ballot value (Some command) = tried_learning command (is_submitted t.operation value)
 
-  tried_again : (m' : Memory) → AreResting m'.beats.heard m'.marking m'.looking → Tried tries (tries_again m' t.operation t.tries) (n + 1)
-  tried_again m' rest' =
+  tried_again : (m' : Memory) → Tried tries (tries_again m' t.operation t.tries) (n + 1)
+  tried_again m' =
       on_either (nat_le t.tries 1) (says m' (Refused refusal.Outrun)) (begins m' t.operation (t.tries - 1)) (λ x. Tried tries x (n + 1))
-      (λ last. let one : t.tries ≤ 1 = leb-true t.tries 1 last in ((omega (arith, all, some), (λ is. omega (arith, all, some, one), λ is. refl)), rest'))
-      (λ more. let two : 1 < t.tries = leb-false t.tries 1 more in ((omega (arith, all, two), omega (arith, two), refl), rest'))
+      (λ last. let one : t.tries ≤ 1 = leb-true t.tries 1 last in (omega (arith, all, some), (λ is. omega (arith, all, some, one), λ is. refl)))
+      (λ more. let two : 1 < t.tries = leb-false t.tries 1 more in (omega (arith, all, two), omega (arith, two), refl))
 
   tried_ending : (ballot : ℕ) (end : End) → Tried tries (ended c m t ballot end) (n + (one_if_outrun end + 0))
   tried_ending ballot (attempt.Committed value) = subst (Tried tries (ended c m t ballot (attempt.Committed value))) (omega arith) (tried_taking ballot value (decoded value))
   tried_ending ballot (attempt.Decided value) = subst (Tried tries (ended c m t ballot (attempt.Decided value))) (omega arith) (tried_taking ballot value (decoded value))
-  tried_ending ballot attempt.Empty = subst (Tried tries (ended c m t ballot attempt.Empty)) (omega arith) (ends_so tries n _ tries_left (λ is. cc), rest)
-  tried_ending ballot attempt.NoMajority = subst (Tried tries (ended c m t ballot attempt.NoMajority)) (omega arith) (ends_so tries n _ tries_left (λ is. cc), rest)
-  tried_ending ballot attempt.BallotsSpent = subst (Tried tries (ended c m t ballot attempt.BallotsSpent)) (omega arith) (ends_so tries n _ tries_left (λ is. cc), rest)
-  tried_ending ballot (attempt.Outrun mbal) = subst (Tried tries (ended c m t ballot (attempt.Outrun mbal))) (omega arith) (tried_again (with_floor (with_floor m ballot) mbal) rest)
+  tried_ending ballot attempt.Empty = subst (Tried tries (ended c m t ballot attempt.Empty)) (omega arith) (ends_so tries n _ tries_left (λ is. cc))
+  tried_ending ballot attempt.NoMajority = subst (Tried tries (ended c m t ballot attempt.NoMajority)) (omega arith) (ends_so tries n _ tries_left (λ is. cc))
+  tried_ending ballot attempt.BallotsSpent = subst (Tried tries (ended c m t ballot attempt.BallotsSpent)) (omega arith) (ends_so tries n _ tries_left (λ is. cc))
+  tried_ending ballot (attempt.Outrun mbal) = subst (Tried tries (ended c m t ballot (attempt.Outrun mbal))) (omega arith) (tried_again (with_floor (with_floor m ballot) mbal))
 
   tried_status : (s : Setup) (heard : List Answered) (st : Status) → Tried tries (by_status c m t (taken s (on heard)) st) (n + outruns (ending_by s heard st))
-  tried_status s heard (Due phase d) = subst (Tried tries (by_status c m t (taken s (on heard)) (Due phase d))) (omega arith) ((all, some, refl), rest)
+  tried_status s heard (Due phase d) = subst (Tried tries (by_status c m t (taken s (on heard)) (Due phase d))) (omega arith) (all, some, refl)
   tried_status s heard (Ended end) = tried_ending (taken s (on heard)) end
 
-tried_unlooked : (c : Shape) (tries : ℕ) (m : Memory) (n : ℕ) (o : Option Looking) (x : Answered) → o ≡ None → Tried tries m n → Tried tries (hears_look c m o x) (n + outruns (told_in c m o x))
-tried_unlooked c tries m n None x rest is = subst (Tried tries m) (omega arith) is
-tried_unlooked c tries m n (Some t) x rest is = absurd (cc)
-
-tried_unmarked : (c : Shape) (h tries : ℕ) (m : Memory) (n : ℕ) (o : Option Marking) (x : Answered) → o ≡ None → m.looking ≡ None → Tried tries m n → Tried tries (hears_apart c h m o x) (n + outruns (told_apart c m o x))
-tried_unmarked c h tries m n None x rest unlooked is = tried_unlooked c tries m n m.looking x unlooked is
-tried_unmarked c h tries m n (Some t) x rest unlooked is = absurd (cc)
-
-tried_idle : (c : Shape) (h tries : ℕ) (m : Memory) (n : ℕ) (o : Option (List beat_answers.Answered)) (d : ℕ) (answer : Answer) → o ≡ None → m.marking ≡ None → m.looking ≡ None → Tried tries m n
-    → Tried tries (hears_beside c h m o d answer) (n + outruns (told_beside c m o (record { disk = d; heard = heard_as answer })))
-tried_idle c h tries m n None d answer rest none unlooked is = tried_unmarked c h tries m n m.marking (record { disk = d; heard = heard_as answer }) none unlooked is
-tried_idle c h tries m n (Some heard) d answer rest none unlooked is = absurd (cc)
-
-tried_hearing : (c : Shape) (h tries : ℕ) (m : Memory) (n : ℕ) (o : Option Doing) → m.doing ≡ o → Tried tries m n → (d : ℕ) (answer : Answer)
+tried_hearing : (c : Shape) (h tries : ℕ) (m : Memory) (n : ℕ) (o : Option Doing) → m.doing ≡ o → IsTried tries o m.said n → (d : ℕ) (answer : Answer)
     → Tried tries (hears_from c h m o d answer) (n + outruns (ending_in c h m o (record { disk = d; heard = heard_as answer })))
-tried_hearing c h tries m n None doing is d answer = tried_idle c h tries m n m.beats.heard d answer is.1.beat is.1.mark is.1.look is
-tried_hearing c h tries m n (Some t) doing is d answer =
-    let now : IsTried tries (Some t) m.said n = subst (λ (o : Option Doing). IsTried tries o m.said n) doing is.0 in
-    let x : Answered = record { disk = d; heard = heard_as answer } in
+tried_hearing c h tries m n None doing is d answer = subst (Tried tries m) (omega arith) (subst (λ (o : Option Doing). IsTried tries o m.said n) (sym doing) is)
+tried_hearing c h tries m n (Some (Attempts t)) doing is d answer =
+    let more = with_heard t (record { disk = d; heard = heard_as answer }) in
     let s = setup_of c h m t.operation in
-    tried_status c h tries m (with_heard t x) n now.0 now.1 is.1 s (with_heard t x).heard (status s (on (with_heard t x).heard))
+    tried_status c tries m more n is.0 is.1 s more.heard (status s (on more.heard))
+tried_hearing c h tries m n (Some other) doing is d answer = absurd is
 
 one_tried : (c : Shape) (h tries : ℕ) (host : Host) (n : ℕ) (e : Filled) → IsCalled e → TriedAt tries host n → TriedAt tries (host_step c h host e) (n + outruns (ending_at c h host e))
 one_tried c h tries Stopped n e called is = absurd is
@@ -499,36 +415,22 @@ all_tried c h tries (e ∷ es) host n called is =
 
 -- the count tells the refusal
 tells : (tries n : ℕ) (doing : Option Doing) (said : Option HostAnswer) → IsTried tries doing said n → ((said ≡ Some (Refused refusal.Outrun)) ↔ (n ≡ tries)) × (n ≤ tries)
-tells tries n (Some t) said is = ((λ refused. absurd (let none = is.2 in cc), λ same. absurd (omega (arith, is.0, is.1, same))), omega (arith, is.0))
 tells tries n None said is = (is.1, is.0)
+tells tries n (Some (Attempts t)) said is = ((λ refused. absurd (let none = is.2 in cc), λ same. absurd (omega (arith, is.0, is.1, same))), omega (arith, is.0))
+tells tries n (Some other) said is = absurd is
 
 told : (tries n : ℕ) (host : Host) → TriedAt tries host n → ((said_of host ≡ Some (Refused refusal.Outrun)) ↔ (n ≡ tries)) × (n ≤ tries)
 told tries n Stopped is = absurd is
-told tries n (Running m) is = tells tries n m.doing m.said is.0
+told tries n (Running m) is = tells tries n m.doing m.said is
 
-rests_none : (o : Option (List beat_answers.Answered)) → rests o ≡ true → o ≡ None
-rests_none None is = refl
-rests_none (Some heard) is = absurd (cc)
-
-none_some : {A : Type 0} (o : Option A) → not (is_some o) ≡ true → o ≡ None
-none_some None is = refl
-none_some (Some t) is = absurd (cc)
-
-idle_rests : (m : Memory) (o : Option Doing) → is_idle_in m o ≡ true → AreResting m.beats.heard m.marking m.looking
-idle_rests m None is =
-    let two = and_parts (rests m.beats.heard && not (is_some m.marking)) (not (is_some m.looking)) is in
-    let both = and_parts (rests m.beats.heard) (not (is_some m.marking)) two.0 in
-    record { beat = rests_none m.beats.heard both.0; mark = none_some m.marking both.1; look = none_some m.looking two.1 }
-idle_rests m (Some t) is = absurd (cc)
-
-begins_tried : (c : Shape) (h tries : ℕ) (m : Memory) (e : Filled) → is_idle m ≡ true → 1 ≤ tries → BeginsWith tries e → TriedAt tries (host_step c h (Running m) e) (outruns (ending_at c h (Running m) e))
-begins_tried c h tries m (entries.Submit g command k) idle some same = tried_on c m (Submitting command) k tries 0 (omega (arith, same)) (omega (arith, same)) (idle_rests m m.doing idle)
-begins_tried c h tries m (entries.Recover g k) idle some same = tried_on c m Recovering k tries 0 (omega (arith, same)) (omega (arith, same)) (idle_rests m m.doing idle)
-begins_tried c h tries m other idle some same = absurd same
+begins_tried : (c : Shape) (h tries : ℕ) (m : Memory) (e : Filled) → 1 ≤ tries → BeginsWith tries e → TriedAt tries (host_step c h (Running m) e) (outruns (ending_at c h (Running m) e))
+begins_tried c h tries m (entries.Begin g (Submit command k)) some same = tried_on c m (Submitting command) k tries 0 (omega (arith, same)) (omega (arith, same))
+begins_tried c h tries m (entries.Begin g (Recover k)) some same = tried_on c m Recovering k tries 0 (omega (arith, same)) (omega (arith, same))
+begins_tried c h tries m other some same = absurd same
 
 pub gives_up : GivesUp
 gives_up c h tries m e calls idle some begun called =
     let host = host_step c h (Running m) e in
     let more = outruns_more (ending_at c h (Running m) e) (endings c h host calls) in
-    let is = told tries _ _ (subst (TriedAt tries (host_after c h host calls)) (sym more) (all_tried c h tries calls host (outruns (ending_at c h (Running m) e)) called (begins_tried c h tries m e idle some begun))) in
+    let is = told tries _ _ (subst (TriedAt tries (host_after c h host calls)) (sym more) (all_tried c h tries calls host (outruns (ending_at c h (Running m) e)) called (begins_tried c h tries m e some begun))) in
     record { exactly = is.0; no_more = is.1 }

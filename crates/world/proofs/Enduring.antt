@@ -1,12 +1,14 @@
 -- What entries keep: if something holds of a host's memory at its start, and whatever an idle host begins and a busy one hears keeps it, it holds in every run.
-use Rattle.std.proofs.Common.{ℕ, ◌≡◌, true, Some, List, sym, subst, inl, inr}
+use Rattle.std.specs.Prelude.{if◌then◌else◌}
+use Rattle.std.proofs.Common.{ℕ, ◌≡◌, Bool, true, false, Some, List, refl, sym, subst, inl, inr}
 use Rattle.std.proofs.lemmas.Bool.{eqb-true, cases_Bool}
 use Rattle.disk.specs.Disk.{DiskState, Call, Attach, Read, Write, Sync, Answer, Booted, Told, Done, Fault, Step, success_of}
 use Rattle.attempt.specs.Answers.{heard_as}
 use Rattle.attempt.specs.History.{Fits}
 use Rattle.slot_log.specs.Shape.{Shape}
-use Rattle.host.specs.Host.{Operation, Submitting, Recovering, Memory, Host, Stopped, Running, fresh, goes_on, starts_look, starts_beat, starts_marking, hears_from, is_idle, idles, next_in, next_of}
-use Rattle.world.specs.Entry.{Filled, Start, Stop, Submit, Recover, Look, Beat, Mark, Called, Torn, Crashed, Lost, Migrated, is_of, host_step, hears_on, started, beats, marks, looks, begins_on}
+use Rattle.host.specs.declared.task.Task.{Task}
+use Rattle.host.specs.Host.{Memory, Host, Stopped, Running, fresh, starts, hears_from, is_idle, idles, next_in, next_of}
+use Rattle.world.specs.Entry.{Filled, Start, Stop, Begin, Called, Torn, Crashed, Lost, Migrated, is_of, host_step, hears_on, started, begins_on}
 use Rattle.world.specs.World.{World, world, MayBegin, IsRun}
 use Rattle.world.proofs.Projections.{host_here, host_there}
 use Rattle.world.proofs.Runs.{by_run}
@@ -30,6 +32,11 @@ step_fits disk new call (Fault fault) step = tt
 
 -- WHAT ENDURES
 
+-- what holds of either memory holds of the one that is chosen
+pub on_either : (b : Bool) (x y : Memory) (P : Memory → Type 0) → (b ≡ true → P x) → (b ≡ false → P y) → P (if b then x else y)
+on_either true x y P first second = first refl
+on_either false x y P first second = second refl
+
 -- this holds of the memory of a running host
 abbrev pub On : (Memory → Type 0) → Host → Type 0
 On P Stopped = Unit {0}
@@ -38,10 +45,7 @@ On P (Running m) = P m
 -- It holds at a start, what an idle host begins keeps it, and so does an answer to the call that is due.
 pub record Endures (c : Shape) (h : ℕ) (P : Memory → Type 0) : Type 0 where
   pub at_first : P fresh
-  pub operated : (m : Memory) (operation : Operation) (tries : ℕ) → is_idle m ≡ true → P m → P (goes_on c m operation tries)
-  pub looking : (m : Memory) → is_idle m ≡ true → P m → P (starts_look c m)
-  pub beating : (m : Memory) → is_idle m ≡ true → P m → P (starts_beat m)
-  pub marking : (m : Memory) (slot : ℕ) → is_idle m ≡ true → P m → P (starts_marking m slot)
+  pub begun : (m : Memory) (task : Task) → is_idle m ≡ true → P m → P (starts c m task)
   pub answered : (m : Memory) (k : ℕ) (call : Call) (answer : Answer) → next_in c h m ≡ Some (k, call) → Fits call (heard_as answer) → P m → P (hears_from c h m m.doing k answer)
 
 module _ (c : Shape) (h : ℕ) (P : Memory → Type 0) (is : Endures c h P) where
@@ -49,38 +53,19 @@ module _ (c : Shape) (h : ℕ) (P : Memory → Type 0) (is : Endures c h P) wher
   starts_so Stopped so = is.at_first
   starts_so (Running m) so = so
 
-  operates_so : (old : Host) (operation : Operation) (tries : ℕ) → idles old ≡ true → On P old → On P (begins_on c old operation tries)
-  operates_so Stopped operation tries idle so = tt
-  operates_so (Running m) operation tries idle so = is.operated m operation tries idle so
-
-  looks_so : (old : Host) → idles old ≡ true → On P old → On P (looks c old)
-  looks_so Stopped idle so = tt
-  looks_so (Running m) idle so = is.looking m idle so
-
-  beats_so : (old : Host) → idles old ≡ true → On P old → On P (beats old)
-  beats_so Stopped idle so = tt
-  beats_so (Running m) idle so = is.beating m idle so
-
-  marks_so : (old : Host) (slot : ℕ) → idles old ≡ true → On P old → On P (marks old slot)
-  marks_so Stopped slot idle so = tt
-  marks_so (Running m) slot idle so = is.marking m slot idle so
+  begins_so : (old : Host) (task : Task) → idles old ≡ true → On P old → On P (begins_on c old task)
+  begins_so Stopped task idle so = tt
+  begins_so (Running m) task idle so = is.begun m task idle so
 
   hears_so : (old : Host) (k : ℕ) (call : Call) (answer : Answer) → next_of c h old ≡ Some (k, call) → Fits call (heard_as answer) → On P old → On P (hears_on c h old k answer)
   hears_so Stopped k call answer next fits so = tt
   hears_so (Running m) k call answer next fits so = is.answered m k call answer next fits so
 
-  idle_here : (w : World) (g : ℕ) → g ≡ h → idles (w.host g) ≡ true → idles (w.host h) ≡ true
-  idle_here w g same idle = subst (λ (i : ℕ). idles (w.host i) ≡ true) same idle
-
   -- an entry of the host keeps it so
   step_so : (w : World) (e : Filled) → is_of h e ≡ true → MayBegin c w e → On P (w.host h) → On P (host_step c h (w.host h) e)
   step_so w (Start g) of m so = starts_so (w.host h) so
   step_so w (Stop g) of m so = tt
-  step_so w (Submit g command tries) of m so = operates_so (w.host h) (Submitting command) tries (idle_here w g (eqb-true g h of) m.0) so
-  step_so w (Recover g tries) of m so = operates_so (w.host h) Recovering tries (idle_here w g (eqb-true g h of) m.0) so
-  step_so w (Look g) of m so = looks_so (w.host h) (idle_here w g (eqb-true g h of) m) so
-  step_so w (Beat g) of m so = beats_so (w.host h) (idle_here w g (eqb-true g h of) m) so
-  step_so w (Mark g slot) of m so = marks_so (w.host h) slot (idle_here w g (eqb-true g h of) m.0) so
+  step_so w (Begin g task) of m so = begins_so (w.host h) task (subst (λ (i : ℕ). idles (w.host i) ≡ true) (eqb-true g h of) m.0) so
   step_so w (Called g k call answer left) of m so =
       let next : next_of c h (w.host h) ≡ Some (k, call) = subst (λ (i : ℕ). next_of c i (w.host i) ≡ Some (k, call)) (eqb-true g h of) m.0 in
       hears_so (w.host h) k call answer next (step_fits (w.disk k) _ call answer m.1) so

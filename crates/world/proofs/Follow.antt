@@ -16,12 +16,14 @@ use Rattle.lock_command.specs.Reading.{checked, decoded}
 use Rattle.lock_command.proofs.Readings.{command_at-spelling}
 use Rattle.std.proofs.lemmas.Slice.Eq.{bytes_eq-Decides}
 use Rattle.slot_log.specs.Shape.{Shape}
+use Rattle.host.specs.declared.task.Task.{Task}
+use Rattle.host.specs.declared.task.Task.TheVariants.{Submit, Recover, Look, Beat, Mark}
 use Rattle.host.specs.Host.{is_stopped, idles, next_of}
 use Rattle.host.proofs.Hosts.{decoded_spelled}
 use Rattle.world.specs.Entry as entries
 use Rattle.world.specs.Entry.{Filled, Called, Torn, Crashed, called_by}
 use Rattle.world.specs.World.{World, MayFollow, ReadsBack, HasDisk}
-use Rattle.world.specs.Happens.{Event, Start, Stop, Submit, Recover, Look, Beat, Mark, Step, Tear, FailCall, DiskCrash, DiskGone, answer_by, answer_of, spread_over, stepped, failed_entry, failed, torn_entry, torn, brings_if, are_some, has_disk, submitted, entry_of}
+use Rattle.world.specs.Happens.{Event, Start, Stop, Begin, Step, Tear, FailCall, DiskCrash, DiskGone, answer_by, answer_of, spread_over, stepped, failed_entry, failed, torn_entry, torn, brings_if, are_some, has_disk, submitted, task_entry, entry_of}
 
 -- WHAT A TEST TELLS
 
@@ -104,8 +106,16 @@ module _ (c : Shape) (w : World) (whole : (k : ℕ) → IsWhole (w.disk k)) wher
   submitting : (h tries : ℕ) (o : Option Command) (bytes : List ℕ) (e : Filled) → (idles (w.host h) ≡ true) → (0 < tries) → decoded bytes ≡ o → submitted h tries o ≡ Some e → MayFollow c w e
   submitting h tries None bytes e idle some reads is = absurd (cc)
   submitting h tries (Some command) bytes e idle some reads is =
-      some_if (command.host == h && is_submittable command) (entries.Submit h command tries) e (MayFollow c w) is (λ t.
-      (let p = and_parts (command.host == h) (is_submittable command) t in (idle, reads_back bytes command reads, eqb-true command.host h p.0, some, p.1)))
+      some_if (command.host == h && is_submittable command) (entries.Begin h (Submit command tries)) e (MayFollow c w) is (λ t.
+      (let p = and_parts (command.host == h) (is_submittable command) t in (idle, (reads_back bytes command reads, eqb-true command.host h p.0, some, p.1))))
+
+  beginning : (h : ℕ) (task : Task) (e : Filled) → idles (w.host h) ≡ true → task_entry c h task ≡ Some e → MayFollow c w e
+  beginning h (Submit command tries) e idle is =
+      given_if _ _ e (MayFollow c w e) is (λ some s. submitting h tries (decoded (spelling command)) (spelling command) e idle (ltb-true _ _ some) refl s)
+  beginning h (Recover tries) e idle is = some_if _ _ e (MayFollow c w) is (λ some. (idle, ltb-true _ _ some))
+  beginning h Look e idle is = some_if true _ e (MayFollow c w) is (λ t. (idle, tt))
+  beginning h Beat e idle is = some_if true _ e (MayFollow c w) is (λ t. (idle, tt))
+  beginning h (Mark slot) e idle is = some_if _ _ e (MayFollow c w) is (λ inside. (idle, ltb-true _ _ inside))
 
   stepping : (h : ℕ) (o : Option (ℕ × Call)) (e : Filled) → next_of c h (w.host h) ≡ o → option_map (stepped w h) o ≡ Some e → MayFollow c w e
   stepping h None e is s = absurd (cc)
@@ -152,12 +162,7 @@ module _ (c : Shape) (w : World) (whole : (k : ℕ) → IsWhole (w.disk k)) wher
   pub may_follow : (event : Event) (e : Filled) → entry_of c w event ≡ Some e → MayFollow c w e
   may_follow (Start h) e is = some_if _ _ e (MayFollow c w) is (λ t. let p = and_parts (nat_lt h HOSTS) (is_stopped (w.host h)) t in (ltb-true _ _ p.0, p.1))
   may_follow (Stop h) e is = some_if _ _ e (MayFollow c w) is (λ t. not_true (is_stopped (w.host h)) t)
-  may_follow (Submit h command tries) e is =
-      given_if _ _ e (MayFollow c w e) is (λ t s. let p = and_parts (idles (w.host h)) (nat_lt 0 tries) t in submitting h tries (decoded (spelling command)) (spelling command) e p.0 (ltb-true _ _ p.1) refl s)
-  may_follow (Recover h tries) e is = some_if _ _ e (MayFollow c w) is (λ t. let p = and_parts (idles (w.host h)) (nat_lt 0 tries) t in (p.0, ltb-true _ _ p.1))
-  may_follow (Look h) e is = some_if _ _ e (MayFollow c w) is (λ t. t)
-  may_follow (Beat h) e is = some_if _ _ e (MayFollow c w) is (λ t. t)
-  may_follow (Mark h slot) e is = some_if _ _ e (MayFollow c w) is (λ t. let p = and_parts (idles (w.host h)) (nat_lt slot c.slots) t in (p.0, ltb-true _ _ p.1))
+  may_follow (Begin h task) e is = given_if _ _ e (MayFollow c w e) is (λ idle s. beginning h task e idle s)
   may_follow (Step h) e is = stepping h (next_of c h (w.host h)) e refl is
   may_follow (Tear h given) e is = given_if _ _ e (MayFollow c w e) is (λ t s. tearing h given (next_of c h (w.host h)) e refl s)
   may_follow (FailCall h given) e is = given_if _ _ e (MayFollow c w e) is (λ t s. failing h given (next_of c h (w.host h)) e refl s)

@@ -1,11 +1,12 @@
--- In a run each host's attempt has heard a history, and what it ends committed with is chosen.
-use Rattle.std.specs.Prelude.{not, nat_lt, nat_le, is_some, if◌then◌else◌}
+-- In a run what a host has under way has heard a history, and has a call to make. What an attempt ends committed with is chosen.
+use Rattle.std.specs.Prelude.{nat_lt, nat_le, is_none, is_some, not, if◌then◌else◌}
 use Rattle.std.proofs.Common.{ℕ, zero, suc, ◌*◌, ◌-◌, ◌<◌, ◌≤◌, ◌≡◌, Bool, true, false, Option, Some, None, List, [], ◌∷◌, ◌++◌, length, take, refl, sym, subst, ap, ◌∙◌, arith}
-use Rattle.std.proofs.lemmas.Bool.{ltb-false, lt-ltb, le-ltb}
+use Rattle.std.proofs.lemmas.Bool.{ltb-false, ltb-true, lt-ltb, le-ltb, lt-leb}
 use Rattle.disk.specs.Disk.{Call, Answer}
+use Rattle.attempt.specs.Heard.{Heard}
 use Rattle.attempt.specs.Answers.{Answered, Answers, on, heard_as, row_in}
 use Rattle.attempt.specs.Setup.{Setup}
-use Rattle.attempt.specs.Status.{Status, Due, Ended, End, Committed, Decided, Empty, Outrun, NoMajority, BallotsSpent, status, taken}
+use Rattle.attempt.specs.Status.{Status, Due, Ended, Committed, Decided, Empty, Outrun, NoMajority, BallotsSpent, status, taken}
 use Rattle.attempt.specs.History.{Fits, IsAnswerTo, IsHistory}
 use Rattle.attempt.specs.Standing.{HasProposal}
 use Rattle.attempt.specs.Chosen.{accepts_in, accepts, Chooses}
@@ -16,7 +17,7 @@ use Rattle.attempt.proofs.Hearing.{history_more}
 use Rattle.attempt.proofs.Replies.{next_is}
 use Rattle.attempt.specs.Numbers.{count}
 use Rattle.attempt.specs.NextCall.{call_by, next_call}
-use Rattle.attempt.proofs.Firsts.{below_some}
+use Rattle.attempt.proofs.Firsts.{below_some, below_none}
 use Rattle.attempt.proofs.Moments.{get_some}
 use Rattle.attempt.proofs.Statuses.{due_is, due_if, HasChosen, told_by, enough_more}
 use Rattle.attempt.proofs.Visitors.{waiting_is, left_is, left_over}
@@ -24,20 +25,30 @@ use Rattle.attempt.proofs.Histories.{visit, history_reached}
 use Rattle.torn_block.specs.Layout.{Version}
 use Rattle.paxos_block.specs.Row.{DecodedBlock}
 use Rattle.paxos_block.proofs.VoteLemmas.{greatest_is_greatest}
+use Rattle.beats.specs.Answers as beat_answers
+use Rattle.beats.specs.History as beat_history
+use Rattle.beats.specs.Status as beat
+use Rattle.beats.proofs.Histories as beats
+use Rattle.marks.specs.History as mark_history
+use Rattle.marks.specs.Status as mark
+use Rattle.marks.proofs.Histories as marks
+use Rattle.looks.specs.History as look_history
+use Rattle.looks.specs.Status as look
+use Rattle.looks.proofs.Histories as looks
+use Rattle.looks.proofs.Ends.{decided_is}
 use Rattle.lock_command.specs.declared.command.Command.{Command}
 use Rattle.lock_command.specs.Reading.{decoded}
 use Rattle.slot_log.specs.Shape.{Shape}
 use Rattle.slot_log.specs.declared.outcome.Refusal.TheVariants as refusal
 use Rattle.host.specs.declared.answer.HostAnswer.TheVariants.{Looked, Refused}
-use Rattle.host.specs.Host.{Operation, Doing, Looking, Memory, Host, Running, starts_marking, setup_of, says, begins, full_answer, goes_on, is_submitted, after_learning, learns, takes, tries_again, ended, by_status, with_heard, with_floor, hears, next_doing, next_of, hears_from, hears_beside, hears_beat, beat_by, beat_of, Marking, marking_by, marking_with, marking_of, hears_marking, with_marking, hears_apart, hears_look, look_of, look_by, looking_with, looks_on, takes_marked, with_looking}
-use Rattle.beats.specs.Answers as beat_answers
-use Rattle.beats.specs.Status as beat
-use Rattle.marks.specs.Status as mark
-use Rattle.looks.specs.Status as look
+use Rattle.host.specs.declared.task.Task.{Task}
+use Rattle.host.specs.declared.task.Task.TheVariants.{Submit, Recover, Look, Beat, Mark}
+use Rattle.host.specs.Host.{Operation, Submitting, Recovering, Attempt, Marking, Looking, Doing, Attempts, Looks, Beats, Marks, Memory, Host, Running, does, says, learns, with_floor, setup_of, begins, full_answer, goes_on, is_submitted, after_learning, takes, tries_again, ended, by_status, with_heard, look_of, looks_on, takes_marked, look_by, looking_with, beat_of, beat_by, marking_of, marking_by, marking_with, starts as starts_on, hears_from, is_idle, next_doing, next_of}
+use Rattle.host.specs.Alone.{HasHeardFew}
 use Rattle.world.specs.Entry.{Filled}
 use Rattle.world.specs.World.{world, IsRun}
-use Rattle.world.proofs.Enduring.{On, Endures, endures, step_fits}
 use Rattle.world.specs.Chosen.{at, Hears, IsChosenAt}
+use Rattle.world.proofs.Enduring.{On, Endures, endures, on_either, step_fits}
 use Rattle.world.proofs.Runs.{beginning, each}
 
 -- A CALL IS DUE
@@ -64,172 +75,234 @@ starts s some =
     })
 
 -- what a call that is due is, and that its disk is one of the cluster's
-pub record HasCall (s : Setup) (f : Answers) : Type 0 where
-  pub disk : ℕ
-  pub call : Call
-  pub below : disk < s.disks
-  pub next : next_call s f ≡ Some (disk, call)
+abbrev pub IsDue : ℕ → Option (ℕ × Call) → Type 0
+IsDue disks next = (k : ℕ) × (call : Call) × (k < disks) × (next ≡ Some (k, call))
 
-due_call : (s : Setup) (f : Answers) (p : Phase) (d : ℕ) → status s f ≡ Due p d → HasCall s f
+due_call : (s : Setup) (f : Answers) (p : Phase) (d : ℕ) → status s f ≡ Due p d → IsDue s.disks (next_call s f)
 due_call s f p d due =
     let first = visit s p d f (due_is s f p d due) in
     let waiting = waiting_is s p (f d) first.passes in
     let kind = get_some seventeen (length (f d)) (omega (arith, waiting.short, last_call p)) in
-    record { disk = d; call = call_by s d f kind.0; below = first.below; next = next_is s f p d kind.0 due kind.1 }
+    (d, call_by s d f kind.0, first.below, next_is s f p d kind.0 due kind.1)
+
+-- a look that has heard nothing has a call to make on the disk that it asks first
+count_none : (n : ℕ) → count n (λ d. false) ≡ 0
+count_none zero = refl
+count_none (suc n) = let before = count_none n in omega arith
+
+first_by : (s : look.Setup) (o : Option ℕ) (b t : Bool) → o ≡ None → b ≡ false → t ≡ false
+    → look.unless_told (on []) o (if b then look.Ended look.Unmarked else if t then look.Ended look.NoMajority else look.due_or (Some s.first) (look.Ended look.NoMajority)) ≡ look.Due s.first
+first_by s o b t none few enough = rw (none, few, enough) refl
+
+look_starts : (s : look.Setup) → 1 ≤ s.disks → look.status s (on []) ≡ look.Due s.first
+look_starts s some =
+    first_by s (look.marked_on s (on [])) (look.are_unmarked s (on [])) (look.are_too_few s (on [])) (below_none s.disks (λ d. false) (λ d below. refl))
+    (le-ltb s.disks (2 * count s.disks (λ d. false)) (let none = count_none s.disks in omega arith))
+    (lt-leb s.disks (2 * count s.disks (λ d. false)) (let none = count_none s.disks in omega arith))
 
 -- WHAT A HOST HAS HEARD
 
--- an attempt under way has heard a history, and has a call to make
-pub record IsUnderWay (s : Setup) (heard : List Answered) : Type 0 where
-  pub history : IsHistory s heard
-  pub due : 1 ≤ s.disks → HasCall s (on heard)
+-- a look is at a slot of the log, and asks a disk of the cluster first
+pub record IsLookHeard (c : Shape) (s : look.Setup) (heard : List Answered) : Type 0 where
+  pub fits : s.slot < c.slots
+  pub first : 1 ≤ c.disks → s.first < c.disks
+  pub history : look_history.IsHistory s heard
 
--- at its beginning
-begins_so : (s : Setup) → IsUnderWay s []
-begins_so s = record { history = tt; due = λ some. due_call s (on []) Opening 0 (starts s some) }
+abbrev pub HasHistory : Shape → ℕ → Memory → Doing → Type 0
+HasHistory c h m (Attempts t) = IsHistory (setup_of c h m t.operation) t.heard
+HasHistory c h m (Looks t) = IsLookHeard c (look_of c m t.first) t.heard
+HasHistory c h m (Beats heard) = beat_history.IsHistory (beat_of c h) heard
+HasHistory c h m (Marks t) = mark_history.IsHistory (marking_of c h m t.slot) t.heard
+
+-- what is under way has heard a history, of few answers, and has a call to make
+pub record IsUnderWay (c : Shape) (h : ℕ) (m : Memory) (doing : Doing) : Type 0 where
+  pub history : HasHistory c h m doing
+  pub few : 1 ≤ c.disks → HasHeardFew c (Some doing)
+  pub due : 1 ≤ c.disks → IsDue c.disks (next_doing c h m (Some doing))
+
+-- so it is where it has a history and is due
+module _ (c : Shape) (h : ℕ) (m : Memory) where
+  attempt_so : (t : Attempt) → let s = setup_of c h m t.operation in IsHistory s t.heard → (1 ≤ c.disks → (p : Phase) × (d : ℕ) × (status s (on t.heard) ≡ Due p d)) → IsUnderWay c h m (Attempts t)
+  attempt_so t is due = record {
+    history = is;
+    few = λ some. tt;
+    due = λ some. (let (p, d, now) = due some in due_call (setup_of c h m t.operation) (on t.heard) p d now);
+  }
+
+  look_so : (t : Looking) → let s = look_of c m t.first in IsLookHeard c s t.heard → (1 ≤ c.disks → (d : ℕ) × (look.status s (on t.heard) ≡ look.Due d)) → IsUnderWay c h m (Looks t)
+  look_so t is due = let s = look_of c m t.first in record {
+    history = is;
+    few = λ some. (let (d, now) = due some in looks.going s (is.first some) t.heard d is.history now);
+    due = λ some. (let (d, now) = due some in let next = looks.has_call s (on t.heard) d now in (d, next.0, (looks.due_is s (on t.heard) d (is.first some) now).below, next.1));
+  }
+
+  beat_so : (heard : List beat_answers.Answered) → let s = beat_of c h in beat_history.IsHistory s heard → (1 ≤ c.disks → (d : ℕ) × (beat.status s (on heard) ≡ beat.Due d)) → IsUnderWay c h m (Beats heard)
+  beat_so heard is due = let s = beat_of c h in record {
+    history = is;
+    few = λ some. (let (d, now) = due some in beats.going s heard d is now);
+    due = λ some. (let (d, now) = due some in let next = beats.has_call s (on heard) d now in (d, next.0, (beats.due_is s (on heard) d now).below, next.1));
+  }
+
+  marking_so : (t : Marking) → let s = marking_of c h m t.slot in mark_history.IsHistory s t.heard → (1 ≤ c.disks → (d : ℕ) × (mark.status s (on t.heard) ≡ mark.Due d)) → IsUnderWay c h m (Marks t)
+  marking_so t is due = let s = marking_of c h m t.slot in record {
+    history = is;
+    few = λ some. (let (d, now) = due some in marks.going s t.heard d is now);
+    due = λ some. (let (d, now) = due some in let next = marks.has_call s (on t.heard) d now in (d, next.0, (marks.due_is s (on t.heard) d now).below, next.1));
+  }
+
+-- an answer to the call that is due
+pub answers_to : {A : Type 0} (o : Option (ℕ × Call)) (k : ℕ) (call : Call) (heard : Heard A) → o ≡ Some (k, call) → Fits call heard → IsAnswerTo o (record { disk = k; heard = heard })
+answers_to o k call heard next fits = subst (λ (p : Option (ℕ × Call)). IsAnswerTo p (record { disk = k; heard = heard })) (sym next) (refl, fits)
 
 module _ (c : Shape) (h : ℕ) where
-  -- so is that of a busy host
-  abbrev pub IsHeardIn : Memory → Option Doing → Type 0
+  -- so is whatever a host has under way
+  abbrev IsHeardIn : Memory → Option Doing → Type 0
   IsHeardIn m None = Unit {0}
-  IsHeardIn m (Some t) = IsUnderWay (setup_of c h m t.operation) t.heard
+  IsHeardIn m (Some doing) = IsUnderWay c h m doing
 
   abbrev IsHeard : Memory → Type 0
   IsHeard m = IsHeardIn m m.doing
 
-  one_of : (b : Bool) (first other : Memory) → IsHeard first → IsHeard other → IsHeard (if b then first else other)
-  one_of true first other is_first is_other = is_first
-  one_of false first other is_first is_other = is_other
+  -- so it is where an attempt begins
+  begun : (m : Memory) (operation : Operation) (tries : ℕ) → IsHeard (begins m operation tries)
+  begun m operation tries =
+      attempt_so c h (begins m operation tries) (record { operation = operation; tries = tries; heard = [] }) tt (λ some. (Opening, 0, starts (setup_of c h m operation) some))
 
-  -- so it is where an attempt begins, or none is under way
-  begun : (m : Memory) (operation : Operation) (tries : ℕ) → IsHeard (goes_on c m operation tries)
-  begun m operation tries = one_of (nat_lt (length m.learned) c.slots) (begins m operation tries) (says m (full_answer operation (length m.learned))) (begins_so (setup_of c h m operation)) tt
+  gone_on : (m : Memory) (operation : Operation) (tries : ℕ) → IsHeard (goes_on c m operation tries)
+  gone_on m operation tries =
+      on_either (nat_lt (length m.learned) c.slots) (begins m operation tries) (says m (full_answer operation (length m.learned))) IsHeard (λ e. begun m operation tries) (λ e. tt)
 
   tried : (m : Memory) (operation : Operation) (tries : ℕ) → IsHeard (tries_again m operation tries)
-  tried m operation tries = one_of (nat_le tries 1) (says m (Refused refusal.Outrun)) (begins m operation (tries - 1)) tt (begins_so (setup_of c h m operation))
+  tried m operation tries = on_either (nat_le tries 1) (says m (Refused refusal.Outrun)) (begins m operation (tries - 1)) IsHeard (λ e. tt) (λ e. begun m operation (tries - 1))
 
-  learned : (m : Memory) (t : Doing) (command : Command) (b : Bool) → IsHeard (after_learning c m t command b)
+  -- a look
+  looked_on : (m : Memory) (first : ℕ) → (1 ≤ c.disks → first < c.disks) → IsHeard (looks_on c m first)
+  looked_on m first inside =
+      let t : Looking = record { first = first; heard = [] } in
+      on_either (nat_lt (length m.learned) c.slots) (does m (Looks t)) (says m (Looked (length m.learned))) IsHeard
+      (λ less. look_so c h (does m (Looks t)) t (record { fits = ltb-true (length m.learned) c.slots less; first = inside; history = tt }) (λ some. (first, look_starts (look_of c m first) some)))
+      (λ full. tt)
+
+  -- or any task
+  begun_task : (m : Memory) (task : Task) → IsHeard (starts_on c m task)
+  begun_task m (Submit command tries) = gone_on m (Submitting command) tries
+  begun_task m (Recover tries) = gone_on m Recovering tries
+  begun_task m Look = looked_on m 0 (λ some. some)
+  begun_task m Beat = beat_so c h (does m (Beats [])) [] tt (λ some. (0, beats.starts (beat_of c h) some))
+  begun_task m (Mark slot) =
+      let t : Marking = record { slot = slot; heard = [] } in
+      on_either (nat_lt slot (length m.learned)) (does m (Marks t)) (says m (Refused refusal.NotLearned)) IsHeard
+      (λ e. marking_so c h (does m (Marks t)) t tt (λ some. (0, marks.starts (marking_of c h m slot) some)))
+      (λ e. tt)
+
+  -- where an attempt goes on, or ends
+  learned : (m : Memory) (t : Attempt) (command : Command) (b : Bool) → IsHeard (after_learning c m t command b)
   learned m t command true = tt
-  learned m t command false = begun (learns m command) t.operation t.tries
+  learned m t command false = gone_on (learns m command) t.operation t.tries
 
-  took : (m : Memory) (t : Doing) (ballot : ℕ) (value : List ℕ) (o : Option Command) → IsHeard (takes c m t ballot value o)
+  took : (m : Memory) (t : Attempt) (ballot : ℕ) (value : List ℕ) (o : Option Command) → IsHeard (takes c m t ballot value o)
   took m t ballot value None = tt
   took m t ballot value (Some command) = learned m t command (is_submitted t.operation value)
 
-  over : (m : Memory) (t : Doing) (ballot : ℕ) (end : End) → IsHeard (ended c m t ballot end)
-  over m t ballot (Committed value) = took m t ballot value (decoded value)
-  over m t ballot (Decided value) = took m t ballot value (decoded value)
-  over m t ballot Empty = tt
-  over m t ballot (Outrun mbal) = tried (with_floor (with_floor m ballot) mbal) t.operation t.tries
-  over m t ballot NoMajority = tt
-  over m t ballot BallotsSpent = tt
+  goes : (m : Memory) (t : Attempt) (ballot : ℕ) (st : Status) → status (setup_of c h m t.operation) (on t.heard) ≡ st → IsHistory (setup_of c h m t.operation) t.heard → IsHeard (by_status c m t ballot st)
+  goes m t ballot (Due phase disk) now is = attempt_so c h (does m (Attempts t)) t is (λ some. (phase, disk, now))
+  goes m t ballot (Ended (Committed value)) now is = took m t ballot value (decoded value)
+  goes m t ballot (Ended (Decided value)) now is = took m t ballot value (decoded value)
+  goes m t ballot (Ended Empty) now is = tt
+  goes m t ballot (Ended (Outrun mbal)) now is = tried (with_floor (with_floor m ballot) mbal) t.operation t.tries
+  goes m t ballot (Ended NoMajority) now is = tt
+  goes m t ballot (Ended BallotsSpent) now is = tt
 
-  goes : (m : Memory) (t : Doing) (ballot : ℕ) (st : Status) → status (setup_of c h m t.operation) (on t.heard) ≡ st → IsHistory (setup_of c h m t.operation) t.heard → IsHeard (by_status c m t ballot st)
-  goes m t ballot (Due phase disk) now is = record { history = is; due = λ some. due_call (setup_of c h m t.operation) (on t.heard) phase disk now }
-  goes m t ballot (Ended end) now is = over m t ballot end
+  -- where a look does
+  look_took : (m : Memory) (d : ℕ) → (1 ≤ c.disks → d < c.disks) → (o : Option Command) → IsHeard (takes_marked c m d o)
+  look_took m d inside None = tt
+  look_took m d inside (Some command) = looked_on (learns m command) d inside
 
-  -- a beat has no attempt
-  beat_heard_by : (m : Memory) (heard : List beat_answers.Answered) (st : beat.Status) → IsHeard (beat_by h m heard st)
-  beat_heard_by m heard (beat.Due disk) = tt
-  beat_heard_by m heard (beat.Ended (beat.Beaten readings)) = tt
-  beat_heard_by m heard (beat.Ended beat.NoMajority) = tt
+  look_goes : (m : Memory) (t : Looking) (st : look.Status) → look.status (look_of c m t.first) (on t.heard) ≡ st → IsLookHeard c (look_of c m t.first) t.heard → IsHeard (look_by c m t st)
+  look_goes m t (look.Due d) now is = look_so c h (does m (Looks t)) t is (λ some. (d, now))
+  look_goes m t (look.Ended (look.Decided d value)) now is = look_took m d (λ some. (decided_is (look_of c m t.first) (on t.heard) d value now).0) (decoded value)
+  look_goes m t (look.Ended look.Unmarked) now is = tt
+  look_goes m t (look.Ended look.NoMajority) now is = tt
 
-  beat_heard : (m : Memory) (o : Option (List beat_answers.Answered)) (x : beat_answers.Answered) → m.doing ≡ None → IsHeard (hears_beat c h m o x)
-  beat_heard m None x none = subst (IsHeardIn m) (sym none) tt
-  beat_heard m (Some heard) x none = beat_heard_by m (heard ++ x ∷ []) (beat.status (beat_of c h) (beat_answers.on (heard ++ x ∷ [])))
+  -- a beat
+  beat_goes : (m : Memory) (heard : List beat_answers.Answered) (st : beat.Status) → beat.status (beat_of c h) (on heard) ≡ st → beat_history.IsHistory (beat_of c h) heard → IsHeard (beat_by h m heard st)
+  beat_goes m heard (beat.Due d) now is = beat_so c h (does m (Beats heard)) heard is (λ some. (d, now))
+  beat_goes m heard (beat.Ended (beat.Beaten readings)) now is = tt
+  beat_goes m heard (beat.Ended beat.NoMajority) now is = tt
 
-  -- nor has a marking
-  marking_heard_by : (m : Memory) (t : Marking) (st : mark.Status) → IsHeard (marking_by m t st)
-  marking_heard_by m t (mark.Due disk) = tt
-  marking_heard_by m t (mark.Ended (mark.Marked count)) = tt
-  marking_heard_by m t (mark.Ended mark.NoMajority) = tt
+  -- or a marking
+  marking_goes : (m : Memory) (t : Marking) (st : mark.Status) → mark.status (marking_of c h m t.slot) (on t.heard) ≡ st → mark_history.IsHistory (marking_of c h m t.slot) t.heard → IsHeard (marking_by m t st)
+  marking_goes m t (mark.Due d) now is = marking_so c h (does m (Marks t)) t is (λ some. (d, now))
+  marking_goes m t (mark.Ended (mark.Marked count)) now is = tt
+  marking_goes m t (mark.Ended mark.NoMajority) now is = tt
 
-  marking_heard : (m : Memory) (o : Option Marking) (x : Answered) → m.doing ≡ None → IsHeard (hears_marking c h m o x)
-  marking_heard m None x none = subst (IsHeardIn m) (sym none) tt
-  marking_heard m (Some t) x none = marking_heard_by m (marking_with t x) (mark.status (marking_of c h m t.slot) (on (marking_with t x).heard))
-
-  -- nor has a look
-  looked_on : (m : Memory) (first : ℕ) → IsHeard (looks_on c m first)
-  looked_on m first = one_of (nat_lt (length m.learned) c.slots) (with_looking m (Some (record { first = first; heard = [] })) None) (with_looking m None (Some (Looked (length m.learned)))) tt tt
-
-  look_took : (m : Memory) (d : ℕ) (o : Option Command) → IsHeard (takes_marked c m d o)
-  look_took m d None = tt
-  look_took m d (Some command) = looked_on (learns m command) d
-
-  look_heard_by : (m : Memory) (t : Looking) (st : look.Status) → IsHeard (look_by c m t st)
-  look_heard_by m t (look.Due disk) = tt
-  look_heard_by m t (look.Ended (look.Decided disk value)) = look_took m disk (decoded value)
-  look_heard_by m t (look.Ended look.Unmarked) = tt
-  look_heard_by m t (look.Ended look.NoMajority) = tt
-
-  look_heard : (m : Memory) (o : Option Looking) (x : Answered) → m.doing ≡ None → IsHeard (hears_look c m o x)
-  look_heard m None x none = subst (IsHeardIn m) (sym none) tt
-  look_heard m (Some t) x none = look_heard_by m (looking_with t x) (look.status (look_of c m t.first) (on (looking_with t x).heard))
-
-  apart_heard : (m : Memory) (o : Option Marking) (x : Answered) → m.doing ≡ None → IsHeard (hears_apart c h m o x)
-  apart_heard m None x none = look_heard m m.looking x none
-  apart_heard m (Some t) x none = marking_heard m (Some t) x none
-
-  beside_heard : (m : Memory) (o : Option (List beat_answers.Answered)) (d : ℕ) (answer : Answer) → m.doing ≡ None → IsHeard (hears_beside c h m o d answer)
-  beside_heard m None d answer none = apart_heard m m.marking (record { disk = d; heard = heard_as answer }) none
-  beside_heard m (Some heard) d answer none = beat_heard m (Some heard) (record { disk = d; heard = beat_answers.heard_as answer }) none
-
-  marking_begun : (m : Memory) (slot : ℕ) → IsHeard (starts_marking m slot)
-  marking_begun m slot = one_of (nat_lt slot (length m.learned)) (with_marking m (Some (record { slot = slot; heard = [] })) None) (with_marking m m.marking (Some (Refused refusal.NotLearned))) tt tt
-
-  -- and behind an answer to the call that was due
-  heard_more : (m : Memory) (t : Doing) (x : Answered) → IsUnderWay (setup_of c h m t.operation) t.heard → IsAnswerTo (next_doing c h m (Some t)) x → IsHeard (hears c h m (Some t) x)
-  heard_more m t x is answers =
+  -- so it is behind an answer to the call that was due
+  heard_from : (m : Memory) (o : Option Doing) (k : ℕ) (call : Call) (answer : Answer) → next_doing c h m o ≡ Some (k, call) → Fits call (heard_as answer) → IsHeardIn m o → IsHeard (hears_from c h m o k answer)
+  heard_from m None k call answer next fits is = absurd (cc)
+  heard_from m (Some (Attempts t)) k call answer next fits is =
       let s = setup_of c h m t.operation in
-      goes m (with_heard t x) (taken s (on (t.heard ++ x ∷ []))) (status s (on (t.heard ++ x ∷ []))) refl (history_more (next_call s) t.heard x is.history answers)
-
-  heard_from : (m : Memory) (o : Option Doing) → m.doing ≡ o → (k : ℕ) (call : Call) (answer : Answer) → next_doing c h m o ≡ Some (k, call) → Fits call (heard_as answer) → IsHeardIn m o → IsHeard (hears_from c h m o k answer)
-  heard_from m None none k call answer next fits is = beside_heard m m.beats.heard k answer none
-  heard_from m (Some t) does k call answer next fits is =
-      heard_more m t (record { disk = k; heard = heard_as answer }) is
-      (subst (λ (o : Option (ℕ × Call)). IsAnswerTo o (record { disk = k; heard = heard_as answer })) (sym next) (refl, fits))
+      let x : Answered = record { disk = k; heard = heard_as answer } in
+      let more = with_heard t x in
+      goes m more (taken s (on more.heard)) (status s (on more.heard)) refl (history_more (next_call s) t.heard x is.history (answers_to (next_call s (on t.heard)) k call (heard_as answer) next fits))
+  heard_from m (Some (Looks t)) k call answer next fits is =
+      let s = look_of c m t.first in
+      let x : Answered = record { disk = k; heard = heard_as answer } in
+      let more = looking_with t x in
+      look_goes m more (look.status s (on more.heard)) refl (record {
+        fits = is.history.fits;
+        first = is.history.first;
+        history = history_more (look.next_call s) t.heard x is.history.history (answers_to (look.next_call s (on t.heard)) k call (heard_as answer) next fits);
+      })
+  heard_from m (Some (Beats heard)) k call answer next fits is =
+      let s = beat_of c h in
+      let x : beat_answers.Answered = record { disk = k; heard = beat_answers.heard_as answer } in
+      beat_goes m (heard ++ x ∷ []) (beat.status s (on (heard ++ x ∷ []))) refl
+      (history_more (beat.next_call s) heard x is.history (answers_to (beat.next_call s (on heard)) k call (beat_answers.heard_as answer) next (beats.fits_too call answer fits)))
+  heard_from m (Some (Marks t)) k call answer next fits is =
+      let s = marking_of c h m t.slot in
+      let x : Answered = record { disk = k; heard = heard_as answer } in
+      let more = marking_with t x in
+      marking_goes m more (mark.status s (on more.heard)) refl (history_more (mark.next_call s) t.heard x is.history (answers_to (mark.next_call s (on t.heard)) k call (heard_as answer) next fits))
 
   enduring : Endures c h IsHeard
-  enduring =
-      record {
-        at_first = tt;
-        operated = λ m operation tries idle is. begun m operation tries;
-        looking = λ m idle is. looked_on m 0;
-        beating = λ m idle is. tt;
-        marking = λ m slot idle is. marking_begun m slot;
-        answered = λ m k call answer next fits is. heard_from m m.doing refl k call answer next fits is;
-      }
+  enduring = record {
+    at_first = tt;
+    begun = λ m task idle is. begun_task m task;
+    answered = λ m k call answer next fits is. heard_from m m.doing k call answer next fits is;
+  }
 
--- every host of a run has heard histories
-run_heard : (c : Shape) (log : List Filled) → IsRun c log → (h : ℕ) → On (IsHeard c h) ((world c log).host h)
-run_heard c log run = endures c (IsHeard c) (enduring c) log run
+-- in a run it is so
+pub under_way : (c : Shape) (log : List Filled) (h : ℕ) (m : Memory) (doing : Doing) → IsRun c log → (world c log).host h ≡ Running m → m.doing ≡ Some doing → IsUnderWay c h m doing
+under_way c log h m doing run running does_so = subst (IsHeardIn c h m) does_so (subst (On (IsHeard c h)) running (endures c (IsHeard c) (enduring c) log run h))
 
--- so the attempt under way has heard a history, and has a call to make
-pub busy : (c : Shape) (log : List Filled) (h : ℕ) (m : Memory) (t : Doing) → IsRun c log → (world c log).host h ≡ Running m → m.doing ≡ Some t → IsUnderWay (setup_of c h m t.operation) t.heard
-busy c log h m t run running does = subst (IsHeardIn c h m) does (subst (On (IsHeard c h)) running (run_heard c log run h))
+pub history : (c : Shape) (log : List Filled) (h : ℕ) (m : Memory) (t : Attempt) → IsRun c log → (world c log).host h ≡ Running m → m.doing ≡ Some (Attempts t) → IsHistory (setup_of c h m t.operation) t.heard
+history c log h m t run running does_so = (under_way c log h m (Attempts t) run running does_so).history
 
-pub history : (c : Shape) (log : List Filled) (h : ℕ) (m : Memory) (t : Doing) → IsRun c log → (world c log).host h ≡ Running m → m.doing ≡ Some t → IsHistory (setup_of c h m t.operation) t.heard
-history c log h m t run running does = (busy c log h m t run running does).history
-
-pub has_call : (c : Shape) (log : List Filled) (h : ℕ) (m : Memory) (t : Doing) → 1 ≤ c.disks → IsRun c log → (world c log).host h ≡ Running m → m.doing ≡ Some t
+pub has_call : (c : Shape) (log : List Filled) (h : ℕ) (m : Memory) (doing : Doing) → 1 ≤ c.disks → IsRun c log → (world c log).host h ≡ Running m → m.doing ≡ Some doing
     → (k : ℕ) × (call : Call) × (k < c.disks) × (next_of c h (Running m) ≡ Some (k, call))
-has_call c log h m t some run running does =
-    let due = (busy c log h m t run running does).due some in
-    (due.disk, due.call, due.below, subst (λ (o : Option Doing). next_doing c h m o ≡ Some (due.disk, due.call)) (sym does) due.next)
+has_call c log h m doing some run running does_so =
+    subst (λ (o : Option Doing). IsDue c.disks (next_doing c h m o)) (sym does_so) ((under_way c log h m doing run running does_so).due some)
+
+-- a busy host has a call to make
+pub busy_call : (c : Shape) (log : List Filled) (h : ℕ) (m : Memory) → 1 ≤ c.disks → IsRun c log → (world c log).host h ≡ Running m → is_idle m ≡ false
+    → (k : ℕ) × (call : Call) × (k < c.disks) × (next_of c h (Running m) ≡ Some (k, call))
+busy_call c log h m some run running busy = go m.doing refl busy
+  where
+    go : (o : Option Doing) → m.doing ≡ o → is_none o ≡ false → IsDue c.disks (next_of c h (Running m))
+    go None none is = absurd (cc)
+    go (Some doing) does_so is = has_call c log h m doing some run running does_so
 
 -- AT AN ENTRY
 
 module _ (c : Shape) (log : List Filled) (i : ℕ) (s : Setup) (heard : List Answered) (run : IsRun c log) (hears : Hears c log i s heard) where
   -- the call was due
-  due : next_doing c hears.host hears.memory (Some hears.doing) ≡ Some (hears.disk, hears.call)
+  due : next_doing c hears.host hears.memory (Some (Attempts hears.doing)) ≡ Some (hears.disk, hears.call)
   due =
       subst (λ (o : Option Doing). next_doing c hears.host hears.memory o ≡ Some (hears.disk, hears.call)) hears.does
       (subst (λ (h : Host). next_of c hears.host h ≡ Some (hears.disk, hears.call)) hears.running (each c log i _ run hears.entry).0)
 
-  answered : IsAnswerTo (next_doing c hears.host hears.memory (Some hears.doing)) (record { disk = hears.disk; heard = heard_as hears.answer })
-  answered =
-      let fits = step_fits ((at c log i).disk hears.disk) _ hears.call hears.answer (each c log i _ run hears.entry).1 in
-      subst (λ (o : Option (ℕ × Call)). IsAnswerTo o (record { disk = hears.disk; heard = heard_as hears.answer })) (sym due) (refl, fits)
+  answered : IsAnswerTo (next_doing c hears.host hears.memory (Some (Attempts hears.doing))) (record { disk = hears.disk; heard = heard_as hears.answer })
+  answered = answers_to _ hears.disk hears.call (heard_as hears.answer) due (step_fits ((at c log i).disk hears.disk) _ hears.call hears.answer (each c log i _ run hears.entry).1)
 
   -- what the attempt has heard with this answer is a history
   pub heard_then : IsHistory s heard

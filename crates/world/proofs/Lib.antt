@@ -5,11 +5,8 @@ pub mod Projections
 pub mod Rows
 pub mod Runs
 pub mod Safe
-pub mod Beside
 pub mod Looking
 pub mod Looks
-pub mod Markings
-pub mod Beats
 pub mod Saying
 pub mod Reaching
 pub mod Accounting

@@ -1,22 +1,22 @@
 -- A host that looks only reads, and says how much it has learned.
-use Rattle.std.specs.Prelude.{nat_lt, if◌then◌else◌}
-use Rattle.std.proofs.Common.{ℕ, ◌≡◌, Bool, true, false, Option, Some, None, List, [], length, refl, sym, subst, ap, ◌∙◌}
+use Rattle.std.specs.Prelude.{nat_lt}
+use Rattle.std.proofs.Common.{ℕ, ◌≡◌, true, Option, Some, None, List, [], length, refl, sym, subst, ap, ◌∙◌}
 use Rattle.std.proofs.lemmas.Bool.{eqb-true}
 use Rattle.disk.specs.declared.fault.DiskFault.TheVariants.{Reset, Failed, Gone}
 use Rattle.disk.specs.Disk.{DiskState, Call, Attach, Read, Write, Sync, Answer, Booted, Told, Done, Fault}
-use Rattle.attempt.specs.Answers.{Answered, on, heard_as}
+use Rattle.attempt.specs.Answers.{on, heard_as}
 use Rattle.attempt.specs.Looking.{OnlyReads}
-use Rattle.beats.specs.Answers as beat_answers
 use Rattle.looks.specs.Status.{Status, Due, Ended, Decided, Unmarked, NoMajority, status}
 use Rattle.looks.proofs.Histories as histories
 use Rattle.lock_command.specs.declared.command.Command.{Command}
 use Rattle.lock_command.specs.Reading.{decoded}
 use Rattle.slot_log.specs.Shape.{Shape}
 use Rattle.host.specs.declared.answer.HostAnswer.TheVariants.{Looked}
-use Rattle.host.specs.Host.{Doing, Marking, Looking, Memory, Running, learns, hears_from, hears_beside, hears_apart, hears_look, look_of, look_by, looks_on, looking_with, takes_marked, with_looking, next_of}
-use Rattle.world.specs.Entry.{Filled, Start, Stop, Submit, Recover, Look, Beat, Mark, Called, Torn, Crashed, Lost, Migrated, is_of, called_by, disk_step}
-use Rattle.world.specs.Looks.{IsLooking, SaysLooking}
+use Rattle.host.specs.Host.{Doing, Looking, Looks, Memory, Running, does, says, learns, hears_from, hears_look, look_of, look_by, looks_on, looking_with, takes_marked, next_of}
+use Rattle.world.specs.Entry.{Filled, Start, Stop, Begin, Called, Torn, Crashed, Lost, Migrated, is_of, called_by, disk_step}
+use Rattle.world.specs.Looks.{SaysLooking}
 use Rattle.world.specs.World.{World, MayFollow}
+use Rattle.world.proofs.Enduring.{on_either}
 use Rattle.world.proofs.Looking.{next_is}
 
 -- WHAT IT SAYS
@@ -25,11 +25,8 @@ abbrev SaysSo : Memory → Type 0
 SaysSo m = SaysLooking (length m.learned) m.said
 
 pub on_so : (c : Shape) (m : Memory) (first : ℕ) → SaysSo (looks_on c m first)
-on_so c m first = go (nat_lt (length m.learned) c.slots)
-  where
-    go : (b : Bool) → SaysSo (if b then with_looking m (Some (record { first = first; heard = [] })) None else with_looking m None (Some (Looked (length m.learned))))
-    go true = tt
-    go false = refl
+on_so c m first =
+    on_either (nat_lt (length m.learned) c.slots) (does m (Looks (record { first = first; heard = [] }))) (says m (Looked (length m.learned))) SaysSo (λ e. tt) (λ e. refl)
 
 module _ (c : Shape) (m : Memory) where
   takes_so : (d : ℕ) (o : Option Command) → SaysSo (takes_marked c m d o)
@@ -43,23 +40,18 @@ module _ (c : Shape) (m : Memory) where
   by_so t (Ended NoMajority) = tt
 
 -- it hears what its disk answers
-pub hears_is : (c : Shape) (h d : ℕ) (m : Memory) (t : Looking) (answer : Answer) → IsLooking m t → hears_from c h m m.doing d answer ≡ hears_look c m (Some t) (record { disk = d; heard = heard_as answer })
-hears_is c h d m t answer is =
-    let x : Answered = record { disk = d; heard = heard_as answer } in
-    ap (λ (o : Option Doing). hears_from c h m o d answer) is.tries
-    ∙ ap (λ (o : Option (List beat_answers.Answered)). hears_beside c h m o d answer) is.beats
-    ∙ ap (λ (o : Option Marking). hears_apart c h m o x) is.marks
-    ∙ ap (λ (o : Option Looking). hears_look c m o x) is.looks
+pub hears_is : (c : Shape) (h d : ℕ) (m : Memory) (t : Looking) (answer : Answer) → m.doing ≡ Some (Looks t) → hears_from c h m m.doing d answer ≡ hears_look c m t (record { disk = d; heard = heard_as answer })
+hears_is c h d m t answer is = ap (λ (o : Option Doing). hears_from c h m o d answer) is
 
 -- with an answer
-pub hears_so : (c : Shape) (h d : ℕ) (m : Memory) (t : Looking) (answer : Answer) → IsLooking m t → SaysSo (hears_from c h m m.doing d answer)
+pub hears_so : (c : Shape) (h d : ℕ) (m : Memory) (t : Looking) (answer : Answer) → m.doing ≡ Some (Looks t) → SaysSo (hears_from c h m m.doing d answer)
 hears_so c h d m t answer is =
     let more = looking_with t (record { disk = d; heard = heard_as answer }) in
     subst SaysSo (sym (hears_is c h d m t answer is)) (by_so c m more (status (look_of c m t.first) (on more.heard)))
 
 -- WHAT IT ASKS FOR
 
-pub reads_only : (c : Shape) (h k : ℕ) (m : Memory) (t : Looking) (call : Call) → IsLooking m t → next_of c h (Running m) ≡ Some (k, call) → OnlyReads call
+pub reads_only : (c : Shape) (h k : ℕ) (m : Memory) (t : Looking) (call : Call) → m.doing ≡ Some (Looks t) → next_of c h (Running m) ≡ Some (k, call) → OnlyReads call
 reads_only c h k m t call is next = histories.reads (look_of c m t.first) (on t.heard) k call (next_is c h m t k call is next)
 
 -- WHAT IT LEAVES
@@ -85,7 +77,7 @@ leaves old (Sync boot) (Booted other) left reads = refl
 leaves old (Sync boot) (Told bytes) left reads = refl
 leaves old (Sync boot) Done left reads = refl
 
-module _ (c : Shape) (w : World) (h d : ℕ) (m : Memory) (t : Looking) (running : w.host h ≡ Running m) (is : IsLooking m t) where
+module _ (c : Shape) (w : World) (h d : ℕ) (m : Memory) (t : Looking) (running : w.host h ≡ Running m) (is : m.doing ≡ Some (Looks t)) where
   -- a call of its own
   quiet : (g k : ℕ) (call : Call) → g ≡ h → next_of c g (w.host g) ≡ Some (k, call) → OnlyReads call
   quiet g k call same next =
@@ -101,11 +93,7 @@ module _ (c : Shape) (w : World) (h d : ℕ) (m : Memory) (t : Looking) (running
   pub bytes_stay : (e : Filled) → MayFollow c w e → is_of h e ≡ true → (disk_step (w.disk d) e).bytes ≡ (w.disk d).bytes
   bytes_stay (Start g) may of = refl
   bytes_stay (Stop g) may of = refl
-  bytes_stay (Submit g command tries) may of = refl
-  bytes_stay (Recover g tries) may of = refl
-  bytes_stay (Look g) may of = refl
-  bytes_stay (Beat g) may of = refl
-  bytes_stay (Mark g slot) may of = refl
+  bytes_stay (Begin g task) may of = refl
   bytes_stay (Called g k call answer left) may of = leaves (w.disk d) call answer left (quiet g k call (eqb-true g h of) may.0)
   bytes_stay (Torn g k call left) may of = absurd (torn g k call left (eqb-true g h of) may)
   bytes_stay (Crashed k left) may of = absurd (cc)

@@ -11,14 +11,15 @@ use Rattle.disk.specs.Crash.{IsWhole}
 use Rattle.disk.specs.Filling.{nth_given, spread, filled}
 use Rattle.disk.specs.Simulated.{refusal_under, refusal_of}
 use Rattle.torn_block.specs.declared.layout.TheConstants.{HOSTS}
-use Rattle.lock_command.specs.declared.command.Command.{Command}
 use Rattle.slot_log.specs.Shape.{Shape}
+use Rattle.host.specs.declared.task.Task.{Task}
+use Rattle.host.specs.declared.task.Task.TheVariants.{Submit, Recover, Look, Beat, Mark}
 use Rattle.host.specs.Host.{next_of}
 use Rattle.world.specs.Entry as entries
 use Rattle.world.specs.Entry.{Filled, Called, Torn, Crashed, Lost, Migrated, torn_by, called_by, disk_step, host_step, hears_on, is_on, is_of}
-use Rattle.world.specs.World.{World, world, MayFollow, MayBegin, IsRun, HasDisk}
+use Rattle.world.specs.World.{World, world, MayBeGiven, MayFollow, MayBegin, IsRun, HasDisk}
 use Rattle.world.specs.Happens as events
-use Rattle.world.specs.Happens.{Event, Start, Stop, Submit, Recover, Look, Beat, Mark, Step, Tear, FailCall, DiskCrash, DiskGone, answer_by, answer_of, spread_over, stepped, failed_entry, failed, torn, brings_if, are_some, has_disk, submitted, entry_of, with_entry, happen}
+use Rattle.world.specs.Happens.{Event, Start, Stop, Begin, Step, Tear, FailCall, DiskCrash, DiskGone, answer_by, answer_of, spread_over, stepped, failed_entry, failed, torn, brings_if, are_some, has_disk, submitted, task_entry, entry_of, with_entry, happen}
 use Rattle.world.specs.Lines.{BringsSuch, beginning, EventsReachEach, EventsReachAll}
 use Rattle.world.proofs.Projections.{disk_here, disk_there, host_here, host_there}
 use Rattle.world.proofs.Runs.{run_whole, by_run_from, more, happen_more}
@@ -224,18 +225,18 @@ module _ (c : Shape) (w : World) (whole : (k : ℕ) → IsWhole (w.disk k)) wher
       back : (disk : DiskState) (bytes : List ℕ) → IsWhole disk → KeepsSynced disk.unsynced disk.bytes bytes → filled (some_of (picked disk.unsynced bytes)) 0 disk.unsynced disk.bytes ≡ bytes
       back disk bytes is keeps = filled_back [] (0 ∷ []) disk.unsynced disk.bytes bytes is keeps
 
-  submitting : (h tries : ℕ) (command : Command) → MayFollow c w (entries.Submit h command tries) → entry_of c w (Submit h command tries) ≡ Some (entries.Submit h command tries)
-  submitting h tries command may =
-      brought_if _ _ (both_true may.0 (lt-ltb 0 tries may.3)) ∙ ap (submitted h tries) may.1 ∙ brought_if _ _ (both_true (eq-eqb command.host h may.2) may.4)
+  -- a task that may be given is
+  given : (h : ℕ) (task : Task) → MayBeGiven c h task → task_entry c h task ≡ Some (entries.Begin h task)
+  given h (Submit command tries) may = brought_if _ _ (lt-ltb 0 tries may.2) ∙ ap (submitted h tries) may.0 ∙ brought_if _ _ (both_true (eq-eqb command.host h may.1) may.3)
+  given h (Recover tries) may = brought_if _ _ (lt-ltb 0 tries may)
+  given h Look may = refl
+  given h Beat may = refl
+  given h (Mark slot) may = brought_if _ _ (lt-ltb slot c.slots may)
 
   pub reached : (e : Filled) → MayFollow c w e → (event : Event) × BringsSuch c w event e
   reached (entries.Start h) may = (Start h, itself (Start h) _ (brought_if _ _ (both_true (lt-ltb h HOSTS may.0) may.1)))
   reached (entries.Stop h) may = (Stop h, itself (Stop h) _ (brought_if _ _ (not_false _ may)))
-  reached (entries.Submit h command tries) may = (Submit h command tries, itself (Submit h command tries) _ (submitting h tries command may))
-  reached (entries.Recover h tries) may = (Recover h tries, itself (Recover h tries) _ (brought_if _ _ (both_true may.0 (lt-ltb 0 tries may.1))))
-  reached (entries.Look h) may = (Look h, itself (Look h) _ (brought_if _ _ may))
-  reached (entries.Beat h) may = (Beat h, itself (Beat h) _ (brought_if _ _ may))
-  reached (entries.Mark h slot) may = (Mark h slot, itself (Mark h slot) _ (brought_if _ _ (both_true may.0 (lt-ltb slot c.slots may.1))))
+  reached (entries.Begin h task) may = (Begin h task, itself (Begin h task) _ (brought_if _ _ may.0 ∙ given h task may.1))
   reached (Called h k call (Fault Failed) left) may = failed_call h k call left may.0 may.1
   reached (Called h k call (Fault Gone) left) may = (Step h, stepping h k call (Fault Gone) left tt may.0 may.1)
   reached (Called h k call (Fault Reset) left) may = (Step h, stepping h k call (Fault Reset) left tt may.0 may.1)

@@ -12,7 +12,8 @@ use Rattle.migration.specs.Image.{rows_for}
 use Rattle.lock_command.specs.declared.command.Command.{Command}
 use Rattle.lock_command.specs.Command.{spelling}
 use Rattle.slot_log.specs.Shape.{Shape}
-use Rattle.world.specs.Entry.{Filled, Start, Stop, Submit, Recover, Look, Beat, Mark, Called, Torn, Crashed, Lost, Migrated, is_on, is_of, torn_by, called_by, disk_step}
+use Rattle.host.specs.declared.task.Task.TheVariants.{Submit}
+use Rattle.world.specs.Entry.{Filled, Start, Stop, Begin, Called, Torn, Crashed, Lost, Migrated, is_on, is_of, torn_by, called_by, disk_step}
 use Rattle.world.specs.World.{World, world, ReadsBack, MayFollow, CanMigrate, MayBegin, IsRunFrom, IsFreshRun, IsRun}
 use Rattle.world.specs.Happens.{Event, entry_of, with_entry, happens, happen, run, run_after, Line, lines_at, answers_from, answers}
 use Rattle.world.specs.Chosen.{migrated, IsMigrated, Submits}
@@ -56,11 +57,7 @@ called_whole old call Done left is = done_whole old call is
 step_whole : (c : Shape) (w : World) (k : ℕ) (e : Filled) → is_on k e ≡ true → MayBegin c w e → ((j : ℕ) → IsWhole (w.disk j)) → IsWhole (disk_step (w.disk k) e)
 step_whole c w k (Start h) on m is = absurd (cc)
 step_whole c w k (Stop h) on m is = absurd (cc)
-step_whole c w k (Submit h command tries) on m is = absurd (cc)
-step_whole c w k (Recover h tries) on m is = absurd (cc)
-step_whole c w k (Look h) on m is = absurd (cc)
-step_whole c w k (Beat h) on m is = absurd (cc)
-step_whole c w k (Mark h slot) on m is = absurd (cc)
+step_whole c w k (Begin h task) on m is = absurd (cc)
 step_whole c w k (Called h d call answer left) on m is = called_whole (w.disk k) call answer left (is k)
 step_whole c w k (Torn h d call left) on m is = torn_whole (w.disk k) call left (is k)
 step_whole c w k (Crashed d left) on m is =
@@ -134,7 +131,7 @@ migrated_reads c (other ∷ es) r k command is = absurd (cc)
 
 -- what is submitted reads back
 pub submits_reads : (c : Shape) (w : World) (e : Filled) (command : Command) → MayBegin c w e → Submits e command → ReadsBack command
-submits_reads c w (Submit h given tries) command m is = subst ReadsBack is m.1
+submits_reads c w (Begin h (Submit given tries)) command m is = subst ReadsBack is m.1.0
 submits_reads c w (Migrated disks log) command m is = m.1.reads is.0 command is.1
 submits_reads c w other command m is = absurd is
 

@@ -38,11 +38,7 @@ begins_with c log (e ∷ es) =
 own : (e : Filled) (h : ℕ) → host_of e ≡ Some h → is_of h e ≡ true
 own (entries.Start g) h is = let same : g ≡ h = cc in eq-eqb g h same
 own (entries.Stop g) h is = let same : g ≡ h = cc in eq-eqb g h same
-own (entries.Submit g command tries) h is = let same : g ≡ h = cc in eq-eqb g h same
-own (entries.Recover g tries) h is = let same : g ≡ h = cc in eq-eqb g h same
-own (entries.Look g) h is = let same : g ≡ h = cc in eq-eqb g h same
-own (entries.Beat g) h is = let same : g ≡ h = cc in eq-eqb g h same
-own (entries.Mark g slot) h is = let same : g ≡ h = cc in eq-eqb g h same
+own (entries.Begin g task) h is = let same : g ≡ h = cc in eq-eqb g h same
 own (Called g k call answer left) h is = let same : g ≡ h = cc in eq-eqb g h same
 own (Torn g k call left) h is = let same : g ≡ h = cc in eq-eqb g h same
 own (Crashed k left) h is = absurd (cc)
@@ -52,11 +48,7 @@ own (Migrated disks log) h is = absurd (cc)
 owner : (e : Filled) (h : ℕ) → is_of h e ≡ true → host_of e ≡ Some h
 owner (entries.Start g) h is = ap Some (eqb-true g h is)
 owner (entries.Stop g) h is = ap Some (eqb-true g h is)
-owner (entries.Submit g command tries) h is = ap Some (eqb-true g h is)
-owner (entries.Recover g tries) h is = ap Some (eqb-true g h is)
-owner (entries.Look g) h is = ap Some (eqb-true g h is)
-owner (entries.Beat g) h is = ap Some (eqb-true g h is)
-owner (entries.Mark g slot) h is = ap Some (eqb-true g h is)
+owner (entries.Begin g task) h is = ap Some (eqb-true g h is)
 owner (Called g k call answer left) h is = ap Some (eqb-true g h is)
 owner (Torn g k call left) h is = ap Some (eqb-true g h is)
 owner (Crashed k left) h is = absurd (cc)

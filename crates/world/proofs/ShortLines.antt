@@ -14,8 +14,9 @@ use Rattle.lock_table.specs.Apply.{applied, granted}
 use Rattle.lock_table.specs.Picture.{Shown}
 use Rattle.lock_index.specs.Locks.{is_lock}
 use Rattle.host.specs.declared.answer.HostAnswer.TheVariants.{Ack, Recovered}
+use Rattle.host.specs.declared.task.Task.TheVariants.{Submit}
 use Rattle.host.specs.Host.{Submitting, idles, reply_after}
-use Rattle.world.specs.Happens.{Submit, Step, Line}
+use Rattle.world.specs.Happens.{Begin, Step, Line}
 use Rattle.world.specs.Opening.{blank}
 use Rattle.world.specs.Told.{host_before, IsSubmittedBefore, IsAcknowledged, goes_by, BeganSince, MissesNothing}
 use Rattle.world.specs.Examples.{one_disk, takes_db, submitting, told_at}
@@ -27,13 +28,13 @@ pub submitted : IsSubmittedBefore submitting 2 (spelling takes_db)
 submitted = record { place = 1; host = 0; command = takes_db; tries = 1; before = omega arith; event = refl; spelled = refl }
 
 -- steps submit nothing
-only_steps : (n k host tries : ℕ) (command : Command) → slice_get (replicate n (Step 0)) k ≡ Some (Submit host command tries) → ⊥
+only_steps : (n k host tries : ℕ) (command : Command) → slice_get (replicate n (Step 0)) k ≡ Some (Begin host (Submit command tries)) → ⊥
 only_steps zero k host tries command at = cc
 only_steps (suc n) zero host tries command at = cc
 only_steps (suc n) (suc k) host tries command at = only_steps n k host tries command at
 
 -- so it is event 1 that does
-which : (place host tries : ℕ) (command : Command) → slice_get submitting place ≡ Some (Submit host command tries) → (place ≡ 1) × (takes_db ≡ command)
+which : (place host tries : ℕ) (command : Command) → slice_get submitting place ≡ Some (Begin host (Submit command tries)) → (place ≡ 1) × (takes_db ≡ command)
 which zero host tries command at = absurd (cc)
 which (suc zero) host tries command at = (refl, cc)
 which (suc (suc k)) host tries command at = absurd (only_steps 17 k host tries command at)

@@ -15,7 +15,8 @@ use Rattle.lock_table.specs.Apply.{applied, granted}
 use Rattle.slot_log.specs.Shape.{Shape}
 use Rattle.host.specs.declared.answer.HostAnswer.{HostAnswer}
 use Rattle.host.specs.declared.answer.HostAnswer.TheVariants.{Ack, Recovered}
-use Rattle.host.specs.Host.{Operation, Submitting, Doing, Memory, Host, Stopped, Running}
+use Rattle.host.specs.declared.task.Task.TheVariants.{Submit, Recover}
+use Rattle.host.specs.Host.{Operation, Submitting, Attempt, Doing, Attempts, Memory, Host, Stopped, Running}
 use Rattle.world.specs.Entry as entries
 use Rattle.world.specs.Entry.{Filled, Called, is_of}
 use Rattle.world.specs.Happens.{Event, Line, run, answers}
@@ -75,8 +76,8 @@ only_granted j other told says = only_once one_disk submitting 18 0 18 (Ack 0 gr
 
 -- what a host carries out
 unfoldable pub operation_in : Option Doing → Option Operation
-operation_in None = None
-operation_in (Some t) = Some t.operation
+operation_in (Some (Attempts t)) = Some t.operation
+operation_in other = None
 
 abbrev pub operation_of : Host → Option Operation
 operation_of Stopped = None
@@ -91,8 +92,8 @@ operation_then = refl
 pub record IsBusyWith (host : Host) (operation : Operation) : Type 0 where
   pub memory : Memory
   pub running : host ≡ Running memory
-  pub doing : Doing
-  pub does : memory.doing ≡ Some doing
+  pub doing : Attempt
+  pub does : memory.doing ≡ Some (Attempts doing)
   pub is : doing.operation ≡ operation
 
 pub busy_with : (host : Host) (operation : Operation) → operation_of host ≡ Some operation → IsBusyWith host operation
@@ -102,7 +103,8 @@ busy_with (Running m) operation is = go m.doing refl is
   where
     go : (o : Option Doing) → m.doing ≡ o → operation_in o ≡ Some operation → IsBusyWith (Running m) operation
     go None doing is' = absurd (cc)
-    go (Some t) doing is' = record { memory = m; running = refl; doing = t; does = doing; is = cc }
+    go (Some (Attempts t)) doing is' = record { memory = m; running = refl; doing = t; does = doing; is = cc }
+    go (Some other) doing is' = absurd (cc)
 
 pub acknowledged : IsAcknowledgedAt one_disk submission 18 0 0 takes_db granted
 acknowledged =
@@ -112,7 +114,7 @@ acknowledged =
 pub before : IsAcknowledgedBefore one_disk submission 19 0 takes_db
 before = record { place = 18; host = 0; reply = granted; before = omega arith; is = acknowledged }
 
-pub operation_told : (host : Host) (m : Memory) (t : Doing) (operation : Operation) → host ≡ Running m → m.doing ≡ Some t → t.operation ≡ operation → operation_of host ≡ Some operation
+pub operation_told : (host : Host) (m : Memory) (t : Attempt) (operation : Operation) → host ≡ Running m → m.doing ≡ Some (Attempts t) → t.operation ≡ operation → operation_of host ≡ Some operation
 unfolding operation_in
 operation_told host m t operation running doing is = ap operation_of running ∙ ap operation_in doing ∙ ap Some is
 
@@ -138,7 +140,7 @@ only_acknowledged i host slot command reply is =
 -- WHAT WAS SUBMITTED
 
 abbrev command_in : Filled → List Command
-command_in (entries.Submit h command tries) = command ∷ []
+command_in (entries.Begin h (Submit command tries)) = command ∷ []
 command_in (entries.Migrated disks log) = log
 command_in other = []
 
@@ -152,7 +154,7 @@ further (y ∷ a) b k x at = let rest = further a b k x at in (suc rest.0, rest.
 
 -- whatever an entry submits is among its own
 of_entry : (e : Filled) (command : Command) → Submits e command → (j : ℕ) × (slice_get (command_in e) j ≡ Some command)
-of_entry (entries.Submit h given tries) command is = (0, ap Some is)
+of_entry (entries.Begin h (Submit given tries)) command is = (0, ap Some is)
 of_entry (entries.Migrated disks log) command is = is
 of_entry other command is = absurd is
 
@@ -174,7 +176,7 @@ commands_of_submission : commands_in submission ≡ takes_db ∷ []
 unfolding submission fresh_disk sequence_of body_of number_bytes tail_with copy_in decoded_row zeros heading body_saying number_at claim_of is_said number lock_at request_at mode_of name_at enqueue_at action_at command_at applied
 commands_of_submission = refl
 
-second_entry : slice_get submission 1 ≡ Some (entries.Submit 0 takes_db 1)
+second_entry : slice_get submission 1 ≡ Some (entries.Begin 0 (Submit takes_db 1))
 unfolding submission fresh_disk sequence_of body_of number_bytes tail_with copy_in decoded_row zeros heading body_saying number_at claim_of is_said number lock_at request_at mode_of name_at enqueue_at action_at command_at applied
 second_entry = refl
 
@@ -183,7 +185,7 @@ unfolding submission fresh_disk sequence_of body_of number_bytes tail_with copy_
 first_entry = refl
 
 pub submitted : IsSubmittedBefore submission 2 (spelling takes_db)
-submitted = record { place = 1; entry = entries.Submit 0 takes_db 1; command = takes_db; before = omega arith; is = second_entry; submits = refl; spelled = refl }
+submitted = record { place = 1; entry = entries.Begin 0 (Submit takes_db 1); command = takes_db; before = omega arith; is = second_entry; submits = refl; spelled = refl }
 
 pub not_submitted : (value : List ℕ) → IsSubmittedBefore submission 1 value → ⊥
 not_submitted value is = go is.place is.before is.is
@@ -220,7 +222,7 @@ only_recovered : (j other : ℕ) (told : HostAnswer) → SaysAt one_disk recover
 unfolding recovery
 only_recovered j other told says = only_once one_disk recovering 11 0 11 (Recovered 0) lines_of_recovery place_of_recovery j other told says
 
-recovery_begins : slice_get recovery 1 ≡ Some (entries.Recover 0 1)
+recovery_begins : slice_get recovery 1 ≡ Some (entries.Begin 0 (Recover 1))
 unfolding recovery fresh_disk sequence_of body_of number_bytes tail_with copy_in decoded_row zeros heading body_saying number_at claim_of is_said
 recovery_begins = refl
 

@@ -15,8 +15,9 @@ use Rattle.lock_command.specs.Reading.{decoded}
 use Rattle.slot_log.specs.Shape.{Shape}
 use Rattle.slot_log.specs.declared.outcome.Refusal.TheVariants as refusal
 use Rattle.host.specs.declared.answer.HostAnswer.TheVariants.{Refused}
-use Rattle.host.specs.Host.{Doing, Marking, Looking, Memory, Host, Stopped, Running, fresh, setup_of, beat_of, look_of, with_heard, looking_with, said_of, learned_of, is_idle}
-use Rattle.world.specs.Entry.{Filled, Stop, Submit, Recover, Called, Torn, host_step, host_after}
+use Rattle.host.specs.declared.task.Task.TheVariants.{Submit, Recover}
+use Rattle.host.specs.Host.{Doing, Attempts, Looks, Beats, Memory, Host, Stopped, Running, fresh, setup_of, beat_of, look_of, with_heard, looking_with, said_of, learned_of, is_idle}
+use Rattle.world.specs.Entry.{Filled, Stop, Begin, Called, Torn, host_step, host_after}
 
 -- ATTEMPTS THAT END
 
@@ -37,23 +38,11 @@ told_by s (look.Ended (look.Decided d value)) = record { slot = s.slot; ballot =
 told_by s (look.Ended look.Unmarked) = []
 told_by s (look.Ended look.NoMajority) = []
 
-abbrev pub told_in : Shape → Memory → Option Looking → Answered → List Ending
-told_in c m None x = []
-told_in c m (Some t) x = let s = look_of c m t.first in told_by s (look.status s (on (looking_with t x).heard))
-
--- the look under way is told so, where neither a beat nor a marking hears the answer
-abbrev pub told_apart : Shape → Memory → Option Marking → Answered → List Ending
-told_apart c m None x = told_in c m m.looking x
-told_apart c m (Some t) x = []
-
-abbrev pub told_beside : Shape → Memory → Option (List beat_answers.Answered) → Answered → List Ending
-told_beside c m None x = told_apart c m m.marking x
-told_beside c m (Some heard) x = []
-
--- the attempt that ends with this answer, if one does, or the look that it tells a value
+-- what ends with this answer: the attempt under way, or the look under way that is told a value
 abbrev pub ending_in : Shape → ℕ → Memory → Option Doing → Answered → List Ending
-ending_in c h m None x = told_beside c m m.beats.heard x
-ending_in c h m (Some t) x = let s = setup_of c h m t.operation in let heard = (with_heard t x).heard in ending_by s heard (status s (on heard))
+ending_in c h m (Some (Attempts t)) x = let s = setup_of c h m t.operation in let heard = (with_heard t x).heard in ending_by s heard (status s (on heard))
+ending_in c h m (Some (Looks t)) x = let s = look_of c m t.first in told_by s (look.status s (on (looking_with t x).heard))
+ending_in c h m other x = []
 
 abbrev pub ending_at : Shape → ℕ → Host → Filled → List Ending
 ending_at c h (Running m) (Called g d call answer left) = ending_in c h m m.doing (record { disk = d; heard = heard_as answer })
@@ -70,14 +59,13 @@ abbrev pub beat_ended_by : beat.Status → List beat.End
 beat_ended_by (beat.Due disk) = []
 beat_ended_by (beat.Ended end) = end ∷ []
 
--- the beat that ends with this answer, if one does: an attempt under way hears it first
-abbrev pub beat_ended_in : Shape → ℕ → Option Doing → Option (List beat_answers.Answered) → beat_answers.Answered → List beat.End
-beat_ended_in c h (Some t) beats x = []
-beat_ended_in c h None None x = []
-beat_ended_in c h None (Some heard) x = beat_ended_by (beat.status (beat_of c h) (beat_answers.on (heard ++ x ∷ [])))
+-- the beat that ends with this answer, if one does
+abbrev pub beat_ended_in : Shape → ℕ → Option Doing → beat_answers.Answered → List beat.End
+beat_ended_in c h (Some (Beats heard)) x = beat_ended_by (beat.status (beat_of c h) (beat_answers.on (heard ++ x ∷ [])))
+beat_ended_in c h other x = []
 
 abbrev pub beat_ended_at : Shape → ℕ → Host → Filled → List beat.End
-beat_ended_at c h (Running m) (Called g d call answer left) = beat_ended_in c h m.doing m.beats.heard (record { disk = d; heard = beat_answers.heard_as answer })
+beat_ended_at c h (Running m) (Called g d call answer left) = beat_ended_in c h m.doing (record { disk = d; heard = beat_answers.heard_as answer })
 beat_ended_at c h host e = []
 
 -- how the beats of a host ended that end with these entries, in their order
@@ -140,7 +128,7 @@ floor_of (Running m) = m.floor
 -- the readings that a running host goes by
 abbrev pub readings_of : Host → Option Readings
 readings_of Stopped = None
-readings_of (Running m) = m.beats.readings
+readings_of (Running m) = m.readings
 
 -- no entry by which a host stops
 abbrev pub GoesOn : Filled → Type 0
@@ -165,8 +153,8 @@ AccountsFor = (c : Shape) (h : ℕ) (since : List Filled) → AllGoOn since → 
 
 -- an entry by which an operation begins, with so many tries
 abbrev pub BeginsWith : ℕ → Filled → Type 0
-BeginsWith tries (Submit h command n) = n ≡ tries
-BeginsWith tries (Recover h n) = n ≡ tries
+BeginsWith tries (Begin h (Submit command n)) = n ≡ tries
+BeginsWith tries (Begin h (Recover n)) = n ≡ tries
 BeginsWith tries other = ⊥
 
 abbrev pub IsCalled : Filled → Type 0

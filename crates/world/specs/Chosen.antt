@@ -10,8 +10,9 @@ use Rattle.lock_command.specs.declared.reply.Reply.{Reply}
 use Rattle.slot_log.specs.Shape.{Shape}
 use Rattle.host.specs.declared.answer.HostAnswer.{HostAnswer}
 use Rattle.host.specs.declared.answer.HostAnswer.TheVariants.{Ack, Recovered}
-use Rattle.host.specs.Host.{Submitting, Doing, Memory, Running, setup_of, with_heard, said_of}
-use Rattle.world.specs.Entry.{Filled, Submit, Recover, Called, Migrated, is_of}
+use Rattle.host.specs.declared.task.Task.TheVariants.{Submit, Recover}
+use Rattle.host.specs.Host.{Submitting, Attempt, Attempts, Memory, Running, setup_of, with_heard, said_of}
+use Rattle.world.specs.Entry.{Filled, Begin, Called, Migrated, is_of}
 use Rattle.world.specs.World.{World, world}
 
 -- the world before entry i
@@ -30,8 +31,8 @@ pub record Hears (c : Shape) (log : List Filled) (i : ℕ) (s : Setup) (heard : 
   pub entry : slice_get log i ≡ Some (Called host disk call answer left)
   pub memory : Memory
   pub running : (at c log i).host host ≡ Running memory
-  pub doing : Doing
-  pub does : memory.doing ≡ Some doing
+  pub doing : Attempt
+  pub does : memory.doing ≡ Some (Attempts doing)
   pub is_setup : s ≡ setup_of c host memory doing.operation
   pub is_heard : heard ≡ (with_heard doing (record { disk = disk; heard = heard_as answer })).heard
 
@@ -66,7 +67,7 @@ pub record IsLog (c : Shape) (log : List Filled) (values : List (List ℕ)) : Ty
 
 -- the entry submits the command, or migrates it
 abbrev pub Submits : Filled → Command → Type 0
-Submits (Submit host given tries) command = given ≡ command
+Submits (Begin host (Submit given tries)) command = given ≡ command
 Submits (Migrated disks log) command = (slot : ℕ) × (slice_get log slot ≡ Some command)
 Submits other command = ⊥
 
@@ -94,8 +95,8 @@ pub record IsAcknowledgedAt (c : Shape) (log : List Filled) (i host slot : ℕ) 
   pub says : SaysAt c log i host (Ack slot reply)
   pub memory : Memory
   pub running : (at c log i).host host ≡ Running memory
-  pub doing : Doing
-  pub does : memory.doing ≡ Some doing
+  pub doing : Attempt
+  pub does : memory.doing ≡ Some (Attempts doing)
   pub submitting : doing.operation ≡ Submitting command
 
 -- the entry is a device call of the host
@@ -109,7 +110,7 @@ pub record IsCallOf (host : ℕ) (e : Filled) : Type 0 where
 -- A recovery of the host begins at entry i and answers at entry j; in between the host makes device calls alone.
 pub record IsRecovery (c : Shape) (log : List Filled) (i j host n : ℕ) : Type 0 where
   pub tries : ℕ
-  pub begins : slice_get log i ≡ Some (Recover host tries)
+  pub begins : slice_get log i ≡ Some (Begin host (Recover tries))
   pub order : i ≤ j
   pub calls : (k : ℕ) (e : Filled) → i < k → k ≤ j → slice_get log k ≡ Some e → is_of host e ≡ true → IsCallOf host e
   pub says : SaysAt c log j host (Recovered n)

@@ -7,16 +7,14 @@ use Rattle.migration.specs.Image.{rows_for}
 use Rattle.lock_command.specs.declared.command.Command.{Command}
 use Rattle.lock_command.specs.Command.{spelling}
 use Rattle.slot_log.specs.Shape.{Shape}
-use Rattle.host.specs.Host.{Operation, Submitting, Recovering, Host, Stopped, Running, fresh, goes_on, starts_beat, starts_marking, starts_look, hears_from}
+use Rattle.host.specs.declared.task.Task.{Task}
+use Rattle.host.specs.Host.{Host, Stopped, Running, fresh, starts, hears_from}
 
 pub data Filled : Type 0 where
   Start : (host : ℕ) → Filled
   Stop : (host : ℕ) → Filled
-  Submit : (host : ℕ) → (command : Command) → (tries : ℕ) → Filled
-  Recover : (host : ℕ) → (tries : ℕ) → Filled
-  Look : (host : ℕ) → Filled
-  Beat : (host : ℕ) → Filled
-  Mark : (host slot : ℕ) → Filled
+  -- a host was given a task
+  Begin : (host : ℕ) → (task : Task) → Filled
   -- a device call with its answer, and what a write that failed left in its range
   Called : (host disk : ℕ) → (call : Call) → (answer : Answer) → (left : List ℕ) → Filled
   -- a host stopped within a write, which left these bytes in its range
@@ -41,11 +39,7 @@ is_on k other = false
 abbrev pub is_of : ℕ → Filled → Bool
 is_of h (Start g) = g == h
 is_of h (Stop g) = g == h
-is_of h (Submit g command tries) = g == h
-is_of h (Recover g tries) = g == h
-is_of h (Look g) = g == h
-is_of h (Beat g) = g == h
-is_of h (Mark g slot) = g == h
+is_of h (Begin g task) = g == h
 is_of h (Called g d call answer left) = g == h
 is_of h (Torn g d call left) = g == h
 is_of h other = false
@@ -101,25 +95,10 @@ abbrev pub started : Host → Host
 started Stopped = Running fresh
 started (Running m) = Running m
 
--- a running host begins an operation
-abbrev pub begins_on : Shape → Host → Operation → ℕ → Host
-begins_on c Stopped operation tries = Stopped
-begins_on c (Running m) operation tries = Running (goes_on c m operation tries)
-
--- or a beat
-abbrev pub beats : Host → Host
-beats Stopped = Stopped
-beats (Running m) = Running (starts_beat m)
-
--- or a marking
-abbrev pub marks : Host → ℕ → Host
-marks Stopped slot = Stopped
-marks (Running m) slot = Running (starts_marking m slot)
-
--- or a look
-abbrev pub looks : Shape → Host → Host
-looks c Stopped = Stopped
-looks c (Running m) = Running (starts_look c m)
+-- a running host begins a task
+abbrev pub begins_on : Shape → Host → Task → Host
+begins_on c Stopped task = Stopped
+begins_on c (Running m) task = Running (starts c m task)
 
 -- a running host hears an answer of a disk
 abbrev pub hears_on : Shape → ℕ → Host → ℕ → Answer → Host
@@ -129,11 +108,7 @@ hears_on c h (Running m) d answer = Running (hears_from c h m m.doing d answer)
 abbrev pub host_step : Shape → ℕ → Host → Filled → Host
 host_step c h old (Start g) = started old
 host_step c h old (Stop g) = Stopped
-host_step c h old (Submit g command tries) = begins_on c old (Submitting command) tries
-host_step c h old (Recover g tries) = begins_on c old Recovering tries
-host_step c h old (Look g) = looks c old
-host_step c h old (Beat g) = beats old
-host_step c h old (Mark g slot) = marks old slot
+host_step c h old (Begin g task) = begins_on c old task
 host_step c h old (Called g d call answer left) = hears_on c h old d answer
 host_step c h old (Torn g d call left) = Stopped
 host_step c h old other = old

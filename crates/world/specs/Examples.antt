@@ -6,7 +6,8 @@ use Rattle.lock_command.specs.declared.command.Action.TheVariants.{Enqueue}
 use Rattle.slot_log.specs.Shape.{Shape}
 use Rattle.host.specs.declared.answer.HostAnswer.{HostAnswer}
 use Rattle.world.specs.Entry.{Filled}
-use Rattle.world.specs.Happens.{Event, Start, Submit, Recover, Step, Line, run}
+use Rattle.host.specs.declared.task.Task.TheVariants.{Submit, Recover}
+use Rattle.world.specs.Happens.{Event, Start, Begin, Step, Line, run}
 
 -- one disk, and room for two commands
 abbrev pub one_disk : Shape
@@ -18,14 +19,14 @@ takes_db = record { host = 0; client = 1; request = 1; action = Enqueue 1 (100 �
 
 -- host 0 starts, submits that with one try, and makes seventeen calls
 abbrev pub submitting : List Event
-submitting = Start 0 ∷ Submit 0 takes_db 1 ∷ replicate 17 (Step 0)
+submitting = Start 0 ∷ Begin 0 (Submit takes_db 1) ∷ replicate 17 (Step 0)
 
 unfoldable pub submission : List Filled
 submission = run one_disk submitting
 
 -- host 0 starts, recovers the log with one try, and makes ten calls
 abbrev pub recovering : List Event
-recovering = Start 0 ∷ Recover 0 1 ∷ replicate 10 (Step 0)
+recovering = Start 0 ∷ Begin 0 (Recover 1) ∷ replicate 10 (Step 0)
 
 unfoldable pub recovery : List Filled
 recovery = run one_disk recovering

@@ -11,6 +11,8 @@ use Rattle.lock_command.specs.Command.{spelling, is_submittable}
 use Rattle.lock_command.specs.Reading.{decoded}
 use Rattle.slot_log.specs.Shape.{Shape}
 use Rattle.host.specs.declared.answer.HostAnswer.{HostAnswer}
+use Rattle.host.specs.declared.task.Task.{Task}
+use Rattle.host.specs.declared.task.Task.TheVariants.{Submit, Recover, Mark}
 use Rattle.host.specs.Host.{next_of, is_stopped, idles, said_of}
 use Rattle.world.specs.Entry as entries
 use Rattle.world.specs.Entry.{Filled, Called, Torn, Crashed, Lost, Migrated}
@@ -19,11 +21,8 @@ use Rattle.world.specs.World.{World, world}
 pub data Event : Type 0 where
   Start : (host : ℕ) → Event
   Stop : (host : ℕ) → Event
-  Submit : (host : ℕ) → (command : Command) → (tries : ℕ) → Event
-  Recover : (host : ℕ) → (tries : ℕ) → Event
-  Look : (host : ℕ) → Event
-  Beat : (host : ℕ) → Event
-  Mark : (host slot : ℕ) → Event
+  -- the host is given a task
+  Begin : (host : ℕ) → (task : Task) → Event
   -- the host makes its next device call, which does not fail
   Step : (host : ℕ) → Event
   -- the host stops within its next call, a write, whose range takes the given bytes
@@ -87,18 +86,20 @@ has_disk c w k = nat_lt k c.disks && not (w.disk k).gone
 -- a command that its spelling reads as, and for which a client may ask, is submitted through its own host
 abbrev pub submitted : ℕ → ℕ → Option Command → Option Filled
 submitted h tries None = None
-submitted h tries (Some command) = brings_if (command.host == h && is_submittable command) (Some (entries.Submit h command tries))
+submitted h tries (Some command) = brings_if (command.host == h && is_submittable command) (Some (entries.Begin h (Submit command tries)))
+
+-- a task that an idle host is given has a try, where it needs one, and its slot is one of the log
+abbrev pub task_entry : Shape → ℕ → Task → Option Filled
+task_entry c h (Submit command tries) = brings_if (nat_lt 0 tries) (submitted h tries (decoded (spelling command)))
+task_entry c h (Recover tries) = brings_if (nat_lt 0 tries) (Some (entries.Begin h (Recover tries)))
+task_entry c h (Mark slot) = brings_if (nat_lt slot c.slots) (Some (entries.Begin h (Mark slot)))
+task_entry c h task = Some (entries.Begin h task)
 
 -- The entry that an event brings in a world; none where it does not apply.
 abbrev pub entry_of : Shape → World → Event → Option Filled
 entry_of c w (Start h) = brings_if (nat_lt h HOSTS && is_stopped (w.host h)) (Some (entries.Start h))
 entry_of c w (Stop h) = brings_if (not (is_stopped (w.host h))) (Some (entries.Stop h))
-entry_of c w (Submit h command tries) =
-    brings_if (idles (w.host h) && nat_lt 0 tries) (submitted h tries (decoded (spelling command)))
-entry_of c w (Recover h tries) = brings_if (idles (w.host h) && nat_lt 0 tries) (Some (entries.Recover h tries))
-entry_of c w (Look h) = brings_if (idles (w.host h)) (Some (entries.Look h))
-entry_of c w (Beat h) = brings_if (idles (w.host h)) (Some (entries.Beat h))
-entry_of c w (Mark h slot) = brings_if (idles (w.host h) && nat_lt slot c.slots) (Some (entries.Mark h slot))
+entry_of c w (Begin h task) = brings_if (idles (w.host h)) (task_entry c h task)
 entry_of c w (Step h) = option_map (stepped w h) (next_of c h (w.host h))
 entry_of c w (Tear h given) = brings_if (are_some given) (option_and_then (torn w h given) (next_of c h (w.host h)))
 entry_of c w (FailCall h given) = brings_if (are_some given) (option_and_then (failed w h given) (next_of c h (w.host h)))
@@ -139,11 +140,7 @@ pub record Line : Type 0 where
 abbrev pub host_of : Filled → Option ℕ
 host_of (entries.Start h) = Some h
 host_of (entries.Stop h) = Some h
-host_of (entries.Submit h command tries) = Some h
-host_of (entries.Recover h tries) = Some h
-host_of (entries.Look h) = Some h
-host_of (entries.Beat h) = Some h
-host_of (entries.Mark h slot) = Some h
+host_of (entries.Begin h task) = Some h
 host_of (Called h k call answer left) = Some h
 host_of (Torn h k call left) = Some h
 host_of (Crashed k left) = None

@@ -7,18 +7,11 @@ use Rattle.slot_log.specs.Shape.{Shape}
 use Rattle.slot_log.specs.declared.outcome.Refusal.TheVariants as refusal
 use Rattle.host.specs.declared.answer.HostAnswer.{HostAnswer}
 use Rattle.host.specs.declared.answer.HostAnswer.TheVariants.{Looked, Refused}
-use Rattle.host.specs.Host.{Looking, Memory, Running, look_of, looking_with}
+use Rattle.host.specs.Host.{Looking, Looks, Memory, Running, look_of, looking_with}
 use Rattle.world.specs.Entry.{Filled, Called}
 use Rattle.world.specs.Chosen.{at}
 
--- WHO LOOKS
-
--- The host looks, and does nothing else.
-pub record IsLooking (m : Memory) (t : Looking) : Type 0 where
-  pub tries : m.doing ≡ None
-  pub beats : m.beats.heard ≡ None
-  pub marks : m.marking ≡ None
-  pub looks : m.looking ≡ Some t
+-- WHAT ITS LOOK HEARS
 
 -- At entry i a host's look at a slot hears an answer, and has heard these then.
 pub record HearsLooking (c : Shape) (log : List Filled) (i : ℕ) (s : Setup) (heard : List Answered) : Type 0 where
@@ -31,7 +24,7 @@ pub record HearsLooking (c : Shape) (log : List Filled) (i : ℕ) (s : Setup) (h
   pub memory : Memory
   pub running : (at c log i).host host ≡ Running memory
   pub looking : Looking
-  pub looks : IsLooking memory looking
+  pub looks : memory.doing ≡ Some (Looks looking)
   pub is_setup : s ≡ look_of c memory looking.first
   pub is_heard : heard ≡ (looking_with looking (record { disk = disk; heard = heard_as answer })).heard
 

@@ -7,8 +7,9 @@ use Rattle.lock_table.specs.Apply.{Plain, table_after}
 use Rattle.lock_table.specs.Picture.{IsPictureOf, Shown}
 use Rattle.host.specs.declared.answer.HostAnswer.{HostAnswer}
 use Rattle.host.specs.declared.answer.HostAnswer.TheVariants.{Ack, Recovered, Looked, Beaten, Marked, Refused}
-use Rattle.host.specs.Host.{Operation, Submitting, Doing, Memory, Host, Running, idles, learned_of, reply_after}
-use Rattle.world.specs.Happens.{Event, Submit, Line}
+use Rattle.host.specs.declared.task.Task.TheVariants.{Submit}
+use Rattle.host.specs.Host.{Operation, Submitting, Attempt, Attempts, Memory, Host, Running, idles, learned_of, reply_after}
+use Rattle.world.specs.Happens.{Event, Begin, Line}
 use Rattle.world.specs.Opening.{Opening, world_after}
 
 -- BEFORE AN EVENT
@@ -27,7 +28,7 @@ pub record IsSubmittedBefore (events : List Event) (i : ℕ) (value : List ℕ) 
   pub command : Command
   pub tries : ℕ
   pub before : place < i
-  pub event : slice_get events place ≡ Some (Submit host command tries)
+  pub event : slice_get events place ≡ Some (Begin host (Submit command tries))
   pub spelled : value ≡ spelling command
 
 -- a command of this spelling was moved
@@ -41,9 +42,9 @@ IsGivenBefore o events i value = IsMoved o value ⊎ IsSubmittedBefore events i 
 -- the host carries this operation out
 pub record CarriesOut (host : Host) (operation : Operation) : Type 0 where
   pub memory : Memory
-  pub doing : Doing
+  pub doing : Attempt
   pub running : host ≡ Running memory
-  pub does : memory.doing ≡ Some doing
+  pub does : memory.doing ≡ Some (Attempts doing)
   pub is : doing.operation ≡ operation
 
 -- WHAT A LINE TELLS

@@ -9,8 +9,10 @@ use Rattle.lock_command.specs.declared.command.Command.{Command}
 use Rattle.lock_command.specs.Command.{spelling, is_submittable}
 use Rattle.lock_command.specs.Reading.{decoded}
 use Rattle.slot_log.specs.Shape.{Shape}
+use Rattle.host.specs.declared.task.Task.{Task}
+use Rattle.host.specs.declared.task.Task.TheVariants.{Submit, Recover, Look, Beat, Mark}
 use Rattle.host.specs.Host.{Host, Stopped, next_of, is_stopped, idles}
-use Rattle.world.specs.Entry.{Filled, Start, Stop, Submit, Recover, Look, Beat, Mark, Called, Torn, Crashed, Lost, Migrated, on_disk, of_host, disk_step, disk_after, host_after}
+use Rattle.world.specs.Entry.{Filled, Start, Stop, Begin, Called, Torn, Crashed, Lost, Migrated, on_disk, of_host, disk_step, disk_after, host_after}
 
 -- THE WORLD
 
@@ -48,16 +50,20 @@ Tears (Read boot at len) old new = ⊥
 Tears (Write boot at from) old new = (old.gone ≡ false) × (boot ≡ old.boot) × device.Torn at (length from) old new
 Tears (Sync boot) old new = ⊥
 
+-- A host may be given the task: it has a try, where it needs one, a command is the host's own and one for which a client may ask, and a
+-- slot is one of the log.
+abbrev pub MayBeGiven : Shape → ℕ → Task → Type 0
+MayBeGiven c h (Submit command tries) = ReadsBack command × (command.host ≡ h) × (0 < tries) × IsTrue (is_submittable command)
+MayBeGiven c h (Recover tries) = 0 < tries
+MayBeGiven c h Look = Unit {0}
+MayBeGiven c h Beat = Unit {0}
+MayBeGiven c h (Mark slot) = slot < c.slots
+
 -- The entry may follow in this world.
 abbrev pub MayFollow : Shape → World → Filled → Type 0
 MayFollow c w (Start h) = (h < HOSTS) × IsTrue (is_stopped (w.host h))
 MayFollow c w (Stop h) = is_stopped (w.host h) ≡ false
-MayFollow c w (Submit h command tries) =
-    IsTrue (idles (w.host h)) × ReadsBack command × (command.host ≡ h) × (0 < tries) × IsTrue (is_submittable command)
-MayFollow c w (Recover h tries) = IsTrue (idles (w.host h)) × (0 < tries)
-MayFollow c w (Look h) = IsTrue (idles (w.host h))
-MayFollow c w (Beat h) = IsTrue (idles (w.host h))
-MayFollow c w (Mark h slot) = IsTrue (idles (w.host h)) × (slot < c.slots)
+MayFollow c w (Begin h task) = IsTrue (idles (w.host h)) × MayBeGiven c h task
 MayFollow c w (Called h k call answer left) =
     IsNext c w h k call × Step (w.disk k) call answer (disk_step (w.disk k) (Called h k call answer left))
 MayFollow c w (Torn h k call left) = IsNext c w h k call × Tears call (w.disk k) (disk_step (w.disk k) (Torn h k call left))

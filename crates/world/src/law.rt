@@ -1,5 +1,5 @@
 // What an entry changes, that events make runs, and what follows of hosts and of a log that is known.
-ghost use Rattle.std.specs.Prelude.{◌≡◌, ◌++◌, ◌∷◌, ◌<◌, ◌≤◌, ◌*◌, [], ℕ, true, false, List, length, take, slice_get, Some, None};
+ghost use Rattle.std.specs.Prelude.{◌≡◌, ◌++◌, ◌∷◌, ◌<◌, ◌≤◌, ◌*◌, [], ℕ, true, false, List, length, take, slice_get, Some};
 ghost use Rattle.disk.specs.Disk.{Call, Answer};
 ghost use Rattle.disk.specs.Crash.{IsWhole};
 ghost use Rattle.attempt.specs.Answers.{Answered, on};
@@ -15,9 +15,10 @@ ghost use Rattle.marks.specs.History.{IsHistory as IsMarkingHistory};
 ghost use Rattle.looks.specs.History.{IsHistory as IsLookHistory};
 ghost use Rattle.looks.specs.Status.{Setup as LookSetup};
 ghost use Rattle.slot_log.specs.Shape.{Shape};
-ghost use Rattle.host.specs.Host.{Doing, Looking, Marking, Memory, Running, starts_look, hears_from, setup_of, beat_of, marking_of, look_of, is_idle, next_of};
+ghost use Rattle.host.specs.declared.task.Task.TheVariants.{Look};
+ghost use Rattle.host.specs.Host.{Attempt, Looking, Marking, Attempts, Looks, Beats, Marks, Memory, Running, starts, hears_from, setup_of, beat_of, marking_of, look_of, is_idle, next_of};
 ghost use Rattle.world.specs.Entry.{Filled, is_on, is_of, disk_step, host_step};
-ghost use Rattle.world.specs.Looks.{HearsLooking, IsLooking, SaysLooking};
+ghost use Rattle.world.specs.Looks.{HearsLooking, SaysLooking};
 ghost use Rattle.world.specs.World.{world, ReadsBack, MayFollow, CanMigrate, MayBegin, IsFreshRun, IsRun};
 ghost use Rattle.world.specs.Happens.{Event, entry_of, happens, run, run_after, lines_at, answers};
 ghost use Rattle.world.specs.Chosen.{at, Hears, IsChosenAt};
@@ -92,11 +93,11 @@ pub fn commands_read_back()
 /// What a busy host's attempt has heard in a run is a history of it, and a call on some disk is
 /// due. What it ends committed with is chosen then.
 pub fn attempts_hear_histories()
-    ensures now { (c : Shape) (log : List Filled) (h : ℕ) (m : Memory) (t : Doing) → IsRun c log →
-        (world c log).host h ≡ Running m → m.doing ≡ Some t →
+    ensures now { (c : Shape) (log : List Filled) (h : ℕ) (m : Memory) (t : Attempt) → IsRun c log →
+        (world c log).host h ≡ Running m → m.doing ≡ Some (Attempts t) →
         IsHistory (setup_of c h m t.operation) t.heard }
-    ensures due { (c : Shape) (log : List Filled) (h : ℕ) (m : Memory) (t : Doing) → 1 ≤ c.disks →
-        IsRun c log → (world c log).host h ≡ Running m → m.doing ≡ Some t →
+    ensures due { (c : Shape) (log : List Filled) (h : ℕ) (m : Memory) (t : Attempt) → 1 ≤ c.disks →
+        IsRun c log → (world c log).host h ≡ Running m → m.doing ≡ Some (Attempts t) →
         (k : ℕ) × (call : Call) × (k < c.disks) × (next_of c h (Running m) ≡ Some (k, call)) }
     ensures at_entries { (c : Shape) (log : List Filled) (i : ℕ) (s : Setup)
         (heard : List Answered) → IsRun c log → Hears c log i s heard → IsHistory s heard }
@@ -118,45 +119,40 @@ pub fn hosts_account_for_themselves()
 /// with one more it has heard at most nine. A call on some disk is due.
 pub fn beats_hear_histories()
     ensures now { (c : Shape) (log : List Filled) (h : ℕ) (m : Memory) (heard : List Beaten) →
-        IsRun c log → (world c log).host h ≡ Running m → m.beats.heard ≡ Some heard →
+        IsRun c log → (world c log).host h ≡ Running m → m.doing ≡ Some (Beats heard) →
         IsBeatHistory (beat_of c h) heard }
     ensures nine { (c : Shape) (log : List Filled) (h : ℕ) (m : Memory) (heard : List Beaten) →
-        1 ≤ c.disks → IsRun c log → (world c log).host h ≡ Running m → m.beats.heard ≡ Some heard →
+        1 ≤ c.disks → IsRun c log → (world c log).host h ≡ Running m → m.doing ≡ Some (Beats heard) →
         length heard < 9 * c.disks }
     ensures due { (c : Shape) (log : List Filled) (h : ℕ) (m : Memory) → 1 ≤ c.disks →
         IsRun c log → (world c log).host h ≡ Running m → is_idle m ≡ false →
         (k : ℕ) × (call : Call) × (k < c.disks) × (next_of c h (Running m) ≡ Some (k, call)) }
 {}
 
-/// What a busy host's marking has heard in a run is a history of it, of fewer than nine answers a disk, and no
-/// attempt is under way beside it.
+/// What a busy host's marking has heard in a run is a history of it, of fewer than nine answers a disk.
 pub fn markings_hear_histories()
     ensures now { (c : Shape) (log : List Filled) (h : ℕ) (m : Memory) (t : Marking) → IsRun c log →
-        (world c log).host h ≡ Running m → m.marking ≡ Some t →
+        (world c log).host h ≡ Running m → m.doing ≡ Some (Marks t) →
         IsMarkingHistory (marking_of c h m t.slot) t.heard }
     ensures nine { (c : Shape) (log : List Filled) (h : ℕ) (m : Memory) (t : Marking) →
-        1 ≤ c.disks → IsRun c log → (world c log).host h ≡ Running m → m.marking ≡ Some t →
+        1 ≤ c.disks → IsRun c log → (world c log).host h ≡ Running m → m.doing ≡ Some (Marks t) →
         length t.heard < 9 * c.disks }
-    ensures alone { (c : Shape) (log : List Filled) (h : ℕ) (m : Memory) (t : Marking) → IsRun c log →
-        (world c log).host h ≡ Running m → m.marking ≡ Some t → m.doing ≡ None }
 {}
 
 /// What a busy host's look has heard in a run is a history of it, of fewer than two answers a disk for the slot that it looks at. That is a slot
-/// of the log, and nothing else is under way beside the look. At each entry with which it hears an answer that is a history too.
+/// of the log. At each entry with which it hears an answer that is a history too.
 pub fn looks_hear_histories()
     ensures now { (c : Shape) (log : List Filled) (h : ℕ) (m : Memory) (t : Looking) → IsRun c log →
-        (world c log).host h ≡ Running m → m.looking ≡ Some t →
+        (world c log).host h ≡ Running m → m.doing ≡ Some (Looks t) →
         IsLookHistory (look_of c m t.first) t.heard }
     ensures two { (c : Shape) (log : List Filled) (h : ℕ) (m : Memory) (t : Looking) →
-        1 ≤ c.disks → IsRun c log → (world c log).host h ≡ Running m → m.looking ≡ Some t →
+        1 ≤ c.disks → IsRun c log → (world c log).host h ≡ Running m → m.doing ≡ Some (Looks t) →
         length t.heard < 2 * c.disks }
     ensures first { (c : Shape) (log : List Filled) (h : ℕ) (m : Memory) (t : Looking) →
-        1 ≤ c.disks → IsRun c log → (world c log).host h ≡ Running m → m.looking ≡ Some t →
+        1 ≤ c.disks → IsRun c log → (world c log).host h ≡ Running m → m.doing ≡ Some (Looks t) →
         t.first < c.disks }
     ensures fits { (c : Shape) (log : List Filled) (h : ℕ) (m : Memory) (t : Looking) → IsRun c log →
-        (world c log).host h ≡ Running m → m.looking ≡ Some t → length m.learned < c.slots }
-    ensures alone { (c : Shape) (log : List Filled) (h : ℕ) (m : Memory) (t : Looking) → IsRun c log →
-        (world c log).host h ≡ Running m → m.looking ≡ Some t → IsLooking m t }
+        (world c log).host h ≡ Running m → m.doing ≡ Some (Looks t) → length m.learned < c.slots }
     ensures at_entries { (c : Shape) (log : List Filled) (i : ℕ) (s : LookSetup)
         (heard : List Answered) → IsRun c log → HearsLooking c log i s heard → IsLookHistory s heard }
 {}
@@ -165,15 +161,15 @@ pub fn looks_hear_histories()
 /// were. It says how many commands it has learned, or that too few disks are left, or that what was decided is no command: it
 /// is not outrun, and has no ballot to spend.
 pub fn looks_only_read()
-    ensures reads { (c : Shape) (h k : ℕ) (m : Memory) (t : Looking) (call : Call) → IsLooking m t →
+    ensures reads { (c : Shape) (h k : ℕ) (m : Memory) (t : Looking) (call : Call) → m.doing ≡ Some (Looks t) →
         next_of c h (Running m) ≡ Some (k, call) → OnlyReads call }
     ensures bytes { (c : Shape) (log : List Filled) (h k : ℕ) (m : Memory) (t : Looking) (e : Filled) →
-        (world c log).host h ≡ Running m → IsLooking m t →
+        (world c log).host h ≡ Running m → m.doing ≡ Some (Looks t) →
         MayFollow c (world c log) e → is_of h e ≡ true →
         (disk_step ((world c log).disk k) e).bytes ≡ ((world c log).disk k).bytes }
-    ensures begins { (c : Shape) (m : Memory) → let new = starts_look c m in
+    ensures begins { (c : Shape) (m : Memory) → let new = starts c m Look in
         SaysLooking (length new.learned) new.said }
-    ensures says { (c : Shape) (h k : ℕ) (m : Memory) (t : Looking) (answer : Answer) → IsLooking m t →
+    ensures says { (c : Shape) (h k : ℕ) (m : Memory) (t : Looking) (answer : Answer) → m.doing ≡ Some (Looks t) →
         let new = hears_from c h m m.doing k answer in
         SaysLooking (length new.learned) new.said }
 {}

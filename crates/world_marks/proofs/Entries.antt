@@ -9,7 +9,7 @@ use Rattle.torn_block.proofs.RegisterLaws.{rests_crashed}
 use Rattle.paxos_block.specs.Places.{VoteOf, place_of}
 use Rattle.paxos_block.proofs.Outcomes.{Outcomes}
 use Rattle.slot_log.specs.Shape.{Shape}
-use Rattle.world.specs.Entry.{Filled, Start, Stop, Submit, Recover, Look, Beat, Mark, Called, Torn, Crashed, Lost, Migrated, is_on, disk_step}
+use Rattle.world.specs.Entry.{Filled, Called, Torn, Crashed, Lost, Migrated, is_on, disk_step}
 use Rattle.world.specs.World.{World, MayFollow}
 use Rattle.world_safety.specs.Marks.{AllSay}
 use Rattle.world_safety.specs.Next.{next_world}
@@ -37,13 +37,6 @@ module _ (c : Shape) (w : World) (ms : Moves) (tied : Tied c w ms) (K : ℕ → 
       all_say_by HasMark (place_of (VoteOf slot host)) (w.disk k) new outcomes is
 
   step_keeps : (e : Filled) → MayFollow c w e → is_on d e ≡ true → IsSo (disk_step (w.disk d) e)
-  step_keeps (Start h) may on = absurd (cc)
-  step_keeps (Stop h) may on = absurd (cc)
-  step_keeps (Submit h command tries) may on = absurd (cc)
-  step_keeps (Recover h tries) may on = absurd (cc)
-  step_keeps (Look h) may on = absurd (cc)
-  step_keeps (Beat h) may on = absurd (cc)
-  step_keeps (Mark h at) may on = absurd (cc)
   step_keeps (Called h k call answer left) may on =
       on_this k on (λ disk. disk_step disk (Called h k call answer left)) (λ is. call_keeps c w ms tied h k call answer left may.0 may.1 K (known h) slot host slot_below below is)
   step_keeps (Torn h k call left) may on =
@@ -51,6 +44,7 @@ module _ (c : Shape) (w : World) (ms : Moves) (tied : Tied c w ms) (K : ℕ → 
   step_keeps (Crashed k left) may on = on_this k on (λ disk. disk_step disk (Crashed k left)) (crashed k left may.2)
   step_keeps (Lost k) may on = all_say_by HasMark (place_of (VoteOf slot host)) (w.disk d) (disk_step (w.disk d) (Lost k)) (spares_lost (place_of (VoteOf slot host)) (w.disk d)).outcomes before
   step_keeps (Migrated disks log) may on = absurd may
+  step_keeps other may on = absurd (cc)
 
   pub entry_keeps : (e : Filled) → MayFollow c w e → IsMarkedOn (next_world c w e) slot host d
   entry_keeps e may = disk_by c w e d IsSo (λ on. step_keeps e may on) before

@@ -1,5 +1,5 @@
 -- What is marked on more than half of the disks is found by each attempt that begins later, and so by each look.
-use Rattle.std.specs.Prelude.{IsTrue, slice_get, ◌*◌, if◌then◌else◌}
+use Rattle.std.specs.Prelude.{IsTrue, is_none, slice_get, ◌*◌, if◌then◌else◌}
 use Rattle.std.proofs.Common.{ℕ, zero, suc, ◌+◌, ◌<◌, ◌≤◌, ◌≡◌, inl, inr, Bool, true, false, cond, Option, Some, None, List, [], ◌∷◌, length, refl, sym, subst, ap, ◌∙◌, arith}
 use Rattle.std.proofs.lemmas.Bool.{cases_lt, cases_eq, ltb-true, both_ways}
 use Rattle.torn_block.specs.Layout.{hosts_in}
@@ -20,17 +20,20 @@ use Rattle.attempt.proofs.Histories.{history_reached}
 use Rattle.attempt.proofs.Visitors.{left_is, left_over}
 use Rattle.lock_command.specs.Command.{spelling}
 use Rattle.looks.specs.Status as look
+use Rattle.marks.specs.Status as mark
 use Rattle.looks.proofs.Ends.{no_mark_read, unmarked_is}
 use Rattle.slot_log.specs.Shape.{Shape}
-use Rattle.host.specs.Host.{Memory, Host, Stopped, Running, look_of, looking_with, idles}
-use Rattle.world.specs.Entry.{Filled, Look, Mark, Migrated}
+use Rattle.host.specs.declared.answer.HostAnswer.TheVariants.{Looked}
+use Rattle.host.specs.declared.task.Task.TheVariants.{Look, Mark}
+use Rattle.host.specs.Host.{Doing, Attempts, Looks, Memory, Host, Stopped, Running, marking_of, marking_with, look_of, looking_with, idles}
+use Rattle.world.specs.Entry.{Filled, Begin, Migrated}
 use Rattle.world.specs.World.{World, IsRun}
 use Rattle.world.specs.Chosen.{at, migrated, Hears}
 use Rattle.world.specs.Looks.{HearsLooking}
 use Rattle.world.proofs.Histories.{heard_then}
 use Rattle.world.proofs.Runs.{each, begins_migrated, migrated_fits}
 use Rattle.world_safety.specs.Claims.{HasHeardNothing}
-use Rattle.world_safety.proofs.Moves.Moving.{IsIdle, idle_is, running_at}
+use Rattle.world_safety.proofs.Moves.Moving.{running_at}
 use Rattle.world_safety.proofs.Runs.Commands.{map_there}
 use Rattle.world_safety.proofs.Runs.Migrated.{is_next, marked_first}
 use Rattle.world_safety.proofs.Runs.Tracks.{moves_at, tied_at}
@@ -38,9 +41,9 @@ use Rattle.world_marks.specs.Found.{IsMarkedOn, IsMarkedOnMany, IsMarkedBefore, 
 use Rattle.world_marks.proofs.Counting.{counts_marked}
 use Rattle.world_marks.proofs.Keeping.{some_row, undecided_block}
 use Rattle.world_marks.proofs.Places.{stays_marked}
-use Rattle.world_marks.proofs.Saying.{look_answers, looks_from}
-use Rattle.world_marks.proofs.Showing.{IsMarkShown, Shown, shown_more, shown_at, LookShown, look_shown_more, look_shown_at}
-use Rattle.world_marks.proofs.Steps.{tries_at, looks_at}
+use Rattle.world_marks.proofs.Saying.{IsSaidBy, ByBeginning, ByLook, ByMarking, said_by, marking_looks, on_looks, look_answers}
+use Rattle.world_marks.proofs.Showing.{IsMarkShown, IsShown, shown_at, attempt_more, look_more}
+use Rattle.world_marks.proofs.Steps.{does_at}
 
 -- a list has an item at each place below its length
 item_below : {A : Type 0} (l : List A) (k : ℕ) → k < length l → (x : A) × (slice_get l k ≡ Some x)
@@ -126,16 +129,16 @@ module _ (s : look.Setup) (f : Answers) (g n : ℕ) (below : g < HOSTS) (those :
 module _ (c : Shape) (log : List Filled) (run : IsRun c log) where
   -- what is marked before a place is a slot, marked by a host
   slot_is : (i slot : ℕ) → IsMarkedBefore c log i slot → slot < c.slots
-  slot_is i slot marked = (each c log marked.from (Mark marked.host slot) run marked.marking.begins).1
+  slot_is i slot marked = (each c log marked.from (Begin marked.host (Mark slot)) run marked.marking.begins).1
 
-  idle_host : (w : World) (host : ℕ) (old : Host) → w.host host ≡ old → IsTrue (idles old) → (m : Memory) × (w.host host ≡ Running m) × (IsIdle m)
-  idle_host w host Stopped is idle = absurd (cc)
-  idle_host w host (Running m) is idle = (m, is, idle_is m idle)
+  idle_runs : (host : Host) → IsTrue (idles host) → (m : Memory) × (host ≡ Running m)
+  idle_runs Stopped idle = absurd (cc)
+  idle_runs (Running m) idle = (m, refl)
 
   marker_is : (i slot : ℕ) (marked : IsMarkedBefore c log i slot) → marked.host < HOSTS
   marker_is i slot marked =
       let w = at c log marked.from in
-      let idle = idle_host w marked.host (w.host marked.host) refl (each c log marked.from (Mark marked.host slot) run marked.marking.begins).0 in
+      let idle = idle_runs (w.host marked.host) (each c log marked.from (Begin marked.host (Mark slot)) run marked.marking.begins).0 in
       (running_at c w (moves_at c log run marked.from) (tied_at c log run marked.from) marked.host idle.0 idle.1).below
 
   -- on these disks, which are more than half, a host's block of the slot is marked at place i
@@ -192,8 +195,8 @@ module _ (c : Shape) (log : List Filled) (run : IsRun c log) where
       let on_slot : length m.learned ≡ s.slot = ap (λ (q : Setup). q.slot) (sym hears.is_setup) in
       let disks : s.disks ≡ c.disks = ap (λ (q : Setup). q.disks) hears.is_setup in
       let within : g < hosts_in s.version = omega (arith, below, ap (λ (q : Setup). hosts_in q.version) hears.is_setup) in
-      let before = tries_at (Shown c log run i s.slot g slot_below below h) ((at c log j).host h) m t (shown_at c log run i s.slot g slot_below below h nothing j later) hears.running hears.does in
-      let behind = shown_more c log run i s.slot g slot_below below h j later m t hears.running hears.does hears.disk hears.call hears.answer hears.left hears.entry before in
+      let before = does_at (IsShown c log run i s.slot g slot_below below h) ((at c log j).host h) m (Attempts t) (shown_at c log run i s.slot g slot_below below h j later) hears.running hears.does nothing in
+      let behind = attempt_more c log run i s.slot g slot_below below h j later m hears.running hears.disk hears.call hears.answer hears.left hears.entry t hears.does before in
       finds s heard (heard_then c log j s heard run hears) g marked.n within marked.those (ap (λ (q : ℕ). count q marked.those) disks ∙ marked.many) (let most = marked.most in omega (arith, most, disks))
       (λ d inside those row read. behind on_slot d (marked.firm d (omega (arith, inside, disks)) those) row (ap (λ (xs : List Answered). row_in Opening (on xs d)) (sym hears.is_heard) ∙ read))
 
@@ -207,8 +210,8 @@ module _ (c : Shape) (log : List Filled) (run : IsRun c log) where
       let marked = marked_there i s.slot found in
       let on_slot : length m.learned ≡ s.slot = ap (λ (q : look.Setup). q.slot) (sym hears.is_setup) in
       let disks : s.disks ≡ c.disks = ap (λ (q : look.Setup). q.disks) hears.is_setup in
-      let before = looks_at (LookShown c log run i s.slot marked.host marked.slot_below marked.below h) ((at c log j).host h) m t (look_shown_at c log run i s.slot marked.host marked.slot_below marked.below h nothing j later) hears.running hears.looks.looks in
-      let behind = look_shown_more c log run i s.slot marked.host marked.slot_below marked.below h j later m t hears.running hears.looks.looks hears.disk hears.call hears.answer hears.left hears.entry before in
+      let before = does_at (IsShown c log run i s.slot marked.host marked.slot_below marked.below h) ((at c log j).host h) m (Looks t) (shown_at c log run i s.slot marked.host marked.slot_below marked.below h j later) hears.running hears.looks nothing in
+      let behind = look_more c log run i s.slot marked.host marked.slot_below marked.below h j later m hears.running hears.disk hears.call hears.answer hears.left hears.entry t hears.looks before in
       sees s (on heard) marked.host marked.n marked.below marked.those (ap (λ (q : ℕ). count q marked.those) disks ∙ marked.many) (let most = marked.most in omega (arith, most, disks))
       (λ d inside those row read. behind on_slot d (marked.firm d (omega (arith, inside, disks)) those) row (ap (λ (xs : List Answered). look.row_of (on xs d)) (sym hears.is_heard) ∙ read))
 
@@ -216,42 +219,45 @@ module _ (c : Shape) (log : List Filled) (run : IsRun c log) where
     -- the host was idle where the look begins
     nothing_yet : (slot : ℕ) → HasSeenNothing (at c log i) host slot
     nothing_yet slot m t running looks same =
-        let w = at c log i in
-        let idle = idle_host w host (w.host host) refl (each c log i (Look host) run looked.begins) in
-        let both : Running idle.0 ≡ Running m = sym idle.1 ∙ running in
-        let one : idle.0 ≡ m = cc in
-        let none : None ≡ Some t = sym idle.2.looks ∙ ap (λ (q : Memory). q.looking) one ∙ looks in
+        let idle : IsTrue (is_none m.doing) = subst (λ (old : Host). IsTrue (idles old)) running (each c log i (Begin host Look) run looked.begins).0 in
+        let never : IsTrue (is_none (Some (Looks t))) = subst (λ (o : Option Doing). IsTrue (is_none o)) looks idle in
         absurd (cc)
 
     -- it does not end behind a slot up to k that no mark tells
-    not_short : n ≤ k → ⊥
-    not_short short = elim (looks_from c log j host n run looked.says) [
-      | inl full ↦ (let fits = (marked_there i k (marked k (omega arith))).slot_below in omega (arith, full, fits, short))
-      | inr call ↦
-          (let m = call.memory in
-          let x : Answered = record { disk = call.disk; heard = heard_as call.answer } in
-          let t = looking_with call.looking x in
-          let s = look_of c m call.looking.first in
-          let hears : HearsLooking c log j s t.heard = record {
+    module _ (short : n ≤ k) where
+      not_full : c.slots ≤ n → ⊥
+      not_full full = let fits = (marked_there i k (marked k (omega arith))).slot_below in omega (arith, full, fits, short)
+
+      not_said : IsSaidBy c log j host (Looked n) → ⊥
+      not_said (ByBeginning m is) = not_full (on_looks c m 0 n is)
+      not_said (ByMarking t there is) =
+          let longer = marking_with t (record { disk = there.disk; heard = heard_as there.answer }) in
+          marking_looks there.memory longer (mark.status (marking_of c host there.memory t.slot) (on longer.heard)) n is
+      not_said (ByLook t there is) =
+          let longer = looking_with t (record { disk = there.disk; heard = heard_as there.answer }) in
+          let s = look_of c there.memory t.first in
+          let hears : HearsLooking c log j s longer.heard = record {
             host = host;
-            disk = call.disk;
-            call = call.call;
-            answer = call.answer;
-            left = call.left;
-            entry = call.entry;
-            memory = m;
-            running = call.running;
-            looking = call.looking;
-            looks = call.looks;
+            disk = there.disk;
+            call = there.call;
+            answer = there.answer;
+            left = there.left;
+            entry = there.entry;
+            memory = there.memory;
+            running = there.running;
+            looking = t;
+            looks = there.does;
             is_setup = refl;
             is_heard = refl;
           } in
-          elim (look_answers c m t (look.status s (on t.heard)) n call.says) [
-            | inl full ↦ (let fits = (marked_there i k (marked k (omega arith))).slot_below in omega (arith, full, fits, short))
+          elim (look_answers c there.memory longer (look.status s (on longer.heard)) n is) [
+            | inl full ↦ not_full full
             | inr unmarked ↦
-                subst SeesMark unmarked.0 (look_sees_it i j s t.heard hears looked.order (subst (IsFoundBefore c log i) (sym unmarked.1) (marked n short)) (nothing_yet s.slot))
-          ])
-    ]
+                subst SeesMark unmarked.0 (look_sees_it i j s longer.heard hears looked.order (subst (IsFoundBefore c log i) (sym unmarked.1) (marked n short)) (nothing_yet s.slot))
+          ]
+
+      not_short : ⊥
+      not_short = not_said (said_by c log j host (Looked n) tt run looked.says)
 
     look_finds : k < n
     look_finds = elim (cases_lt k n) [ inl less ↦ less | inr over ↦ absurd (not_short over) ]
@@ -270,7 +276,7 @@ looks_find_migrated c log run i j host n look = elim (cases_lt n (length (migrat
       let first = begins_migrated log n (spelling item.0) (map_there (migrated log) n item.0 item.1) in
       let behind : 0 < i = elim (cases_eq i 0) [
         | inr other ↦ omega arith
-        | inl zero_is ↦ absurd (let both : Some (Migrated first.disks first.commands) ≡ Some (Look host) = sym first.first ∙ ap (slice_get log) (sym zero_is) ∙ look.begins in cc)
+        | inl zero_is ↦ absurd (let both : Some (Migrated first.disks first.commands) ≡ Some (Begin host Look) = sym first.first ∙ ap (slice_get log) (sym zero_is) ∙ look.begins in cc)
       ] in
       absurd (let more = look_finds c log run i j host n n look (λ slot le. inr (behind, omega arith)) in omega arith))
 ]

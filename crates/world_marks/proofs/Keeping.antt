@@ -31,17 +31,17 @@ use Rattle.attempt.proofs.Votes.{told_is}
 use Rattle.beats.specs.Answers as beat_answers
 use Rattle.marks.specs.Status as mark
 use Rattle.slot_log.specs.Shape.{Shape}
-use Rattle.host.specs.Host.{Doing, Memory, Running, beat_of, marking_of, look_of, setup_of, next_of}
+use Rattle.host.specs.Host.{Attempt, Marking, Looking, Doing, Attempts, Looks, Beats, Marks, Memory, Running, beat_of, marking_of, look_of, setup_of, next_of}
 use Rattle.world.specs.Entry.{Called, disk_step}
 use Rattle.world.specs.World.{World}
-use Rattle.world_safety.specs.Marking.{KnowsMarkFor, IsMarking, IsMarkingSlot, IsMarkingIf}
+use Rattle.world_safety.specs.Marking.{KnowsMarkFor, IsMarking, IsMarkingSlot}
 use Rattle.world_safety.specs.Marks.{AllSay, IsMarkTrue, TellsTrueMarks}
 use Rattle.world_safety.specs.Tied.{Moves, IsDoing, IsRunning, Tied}
 use Rattle.world_safety.proofs.Blocks.Keeping.{spares_others}
 use Rattle.world_safety.proofs.Blocks.Owning.{under_is}
 use Rattle.world_safety.proofs.Blocks.Values.{all_say_by}
 use Rattle.world_safety.proofs.Moves.Beating.{beat_within}
-use Rattle.world_safety.proofs.Moves.Due.{IsBeatCall, IsMarkCall, IsLookCall, busy, IsCall, Due, due_of}
+use Rattle.world_safety.proofs.Moves.Due.{IsBusyWith, busy, IsCall, Due, due_of}
 use Rattle.world_safety.proofs.Moves.Looking.{is_calm, leaves}
 use Rattle.world_safety.proofs.Moves.Marking.{IsMarkDue, mark_due, to_mark, mark_inside}
 use Rattle.world_safety.proofs.Moves.Moving.{running_at}
@@ -123,7 +123,7 @@ own_or_other slot h P own others j g = elim (cases_eq j slot) [
 
 -- The rows that a host's attempt has read show true marks, and its own block has none where they show none.
 abbrev pub AttemptKnown : (ℕ → List ℕ → Type 0) → World → ℕ → Type 0
-AttemptKnown K w h = (m : Memory) (t : Doing) → w.host h ≡ Running m → m.doing ≡ Some t → ((d : ℕ) → TellsTrueMarks (K (length m.learned)) (on t.heard d)) × Unmarked w h (length m.learned) t.heard
+AttemptKnown K w h = (m : Memory) (t : Attempt) → w.host h ≡ Running m → m.doing ≡ Some (Attempts t) → ((d : ℕ) → TellsTrueMarks (K (length m.learned)) (on t.heard d)) × Unmarked w h (length m.learned) t.heard
 
 module _ (c : Shape) (w : World) (ms : Moves) (tied : Tied c w ms) (h k : ℕ) (call : Call) (answer : Answer) (left : List ℕ) (next : next_of c h (w.host h) ≡ Some (k, call)) (step : Step (w.disk k) call answer (disk_step (w.disk k) (Called h k call answer left))) where
   abbrev disk : DiskState
@@ -138,7 +138,7 @@ module _ (c : Shape) (w : World) (ms : Moves) (tied : Tied c w ms) (h k : ℕ) (
 
   -- AN ATTEMPT'S
 
-  module _ (m : Memory) (t : Doing) (running : w.host h ≡ Running m) (does : m.doing ≡ Some t) (K : List ℕ → Type 0) (tells : (d : ℕ) → TellsTrueMarks K (on t.heard d)) (unmarked : Unmarked w h (length m.learned) t.heard) where
+  module _ (m : Memory) (t : Attempt) (running : w.host h ≡ Running m) (does : m.doing ≡ Some (Attempts t)) (K : List ℕ → Type 0) (tells : (d : ℕ) → TellsTrueMarks K (on t.heard d)) (unmarked : Unmarked w h (length m.learned) t.heard) where
     now : IsCall c w ms h k call answer left m t
     now = record { tied = tied; running = running; does = does; next = next; step = step }
 
@@ -198,34 +198,34 @@ module _ (c : Shape) (w : World) (ms : Moves) (tied : Tied c w ms) (h k : ℕ) (
 
   -- A BEAT'S
 
-  module _ (is : IsBeatCall c h k call (w.host h)) where
+  module _ (heard : List beat_answers.Answered) (is : IsBusyWith c h k call (w.host h) (Beats heard)) where
     beat_keeps : (slot host : ℕ) → Keeps slot host
     beat_keeps slot host slot_below below before =
         let run = running_at c w ms tied h is.memory is.running in
         all_say_by HasMark (place_of (VoteOf slot host)) disk new
-        (spares_others c.slots (BeatOf h) (VoteOf slot host) disk new call answer run.below (slot_below, below) (λ equal. absurd (cc)) (tied.images k) (beat_within (beat_of c h) (beat_answers.on is.heard) k call is.due) step).outcomes
+        (spares_others c.slots (BeatOf h) (VoteOf slot host) disk new call answer run.below (slot_below, below) (λ equal. absurd (cc)) (tied.images k) (beat_within (beat_of c h) (beat_answers.on heard) k call is.due) step).outcomes
         before
 
   -- A MARKING'S
 
-  module _ (it : IsMarkCall c h k call (w.host h)) where
+  module _ (t : Marking) (it : IsBusyWith c h k call (w.host h) (Marks t)) where
     abbrev q : mark.Setup
-    q = marking_of c h it.memory it.marking.slot
+    q = marking_of c h it.memory t.slot
 
     abbrev a : List Heard
-    a = on it.marking.heard k
+    a = on t.heard k
 
     abbrev mark_place : ℕ
-    mark_place = place_of (VoteOf it.marking.slot h)
+    mark_place = place_of (VoteOf t.slot h)
 
     pub mark_run : IsRunning c w ms h it.memory
     mark_run = running_at c w ms tied h it.memory it.running
 
-    marking : IsMarkingSlot c w h it.memory it.marking
-    marking = subst (IsMarkingIf c w h it.memory) it.marks (subst (IsDoing c w ms h it.memory) it.rests mark_run.doing)
+    marking : IsMarkingSlot c w h it.memory t
+    marking = subst (IsDoing c w ms h it.memory) it.does mark_run.doing
 
     pub due : IsMarkDue q a call
-    due = mark_due q (on it.marking.heard) k call it.due
+    due = mark_due q (on t.heard) k call it.due
 
     -- what is to be marked has no mark
     free : (p : Phase) (put : WriteCall) → due.kind ≡ Putting p put → (mark.own_block q a).says.mark ≡ false
@@ -279,25 +279,26 @@ module _ (c : Shape) (w : World) (ms : Moves) (tied : Tied c w ms) (h k : ℕ) (
 
     marking_keeps : (slot host : ℕ) → Keeps slot host
     marking_keeps =
-        own_or_other it.marking.slot h Keeps (λ slot_below below before. marking_own before)
-        (λ slot host differ slot_below below before. (let inside = mark_inside c w ms tied h k call it (Called h k call answer left) answer step in
+        own_or_other t.slot h Keeps (λ slot_below below before. marking_own before)
+        (λ slot host differ slot_below below before. (let inside = mark_inside c w ms tied h k call t it (Called h k call answer left) answer step in
         all_say_by HasMark (place_of (VoteOf slot host)) disk new
-        (spares_others c.slots (VoteOf it.marking.slot h) (VoteOf slot host) disk new call answer (inside.0, mark_run.below) (slot_below, below) differ (tied.images k) inside.1 step).outcomes
+        (spares_others c.slots (VoteOf t.slot h) (VoteOf slot host) disk new call answer (inside.0, mark_run.below) (slot_below, below) differ (tied.images k) inside.1 step).outcomes
         before))
 
   -- A LOOK'S
 
-  look_keeps : IsLookCall c k call (w.host h) → (slot host : ℕ) → Keeps slot host
-  look_keeps it slot host slot_below below before =
-      let calm = is_calm (look_of c it.memory it.looking.first) (on it.looking.heard) k call it.due in
+  look_keeps : (t : Looking) → IsBusyWith c h k call (w.host h) (Looks t) → (slot host : ℕ) → Keeps slot host
+  look_keeps t it slot host slot_below below before =
+      let calm = is_calm (look_of c it.memory t.first) (on t.heard) k call it.due in
       subst (AllSay HasMark (place_of (VoteOf slot host))) (sym (leaves disk call answer left calm)) before
 
   -- ANY CALL
 
   pub call_keeps : (K : ℕ → List ℕ → Type 0) → AttemptKnown K w h → (slot host : ℕ) → Keeps slot host
-  call_keeps K attempt slot host slot_below below before = elim (busy c h k call (w.host h) next) [
-    | inl who ↦ (let is = attempt who.memory who.doing who.running who.does in attempt_keeps who.memory who.doing who.running who.does (K (length who.memory.learned)) is.0 is.1 slot host slot_below below before)
-    | inr (inl who) ↦ beat_keeps who slot host slot_below below before
-    | inr (inr (inl who)) ↦ marking_keeps who slot host slot_below below before
-    | inr (inr (inr who)) ↦ look_keeps who slot host slot_below below before
-  ]
+  call_keeps K attempt = let at_work = busy c h k call (w.host h) next in by at_work.0 at_work.1
+    where
+      by : (doing : Doing) → IsBusyWith c h k call (w.host h) doing → (slot host : ℕ) → Keeps slot host
+      by (Attempts t) it = let is = attempt it.memory t it.running it.does in attempt_keeps it.memory t it.running it.does (K (length it.memory.learned)) is.0 is.1
+      by (Looks t) it = look_keeps t it
+      by (Beats heard) it = beat_keeps heard it
+      by (Marks t) it = marking_keeps t it

@@ -25,22 +25,20 @@ use Rattle.attempt.proofs.Lists.{length_more, good_more, row_kept, row_last, row
 use Rattle.attempt.proofs.More.{on_more, by_disk}
 use Rattle.marks.specs.Status as mark
 use Rattle.slot_log.specs.Shape.{Shape}
-use Rattle.beats.specs.Answers as beat_answers
-use Rattle.host.specs.Host.{Doing, Marking, Memory, Host, Running, marking_of, next_of, next_doing, next_beside, next_marking}
+use Rattle.host.specs.Host.{Marking, Doing, Marks, Memory, Host, Running, marking_of, next_of, next_doing}
 use Rattle.world.specs.Entry.{Filled, Called, disk_step}
 use Rattle.world.specs.World.{World, MayFollow}
-use Rattle.world_safety.specs.Marking.{IsMarking, IsMarkingSlot, IsMarkingIf}
+use Rattle.world_safety.specs.Marking.{IsMarking, IsMarkingSlot}
 use Rattle.world_safety.specs.Marks.{AllSay}
 use Rattle.world_safety.specs.Next.{next_world}
 use Rattle.world_safety.specs.Tied.{Moves, IsDoing, IsRunning, Tied}
 use Rattle.world_safety.proofs.Blocks.Marked.{mark_placed}
 use Rattle.world_safety.proofs.Blocks.Owned.{not_bad, read_leaves}
 use Rattle.world_safety.proofs.Blocks.Owning.{row_told, under}
-use Rattle.world_safety.proofs.Moves.Due.{IsMarkCall}
+use Rattle.world_safety.proofs.Moves.Due.{IsBusyWith}
 use Rattle.world_safety.proofs.Moves.Marking.{IsMarkDue, mark_inside}
 use Rattle.world_safety.proofs.Moves.Moving.{running_at}
 use Rattle.world_marks.specs.Found.{IsMarkedOn}
-use Rattle.world_marks.proofs.Steps.{Marks, marks_by, marks_next}
 use Rattle.world_marks.proofs.Keeping.{mark_run, due, mark_known, mark_step}
 use Rattle.world_marks.proofs.Unmarked.{HasMark, one_mark}
 
@@ -70,7 +68,7 @@ goes_on true s a is less late = is
 goes_on false s a is less late = absurd (let few = ltb-true (length a) mark.three_calls less in omega arith)
 
 module _ (c : Shape) (w : World) (ms : Moves) (tied : Tied c w ms) (h k : ℕ) (call : Call) (answer : Answer) (left : List ℕ) (next : next_of c h (w.host h) ≡ Some (k, call)) (step : Step (w.disk k) call answer (disk_step (w.disk k) (Called h k call answer left)))
-    (it : IsMarkCall c h k call (w.host h)) where
+    (t : Marking) (it : IsBusyWith c h k call (w.host h) (Marks t)) where
   abbrev disk : DiskState
   disk = w.disk k
 
@@ -78,22 +76,22 @@ module _ (c : Shape) (w : World) (ms : Moves) (tied : Tied c w ms) (h k : ℕ) (
   new = disk_step (w.disk k) (Called h k call answer left)
 
   abbrev s : mark.Setup
-  s = marking_of c h it.memory it.marking.slot
+  s = marking_of c h it.memory t.slot
 
   abbrev a : List Heard
-  a = on it.marking.heard k
+  a = on t.heard k
 
   abbrev x : Heard
   x = heard_as answer
 
   abbrev place : ℕ
-  place = place_of (VoteOf it.marking.slot h)
+  place = place_of (VoteOf t.slot h)
 
   run : IsRunning c w ms h it.memory
-  run = mark_run c w ms tied h k call answer left next step it
+  run = mark_run c w ms tied h k call answer left next step t it
 
   abbrev is : IsMarkDue s a call
-  is = due c w ms tied h k call answer left next step it
+  is = due c w ms tied h k call answer left next step t it
 
   -- the call went well
   module _ (good : all_good (a ++ x ∷ []) ≡ true) where
@@ -101,8 +99,8 @@ module _ (c : Shape) (w : World) (ms : Moves) (tied : Tied c w ms) (h k : ℕ) (
     fine = not_bad (is_bad x) (and_parts (all_good a) (not (is_bad x)) (sym (good_more a x) ∙ good)).1
 
     boot_is : (kind : Kind) → is.kind ≡ kind → kind ≡ Reading ⊎ (kind ≡ Putting One SyncOpened) → boot_of a ≡ disk.boot
-    boot_is kind same (inl read) = under disk new (mark.call_by s a Reading) answer (mark_step c w ms tied h k call answer left next step it Reading (same ∙ read)) fine
-    boot_is kind same (inr put) = under disk new (mark.call_by s a (Putting One SyncOpened)) answer (mark_step c w ms tied h k call answer left next step it (Putting One SyncOpened) (same ∙ put)) fine
+    boot_is kind same (inl read) = under disk new (mark.call_by s a Reading) answer (mark_step c w ms tied h k call answer left next step t it Reading (same ∙ read)) fine
+    boot_is kind same (inr put) = under disk new (mark.call_by s a (Putting One SyncOpened)) answer (mark_step c w ms tied h k call answer left next step t it (Putting One SyncOpened) (same ∙ put)) fine
 
     kind_at : (n : ℕ) (kind : Kind) → length a ≡ n → slice_get seventeen n ≡ Some kind → is.kind ≡ kind
     kind_at n kind at there = let both : Some is.kind ≡ Some kind = sym is.is ∙ ap (slice_get seventeen) at ∙ there in cc
@@ -111,10 +109,10 @@ module _ (c : Shape) (w : World) (ms : Moves) (tied : Tied c w ms) (h k : ℕ) (
     read_marked : length a ≡ 2 → (seen_block (row_in Opening (a ++ x ∷ [])) h).says.mark ≡ true → AllSay HasMark place new
     read_marked two mark_seen bytes may =
         let same = kind_at 2 Reading two refl in
-        let go = mark_step c w ms tied h k call answer left next step it Reading same in
+        let go = mark_step c w ms tied h k call answer left next step t it Reading same in
         let shown : (seen_block (told x) h).says.mark ≡ true = ap (λ (r : Option (List DecodedBlock)). (seen_block r h).says.mark) (sym (row_last Opening a x (omega (arith, two)))) ∙ mark_seen in
         let row = told_row x h shown in
-        let rests : IsAtRest place disk = mark_known c w ms tied h k call answer left next step it Reading same (boot_is Reading same (inl refl)) in
+        let rests : IsAtRest place disk = mark_known c w ms tied h k call answer left next step t it Reading same (boot_is Reading same (inl refl)) in
         let leaves : new ≡ disk = read_leaves disk new (boot_of a) (row_place s.slot) ROW_LENGTH answer go in
         let before : MayLeave disk bytes = subst (λ (q : DiskState). MayLeave q bytes) leaves may in
         let seen : seen_at row.0 h ≡ seen_in (block_in place disk.bytes) =
@@ -125,11 +123,11 @@ module _ (c : Shape) (w : World) (ms : Moves) (tied : Tied c w ms) (h k : ℕ) (
     written : length a ≡ 8 → AllSay HasMark place new
     written eight bytes may =
         let same = kind_at 8 (Putting One SyncOpened) eight refl in
-        let go = mark_step c w ms tied h k call answer left next step it (Putting One SyncOpened) same in
-        let known : IsMarking s a SyncOpened disk = mark_known c w ms tied h k call answer left next step it (Putting One SyncOpened) same (boot_is (Putting One SyncOpened) same (inr refl)) in
-        let inside = mark_inside c w ms tied h k call it (Called h k call answer left) answer step in
+        let go = mark_step c w ms tied h k call answer left next step t it (Putting One SyncOpened) same in
+        let known : IsMarking s a SyncOpened disk = mark_known c w ms tied h k call answer left next step t it (Putting One SyncOpened) same (boot_is (Putting One SyncOpened) same (inr refl)) in
+        let inside = mark_inside c w ms tied h k call t it (Called h k call answer left) answer step in
         let image = tied.images k in
-        let image_then = stays_image cluster_version c.slots (VoteOf it.marking.slot h) (inside.0, run.below) disk image call answer new inside.1 step in
+        let image_then = stays_image cluster_version c.slots (VoteOf t.slot h) (inside.0, run.below) disk image call answer new inside.1 step in
         let placed = mark_placed c.slots s a disk image inside.0 run.below known.can in
         let placed_then = mark_placed c.slots s a new image_then inside.0 run.below known.can in
         let over = done_leads_on (mark.write_on s a) disk placed SyncOpened (boot_of a) new known.due (done_step answer go fine) in
@@ -171,59 +169,47 @@ module _ (c : Shape) (w : World) (ms : Moves) (tied : Tied c w ms) (h k : ℕ) (
 called_disk : (c : Shape) (w : World) (h k : ℕ) (call : Call) (answer : Answer) (left : List ℕ) → (next_world c w (Called h k call answer left)).disk k ≡ disk_step (w.disk k) (Called h k call answer left)
 called_disk c w h k call answer left = ap (λ (b : Bool). cond b (disk_step (w.disk k) (Called h k call answer left)) (w.disk k)) (eq-eqb k k refl)
 
-module _ (c : Shape) (w : World) (ms : Moves) (tied : Tied c w ms) (h : ℕ) where
+pub nothing_counted : (w : World) (h slot : ℕ) → Marked w h slot []
+nothing_counted w h slot d counts = absurd (elim (counts.1) [ inl has ↦ true≢false (sym has) | inr nine ↦ (let no : 9 ≤ 0 = nine in omega arith) ])
+
+module _ (c : Shape) (w : World) (ms : Moves) (tied : Tied c w ms) (h : ℕ) (e : Filled) (may : MayFollow c w e) (keeps : (slot host d : ℕ) → slot < c.slots → host < HOSTS → IsMarkedOn w slot host d → IsMarkedOn (next_world c w e) slot host d)
+    (m : Memory) (t : Marking) (running : w.host h ≡ Running m) (marks : m.doing ≡ Some (Marks t)) where
+  abbrev w' : World
+  w' = next_world c w e
+
+  run_at : IsRunning c w ms h m
+  run_at = running_at c w ms tied h m running
+
   -- a marking is of a slot that there is
-  marking_at : (m : Memory) (t : Marking) → w.host h ≡ Running m → m.marking ≡ Some t → IsMarkingSlot c w h m t
-  marking_at m t running marks = by m.doing refl (running_at c w ms tied h m running).doing
-    where
-      by : (o : Option Doing) → m.doing ≡ o → IsDoing c w ms h m o → IsMarkingSlot c w h m t
-      by None rests is = subst (IsMarkingIf c w h m) marks is
-      by (Some other) does is = absurd (let both : Some t ≡ None = sym marks ∙ is.alone in cc)
+  marking_at : IsMarkingSlot c w h m t
+  marking_at = subst (IsDoing c w ms h m) marks run_at.doing
 
-  module _ (e : Filled) (may : MayFollow c w e) (keeps : (slot host d : ℕ) → slot < c.slots → host < HOSTS → IsMarkedOn w slot host d → IsMarkedOn (next_world c w e) slot host d) where
-    abbrev w' : World
-    w' = next_world c w e
+  -- what was marked is
+  pub kept : Marked w h t.slot t.heard → Marked w' h t.slot t.heard
+  kept before d counts = keeps t.slot h d marking_at.fits run_at.below (before d counts)
 
-    -- what was marked is
-    pub kept : (m : Memory) (t : Marking) → w.host h ≡ Running m → m.marking ≡ Some t → Marked w h t.slot t.heard → Marked w' h t.slot t.heard
-    kept m t running marks before d counts = keeps t.slot h d (marking_at m t running marks).fits (running_at c w ms tied h m running).below (before d counts)
+  module _ (k : ℕ) (call : Call) (answer : Answer) (left : List ℕ) (same : e ≡ Called h k call answer left) where
+    abbrev x_of : Answered
+    x_of = record { disk = k; heard = heard_as answer }
 
-    module _ (m : Memory) (t : Marking) (k : ℕ) (call : Call) (answer : Answer) (left : List ℕ) (same : e ≡ Called h k call answer left) (running : w.host h ≡ Running m) (rests : m.doing ≡ None) (beats : m.beats.heard ≡ None) (marks : m.marking ≡ Some t) where
-      abbrev x_of : Answered
-      x_of = record { disk = k; heard = heard_as answer }
+    may_call : MayFollow c w (Called h k call answer left)
+    may_call = subst (MayFollow c w) same may
 
-      may_call : MayFollow c w (Called h k call answer left)
-      may_call = subst (MayFollow c w) same may
+    abbrev it : IsBusyWith c h k call (w.host h) (Marks t)
+    it =
+        record {
+          memory = m;
+          running = running;
+          does = marks;
+          due = subst (λ (o : Option Doing). next_doing c h m o ≡ Some (k, call)) marks (subst (λ (old : Host). next_of c h old ≡ Some (k, call)) running may_call.0);
+        }
 
-      abbrev it : IsMarkCall c h k call (w.host h)
-      it =
-          record {
-            memory = m;
-            running = running;
-            rests = rests;
-            beats = beats;
-            marking = t;
-            marks = marks;
-            due = subst (λ (o : Option Marking). next_marking c h m o ≡ Some (k, call)) marks
-                (subst (λ (o : Option (List beat_answers.Answered)). next_beside c h m o ≡ Some (k, call)) beats
-                (subst (λ (o : Option Doing). next_doing c h m o ≡ Some (k, call)) rests (subst (λ (old : Host). next_of c h old ≡ Some (k, call)) running may_call.0)));
-          }
-
-      -- and what it counts with an answer
-      pub marked_more : Marked w' h t.slot t.heard → Marked w' h t.slot (t.heard ++ x_of ∷ [])
-      marked_more before =
-          subst (λ (f : Answers). (d : ℕ) → Counts h (f d) → IsMarkedOn w' t.slot h d) (sym (on_more t.heard x_of))
-          (by_disk (on t.heard) k (heard_as answer) (λ d a. Counts h a → IsMarkedOn w' t.slot h d)
-          (λ counts. (let here = call_marks c w ms tied h k call answer left may_call.0 may_call.1 it counts in
-          subst (λ (f : Filled). AllSay HasMark (place_of (VoteOf t.slot h)) ((next_world c w f).disk k)) (sym same)
-          (subst (λ (disk : DiskState). AllSay HasMark (place_of (VoteOf t.slot h)) disk) (sym (called_disk c w h k call answer left)) here)))
-          (λ d off. before d))
-
-    nothing_counted : (slot : ℕ) → Marked w' h slot []
-    nothing_counted slot d counts = absurd (elim (counts.1) [ inl has ↦ true≢false (sym has) | inr nine ↦ (let no : 9 ≤ 0 = nine in omega arith) ])
-
-    pub marked_next : Marks (Marked w h) (w.host h) → Marks (Marked w' h) (w'.host h)
-    marked_next before =
-        marks_next c h (Marked w' h) w e (λ slot is. nothing_counted slot)
-        (λ m t k call answer left same running rests beats marks is. marked_more m t k call answer left same running rests beats marks is)
-        (marks_by (Marked w h) (Marked w' h) (w.host h) kept before)
+    -- and what it counts with an answer
+    pub marked_more : Marked w' h t.slot t.heard → Marked w' h t.slot (t.heard ++ x_of ∷ [])
+    marked_more before =
+        subst (λ (f : Answers). (d : ℕ) → Counts h (f d) → IsMarkedOn w' t.slot h d) (sym (on_more t.heard x_of))
+        (by_disk (on t.heard) k (heard_as answer) (λ d a. Counts h a → IsMarkedOn w' t.slot h d)
+        (λ counts. (let here = call_marks c w ms tied h k call answer left may_call.0 may_call.1 t it counts in
+        subst (λ (f : Filled). AllSay HasMark (place_of (VoteOf t.slot h)) ((next_world c w f).disk k)) (sym same)
+        (subst (λ (disk : DiskState). AllSay HasMark (place_of (VoteOf t.slot h)) disk) (sym (called_disk c w h k call answer left)) here)))
+        (λ d off. before d))

@@ -18,8 +18,8 @@ use Rattle.attempt.proofs.Lists.{length_more, boot_more, row_kept, row_last, row
 use Rattle.attempt.proofs.More.{on_more, by_disk}
 use Rattle.lock_command.specs.declared.command.Command.{Command}
 use Rattle.slot_log.specs.Shape.{Shape}
-use Rattle.host.specs.Host.{Doing, Memory, Running, setup_of}
-use Rattle.world.specs.Entry.{Filled, Start, Stop, Submit, Recover, Look, Beat, Mark, Called, Torn, Crashed, Lost, Migrated, torn_by, called_by, disk_step}
+use Rattle.host.specs.Host.{Attempt, Attempts, Memory, Running, setup_of}
+use Rattle.world.specs.Entry.{Filled, Called, Torn, torn_by, called_by, disk_step}
 use Rattle.world.specs.World.{World, MayFollow}
 use Rattle.world_safety.specs.Knows.{IsCurrent}
 use Rattle.world_safety.specs.Marks.{AllSay, HasLearned, KeepsMarks}
@@ -27,7 +27,7 @@ use Rattle.world_safety.specs.Next.{next_world}
 use Rattle.world_safety.specs.Tied.{Moves, IsTrying, IsDoing, IsRunning, HostAt, Tied}
 use Rattle.world_safety.proofs.Blocks.Settled.{seen_is, current, is_next_read}
 use Rattle.world_safety.proofs.Moves.Due.{IsCall, Due, due_of}
-use Rattle.world_marks.proofs.Steps.{Tries, tries_by, tries_next, disk_by}
+use Rattle.world_marks.proofs.Steps.{disk_by}
 
 -- whatever a crash now may make of the block, it has no mark, or it has one
 abbrev pub HasNone : PBlock → Type 0
@@ -41,6 +41,9 @@ HasMark says = says.mark ≡ true
 abbrev pub Unmarked : World → ℕ → ℕ → List Answered → Type 0
 Unmarked w h slot heard =
     (d : ℕ) → IsCurrent (w.disk d) (on heard d) → (row : List DecodedBlock) → row_in Opening (on heard d) ≡ Some row → (says_in row h).mark ≡ false → AllSay HasNone (place_of (VoteOf slot h)) (w.disk d)
+
+pub nothing_read : (w : World) (h slot : ℕ) → Unmarked w h slot []
+nothing_read w h slot d is row read none = absurd (cc)
 
 -- not both
 pub one_mark : (b : Bool) → b ≡ true → b ≡ false → ⊥
@@ -81,18 +84,9 @@ called_boot old call (Told bytes) left = done_boot old call
 called_boot old call Done left = done_boot old call
 
 step_boot : (old : DiskState) (e : Filled) → old.boot ≤ (disk_step old e).boot
-step_boot old (Start h) = omega arith
-step_boot old (Stop h) = omega arith
-step_boot old (Submit h command tries) = omega arith
-step_boot old (Recover h tries) = omega arith
-step_boot old (Look h) = omega arith
-step_boot old (Beat h) = omega arith
-step_boot old (Mark h slot) = omega arith
 step_boot old (Called h d call answer left) = let same = called_boot old call answer left in omega arith
 step_boot old (Torn h d call left) = let same = torn_boot old call left in omega arith
-step_boot old (Crashed d left) = omega arith
-step_boot old (Lost d) = omega arith
-step_boot old (Migrated disks log) = omega arith
+step_boot old other = omega arith
 
 boots_rise : (c : Shape) (w : World) (e : Filled) (d : ℕ) → (w.disk d).boot ≤ ((next_world c w e).disk d).boot
 boots_rise c w e d = disk_by c w e d (λ disk. (w.disk d).boot ≤ disk.boot) (λ on. step_boot (w.disk d) e) (omega arith)
@@ -107,7 +101,7 @@ module _ (c : Shape) (w : World) (ms : Moves) (tied : Tied c w ms) (e : Filled) 
   abbrev w' : World
   w' = next_world c w e
 
-  module _ (m : Memory) (t : Doing) (running : w.host h ≡ Running m) (does : m.doing ≡ Some t) where
+  module _ (m : Memory) (t : Attempt) (running : w.host h ≡ Running m) (does : m.doing ≡ Some (Attempts t)) where
     run : IsRunning c w ms h m
     run = subst (HostAt c w ms h) running (tied.hosts h)
 
@@ -137,7 +131,7 @@ module _ (c : Shape) (w : World) (ms : Moves) (tied : Tied c w ms) (e : Filled) 
     was_current : (d : ℕ) → IsCurrent (w'.disk d) (on t.heard d) → IsCurrent (w.disk d) (on t.heard d)
     was_current d now = record { good = now.good; boot = (let most = (trying.knows d).boot in let rises = boots_rise c w e d in let is = now.boot in omega arith) }
 
-    kept : Unmarked w h (length m.learned) t.heard → Unmarked w' h (length m.learned) t.heard
+    pub kept : Unmarked w h (length m.learned) t.heard → Unmarked w' h (length m.learned) t.heard
     kept before d now row read none = stays_unmarked d (before d (was_current d now) row read none)
 
     -- ONE ANSWER MORE
@@ -185,20 +179,10 @@ module _ (c : Shape) (w : World) (ms : Moves) (tied : Tied c w ms) (e : Filled) 
         ]
       ]
 
-      more_so : Unmarked w' h (length m.learned) (t.heard ++ record { disk = k; heard = heard_as answer } ∷ [])
+      pub more_so : Unmarked w' h (length m.learned) (t.heard ++ record { disk = k; heard = heard_as answer } ∷ [])
       more_so =
           subst (λ (f : Answers). (d : ℕ) → IsCurrent (w'.disk d) (f d) → (row : List DecodedBlock) → row_in Opening (f d) ≡ Some row → (says_in row h).mark ≡ false → AllSay HasNone place (w'.disk d))
           (sym (on_more t.heard (record { disk = k; heard = heard_as answer })))
           (by_disk (on t.heard) k x (λ d b. IsCurrent (w'.disk d) b → (row : List DecodedBlock) → row_in Opening b ≡ Some row → (says_in row h).mark ≡ false → AllSay HasNone place (w'.disk d))
           here_then
           (λ d off. before d))
-
-  nothing_read : (slot : ℕ) → Unmarked w' h slot []
-  nothing_read slot d is row read none = absurd (cc)
-
-  -- with each entry
-  pub unmarked_next : MayFollow c w e → Tries (Unmarked w h) (w.host h) → Tries (Unmarked w' h) (w'.host h)
-  unmarked_next may before =
-      tries_next c h (Unmarked w' h) nothing_read w e
-      (λ m t k call answer left same running does is. more_so m t running does k call answer left same may is)
-      (tries_by (Unmarked w h) (Unmarked w' h) (w.host h) (λ m t running does is. kept m t running does is) before)

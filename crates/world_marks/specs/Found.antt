@@ -10,8 +10,9 @@ use Rattle.attempt.specs.Status.{Status, Due, Ended, Committed, Decided, Empty, 
 use Rattle.looks.specs.Status as look
 use Rattle.slot_log.specs.Shape.{Shape}
 use Rattle.host.specs.declared.answer.HostAnswer.TheVariants.{Looked, Marked}
-use Rattle.host.specs.Host.{Looking, Memory, Running}
-use Rattle.world.specs.Entry.{Filled, Look, Mark, is_of}
+use Rattle.host.specs.declared.task.Task.TheVariants.{Look, Mark}
+use Rattle.host.specs.Host.{Looking, Looks, Memory, Running}
+use Rattle.world.specs.Entry.{Filled, Begin, is_of}
 use Rattle.world.specs.World.{World}
 use Rattle.world.specs.Chosen.{at, migrated, Hears, SaysAt, IsCallOf}
 use Rattle.world.specs.Looks.{HearsLooking}
@@ -32,7 +33,7 @@ StaysMarked c log = (i j slot host d : ℕ) → i ≤ j → slot < c.slots → h
 
 -- A marking of the slot begins at entry i and answers at entry j with this count; in between the host makes device calls alone.
 pub record IsMarking (c : Shape) (log : List Filled) (i j host slot n : ℕ) : Type 0 where
-  pub begins : slice_get log i ≡ Some (Mark host slot)
+  pub begins : slice_get log i ≡ Some (Begin host (Mark slot))
   pub order : i ≤ j
   pub calls : (k : ℕ) (e : Filled) → i < k → k ≤ j → slice_get log k ≡ Some e → is_of host e ≡ true → IsCallOf host e
   pub says : SaysAt c log j host (Marked n)
@@ -89,7 +90,7 @@ SeesMark (look.Ended look.NoMajority) = Unit {0}
 
 -- no look of the host at this slot is under way, or it has heard nothing yet
 abbrev pub HasSeenNothing : World → ℕ → ℕ → Type 0
-HasSeenNothing w host slot = (m : Memory) (t : Looking) → w.host host ≡ Running m → m.looking ≡ Some t → length m.learned ≡ slot → t.heard ≡ []
+HasSeenNothing w host slot = (m : Memory) (t : Looking) → w.host host ≡ Running m → m.doing ≡ Some (Looks t) → length m.learned ≡ slot → t.heard ≡ []
 
 -- So it is with each look that has heard nothing yet when its slot is marked on more than half of the disks: though it syncs nothing, it never
 -- says that no mark tells the slot.
@@ -99,7 +100,7 @@ LooksSee c log =
 
 -- A look of the host begins at entry i, and at entry j this one, or a later one, answers that it has learned n commands.
 pub record HasLooked (c : Shape) (log : List Filled) (i j host n : ℕ) : Type 0 where
-  pub begins : slice_get log i ≡ Some (Look host)
+  pub begins : slice_get log i ≡ Some (Begin host Look)
   pub order : i ≤ j
   pub says : SaysAt c log j host (Looked n)
 

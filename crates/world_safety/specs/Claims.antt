@@ -13,9 +13,10 @@ use Rattle.lock_command.specs.declared.command.Command.{Command}
 use Rattle.lock_command.specs.Command.{spelling}
 use Rattle.lock_command.specs.declared.reply.Reply.{Reply}
 use Rattle.slot_log.specs.Shape.{Shape}
-use Rattle.world.specs.Entry.{Filled, Recover}
+use Rattle.world.specs.Entry.{Filled, Begin}
 use Rattle.world.specs.World.{World}
 use Rattle.host.specs.declared.answer.HostAnswer.TheVariants.{Ack, Recovered}
+use Rattle.host.specs.declared.task.Task.TheVariants.{Recover}
 use Rattle.host.specs.Host.{Submitting}
 use Rattle.world.specs.Chosen.{at, Hears, IsChosenAt, IsMigrated, IsLog, SaysAt, IsRecovery}
 use Rattle.world_safety.specs.Goes.{IsTryingAt}
@@ -133,7 +134,7 @@ pub record IsToldOwnAt (c : Shape) (log : List Filled) (i host slot : ℕ) : Typ
 -- entry i begins a recovery of a host that has learned all slots
 pub record IsFullAt (c : Shape) (log : List Filled) (i host n : ℕ) : Type 0 where
   pub tries : ℕ
-  pub begins : slice_get log i ≡ Some (Recover host tries)
+  pub begins : slice_get log i ≡ Some (Begin host (Recover tries))
   pub full : c.slots ≤ n
 
 -- No acknowledgement without a majority that answered,

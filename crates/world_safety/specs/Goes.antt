@@ -10,9 +10,8 @@ use Rattle.attempt.specs.Status.{Ended, Decided, status}
 use Rattle.looks.specs.Status as look
 use Rattle.slot_log.specs.Shape.{Shape}
 use Rattle.host.specs.declared.answer.HostAnswer.TheVariants.{Recovered}
-use Rattle.host.specs.Host.{Doing, Looking, Memory, Running, input_of, setup_of, look_of, looking_with}
+use Rattle.host.specs.Host.{Attempt, Looking, Attempts, Looks, Memory, Running, input_of, setup_of, look_of, looking_with}
 use Rattle.world.specs.Entry.{Filled, Called, is_of, host_step}
-use Rattle.world.specs.Looks.{IsLooking}
 use Rattle.world.specs.World.{World}
 use Rattle.agreement.specs.Chosen.{IsInput, IsProposed, IsChosenBy, IsChosen, IsEmpty}
 use Rattle.agreement.specs.Event.Event.{Starts}
@@ -30,13 +29,13 @@ Has late m = (before : Moves) × (behind : Moves) × (late ≡ before ++ m ∷ b
 -- the host is trying this slot
 pub record IsTryingAt (w : World) (h slot : ℕ) : Type 0 where
   pub memory : Memory
-  pub doing : Doing
+  pub doing : Attempt
   pub running : w.host h ≡ Running memory
-  pub does : memory.doing ≡ Some doing
+  pub does : memory.doing ≡ Some (Attempts doing)
   pub is : length memory.learned ≡ slot
 
 -- with the answer of the entry an attempt proposes this value
-abbrev pub ProposesWith : Shape → ℕ → Memory → Doing → Filled → List ℕ → Type 0
+abbrev pub ProposesWith : Shape → ℕ → Memory → Attempt → Filled → List ℕ → Type 0
 ProposesWith c h m t (Called g k call answer left) v = Proposes (setup_of c h m t.operation) (on (t.heard ++ record { disk = k; heard = heard_as answer } ∷ [])) v
 ProposesWith c h m t other v = ⊥
 
@@ -44,10 +43,10 @@ ProposesWith c h m t other v = ⊥
 pub record IsInputAt (c : Shape) (w : World) (slot : ℕ) (e : Filled) (v : List ℕ) : Type 0 where
   pub host : ℕ
   pub memory : Memory
-  pub doing : Doing
+  pub doing : Attempt
   pub of : is_of host e ≡ true
   pub running : w.host host ≡ Running memory
-  pub does : memory.doing ≡ Some doing
+  pub does : memory.doing ≡ Some (Attempts doing)
   pub input : input_of doing.operation ≡ Some v
   pub on_slot : slot ≡ length memory.learned
   pub proposes : ProposesWith c host memory doing e v
@@ -55,7 +54,7 @@ pub record IsInputAt (c : Shape) (w : World) (slot : ℕ) (e : Filled) (v : List
 -- With the entry its host tries a slot that it was trying, or it begins an attempt there. And where a recovery ends, it has all slots, or the
 -- slot that it was trying, behind those that it has learned, was found empty.
 pub record HostGoes (c : Shape) (w : World) (e : Filled) (ms more : Moves) (h : ℕ) : Type 0 where
-  pub begun : (m : Memory) (t : Doing) → host_step c h (w.host h) e ≡ Running m → m.doing ≡ Some t → IsTryingAt w h (length m.learned) ⊎ Has more (At (length m.learned) (Starts h))
+  pub begun : (m : Memory) (t : Attempt) → host_step c h (w.host h) e ≡ Running m → m.doing ≡ Some (Attempts t) → IsTryingAt w h (length m.learned) ⊎ Has more (At (length m.learned) (Starts h))
   pub empty : (m : Memory) (n : ℕ) → host_step c h (w.host h) e ≡ Running m → m.said ≡ Some (Recovered n)
       → (c.slots ≤ length m.learned) ⊎ (IsTryingAt w h (length m.learned) × IsEmpty c.disks (machine (ms ++ more) (length m.learned)) h)
 
@@ -67,21 +66,21 @@ pub record Carries (m : Machine) (s : Setup) (f : Answers) : Type 0 where
 -- so it is with the attempt of a host that hears an answer
 abbrev pub CarriesOn : Shape → World → Moves → Filled → Type 0
 CarriesOn c w ms (Called h k call answer left) =
-    (m : Memory) (t : Doing) → w.host h ≡ Running m → m.doing ≡ Some t
+    (m : Memory) (t : Attempt) → w.host h ≡ Running m → m.doing ≡ Some (Attempts t)
     → Carries (machine ms (length m.learned)) (setup_of c h m t.operation) (on (t.heard ++ record { disk = k; heard = heard_as answer } ∷ []))
 CarriesOn c w ms other = Unit {0}
 
 -- Where an attempt ends with the entry by what a marked block tells, that is chosen in the slot.
 abbrev pub AttemptDecides : Shape → World → Moves → (h k : ℕ) → Answer → Type 0
 AttemptDecides c w ms h k answer =
-    (m : Memory) (t : Doing) (v : List ℕ) → w.host h ≡ Running m → m.doing ≡ Some t
+    (m : Memory) (t : Attempt) (v : List ℕ) → w.host h ≡ Running m → m.doing ≡ Some (Attempts t)
     → status (setup_of c h m t.operation) (on (t.heard ++ record { disk = k; heard = heard_as answer } ∷ [])) ≡ Ended (Decided v)
     → IsChosen c.disks (machine ms (length m.learned)) v
 
 -- And where a look is told by one, that is chosen in the slot.
 abbrev pub LookDecides : Shape → World → Moves → (h k : ℕ) → Answer → Type 0
 LookDecides c w ms h k answer =
-    (m : Memory) (t : Looking) (d : ℕ) (u : List ℕ) → w.host h ≡ Running m → IsLooking m t
+    (m : Memory) (t : Looking) (d : ℕ) (u : List ℕ) → w.host h ≡ Running m → m.doing ≡ Some (Looks t)
     → look.status (look_of c m t.first) (on (looking_with t (record { disk = k; heard = heard_as answer })).heard) ≡ look.Ended (look.Decided d u)
     → IsChosen c.disks (machine ms (length m.learned)) u
 

@@ -1,5 +1,5 @@
 -- What a marking knows of the host's own block on a disk, as long as the disk has not crashed since it was attached.
-use Rattle.std.specs.Prelude.{◌≡◌, ◌<◌, ◌≤◌, ℕ, true, List, length, slice_get, Option, Some, None}
+use Rattle.std.specs.Prelude.{◌≡◌, ◌<◌, ◌≤◌, ℕ, true, List, length, slice_get, Some}
 use Rattle.disk.specs.Crash.{MayLeave}
 use Rattle.disk.specs.Disk.{DiskState}
 use Rattle.torn_block.specs.declared.write_steps.WriteCall.{WriteCall}
@@ -54,7 +54,3 @@ pub record IsMarkingSlot (c : Shape) (w : World) (h : ℕ) (m : Memory) (t : Mar
   pub fits : t.slot < c.slots
   pub knows : (d : ℕ) → KnowsMark (w.disk d) (marking_of c h m t.slot) (on t.heard d)
   pub votes : (d : ℕ) → TellsVotes (on t.heard d)
-
-abbrev pub IsMarkingIf : Shape → World → ℕ → Memory → Option Marking → Type 0
-IsMarkingIf c w h m None = Unit {0}
-IsMarkingIf c w h m (Some t) = IsMarkingSlot c w h m t

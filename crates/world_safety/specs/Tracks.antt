@@ -6,8 +6,9 @@ use Rattle.lock_command.specs.Command.{spelling}
 use Rattle.slot_log.specs.Shape.{Shape}
 use Rattle.host.specs.declared.answer.HostAnswer.{HostAnswer}
 use Rattle.host.specs.declared.answer.HostAnswer.TheVariants.{Recovered, Looked}
-use Rattle.host.specs.Host.{Operation, Submitting, Doing, Looking, Memory, Host, Stopped, Running}
-use Rattle.world.specs.Entry.{Filled, Submit}
+use Rattle.host.specs.declared.task.Task.TheVariants.{Submit}
+use Rattle.host.specs.Host.{Operation, Submitting, Doing, Attempts, Looks, Memory, Host, Stopped, Running}
+use Rattle.world.specs.Entry.{Filled, Begin}
 use Rattle.world.specs.World.{ReadsBack}
 use Rattle.world.specs.Chosen.{IsChosenAt, IsMigrated}
 use Rattle.world_safety.specs.Marks.{TellsTrueMarks}
@@ -32,7 +33,7 @@ pub record IsSubmittedBy (log : List Filled) (i h : ℕ) (command : Command) : T
   pub place : ℕ
   pub tries : ℕ
   pub before : place < i
-  pub entry : slice_get log place ≡ Some (Submit h command tries)
+  pub entry : slice_get log place ≡ Some (Begin h (Submit command tries))
   pub reads : ReadsBack command
 
 -- so is the one that an operation submits
@@ -45,15 +46,17 @@ Counts (Some (Recovered n)) learned = n ≡ learned
 Counts (Some (Looked n)) learned = n ≡ learned
 Counts other learned = Unit {0}
 
+-- What an attempt does was begun; and what marked blocks told an attempt or a look was chosen before.
+abbrev pub IsTrueDoing : Shape → List Filled → (i h slot : ℕ) → Option Doing → Type 0
+IsTrueDoing c log i h slot (Some (Attempts t)) = IsBegun log i h t.operation × ((d : ℕ) → TellsTrueMarks (IsChosenBefore c log i slot) (on t.heard d))
+IsTrueDoing c log i h slot (Some (Looks t)) = (d : ℕ) → TellsTrueMarks (IsChosenBefore c log i slot) (on t.heard d)
+IsTrueDoing c log i h slot other = Unit {0}
+
 -- What a running host knows is true.
 pub record IsTrue (c : Shape) (log : List Filled) (i h : ℕ) (m : Memory) : Type 0 where
   pub learned : AreChosen c log i m.learned
-  pub begun : (t : Doing) → m.doing ≡ Some t → IsBegun log i h t.operation
   pub counts : Counts m.said (length m.learned)
-  -- what a marked block told its attempt was chosen before
-  pub told : (t : Doing) → m.doing ≡ Some t → (d : ℕ) → TellsTrueMarks (IsChosenBefore c log i (length m.learned)) (on t.heard d)
-  -- and so was what one told its look
-  pub looked : (t : Looking) → m.looking ≡ Some t → (d : ℕ) → TellsTrueMarks (IsChosenBefore c log i (length m.learned)) (on t.heard d)
+  pub doing : IsTrueDoing c log i h (length m.learned) m.doing
 
 abbrev pub IsTrueOf : Shape → List Filled → ℕ → ℕ → Host → Type 0
 IsTrueOf c log i h Stopped = Unit {0}

@@ -13,14 +13,14 @@ use Rattle.lock_command.specs.Reading.{decoded}
 use Rattle.slot_log.specs.Shape.{Shape}
 use Rattle.slot_log.specs.declared.outcome.Refusal.TheVariants as refusal
 use Rattle.host.specs.declared.answer.HostAnswer.TheVariants.{Refused}
-use Rattle.host.specs.Host.{Operation, Doing, Memory, Host, Stopped, Running, setup_of, says, begins, full_answer, goes_on, with_floor, learns, is_submitted, after_learning, takes, tries_again, by_status, hears_from, next_of}
+use Rattle.host.specs.Host.{Operation, Attempt, Doing, Attempts, Memory, Host, Stopped, Running, setup_of, says, begins, full_answer, goes_on, with_floor, learns, is_submitted, after_learning, takes, tries_again, by_status, hears_from, next_of}
 use Rattle.world.specs.Entry.{Filled, Called, is_of, host_step}
 use Rattle.world.specs.World.{World, IsRun}
 use Rattle.world.specs.Chosen.{at, Hears, IsCallOf}
 use Rattle.world.proofs.Histories.{heard_then}
 use Rattle.world.proofs.Runs.{each}
 use Rattle.world_safety.specs.Next.{next_world}
-use Rattle.world_safety.proofs.Moves.Marking.{beside_none}
+use Rattle.world_safety.proofs.Moves.Beside.{IsNoAttempt, stays_none}
 use Rattle.world_safety.proofs.Runs.Places.{at_next, at_end}
 use Rattle.world_safety.proofs.Runs.Tracks.{moves_at, tied_at}
 use Rattle.world_served.specs.Alone.{IsAlone, MostAnswerEach}
@@ -38,7 +38,7 @@ none_heard host slot disks (x ∷ heard) less d = absurd (omega arith)
 module _ (c : Shape) (host : ℕ) where
   -- the attempt under way, if it has heard at most so many answers, has read rows that rest
   abbrev pub RestsIn : (ℕ → DiskState) → ℕ → Memory → Type 0
-  RestsIn disks calls m = (t : Doing) → m.doing ≡ Some t → length t.heard ≤ calls → Rests host (length m.learned) disks (on t.heard)
+  RestsIn disks calls m = (t : Attempt) → m.doing ≡ Some (Attempts t) → length t.heard ≤ calls → Rests host (length m.learned) disks (on t.heard)
 
   -- so it is where the host runs
   abbrev pub RestsOf : World → ℕ → Type 0
@@ -51,7 +51,7 @@ module _ (c : Shape) (host : ℕ) where
     new_so : (m : Memory) (operation : Operation) (left : ℕ) → RestsIn disks calls (begins m operation left)
     new_so m operation left t is less =
         let same : record { operation = operation; tries = left; heard = [] } ≡ t = cc in
-        subst (λ (u : Doing). Rests host (length m.learned) disks (on u.heard)) same (none_heard host (length m.learned) disks [] (omega arith))
+        subst (λ (u : Attempt). Rests host (length m.learned) disks (on u.heard)) same (none_heard host (length m.learned) disks [] (omega arith))
 
     -- whichever of two it is
     one_of : (b : Bool) (first other : Memory) → RestsIn disks calls first → RestsIn disks calls other → RestsIn disks calls (if b then first else other)
@@ -68,19 +68,19 @@ module _ (c : Shape) (host : ℕ) where
     tried_so m operation left = one_of (nat_le left 1) (says m (Refused refusal.Outrun)) (begins m operation (left - 1)) (λ t is. absurd (cc)) (new_so m operation (left - 1))
 
     -- a command was learned
-    learned_so : (m : Memory) (t : Doing) (command : Command) (own : Bool) → RestsIn disks calls (after_learning c m t command own)
+    learned_so : (m : Memory) (t : Attempt) (command : Command) (own : Bool) → RestsIn disks calls (after_learning c m t command own)
     learned_so m t command true = λ u is. absurd (cc)
     learned_so m t command false = goes_on_so (learns m command) t.operation t.tries
 
-    took_so : (m : Memory) (t : Doing) (b : ℕ) (value : List ℕ) (o : Option Command) → RestsIn disks calls (takes c m t b value o)
+    took_so : (m : Memory) (t : Attempt) (b : ℕ) (value : List ℕ) (o : Option Command) → RestsIn disks calls (takes c m t b value o)
     took_so m t b value None = λ u is. absurd (cc)
     took_so m t b value (Some command) = learned_so m t command (is_submitted t.operation value)
 
     -- however the attempt stands
-    status_so : (m : Memory) (t : Doing) (b : ℕ) (st : Status) → (length t.heard ≤ calls → Rests host (length m.learned) disks (on t.heard)) → RestsIn disks calls (by_status c m t b st)
+    status_so : (m : Memory) (t : Attempt) (b : ℕ) (st : Status) → (length t.heard ≤ calls → Rests host (length m.learned) disks (on t.heard)) → RestsIn disks calls (by_status c m t b st)
     status_so m t b (Due p d) known = λ u is less.
         (let same : t ≡ u = cc in
-        subst (λ (v : Doing). Rests host (length m.learned) disks (on v.heard)) same (known (let size = ap (λ (v : Doing). length v.heard) same in omega arith)))
+        subst (λ (v : Attempt). Rests host (length m.learned) disks (on v.heard)) same (known (let size = ap (λ (v : Attempt). length v.heard) same in omega arith)))
     status_so m t b (Ended (attempt.Committed value)) known = took_so m t b value (decoded value)
     status_so m t b (Ended (attempt.Decided value)) known = took_so m t b value (decoded value)
     status_so m t b (Ended attempt.Empty) known = λ u is. absurd (cc)
@@ -107,11 +107,7 @@ module _ (c : Shape) (log : List Filled) (run : IsRun c log) (i j host : ℕ) (a
         subst (RestsIn c host (next_world c (at c log k) (Called host d call answer left)).disk (calls_between log i k host + 1)) one (go q.doing refl)
       where
         go : (o : Option Doing) → q.doing ≡ o → RestsIn c host (next_world c (at c log k) (Called host d call answer left)).disk (calls_between log i k host + 1) (hears_from c host q o d answer)
-        go None idle = λ t does less. absurd (
-            let none = beside_none c host q q.beats.heard d answer idle in
-            let both : None ≡ Some t = sym none ∙ does in
-            cc)
-        go (Some t) does =
+        go (Some (Attempts t)) does =
             let x : Answered = record { disk = d; heard = heard_as answer } in
             let s = setup_of c host q t.operation in
             status_so c host (next_world c (at c log k) (Called host d call answer left)).disk (calls_between log i k host + 1) q (record { operation = t.operation; tries = t.tries; heard = t.heard ++ x ∷ [] })
@@ -119,6 +115,7 @@ module _ (c : Shape) (log : List Filled) (run : IsRun c log) (i j host : ℕ) (a
             (λ less. (let size = length-append t.heard (x ∷ []) in
             let may = each c log k (Called host d call answer left) run is in
             rests_then c (at c log k) (moves_at c log run k) (tied_at c log run k) host q t was does d call answer left may.0 may.1 (known q was t does (omega arith))))
+        go other rests = λ t does less. absurd (subst IsNoAttempt does (stays_none c host q other d answer rests tt))
 
     -- which is all that the host does meanwhile
     own_entry : (e : Filled) → slice_get log k ≡ Some e → IsCallOf host e → RestsOf c host (next_world c (at c log k) e) (calls_between log i k host + 1)

@@ -1,6 +1,6 @@
 -- What an entry leaves of the rows that an attempt has read: of the attempt's own call, and of whatever else may happen meanwhile.
 use Rattle.std.specs.Prelude.{cond, slice_get}
-use Rattle.std.proofs.Common.{ℕ, ◌<◌, ◌≡◌, ◌≢◌, ◌==◌, ◌⊎◌, inl, inr, Bool, true, false, Some, None, List, [], ◌∷◌, ◌++◌, length, refl, sym, subst, ap, ap₂, ◌∙◌, arith}
+use Rattle.std.proofs.Common.{ℕ, ◌<◌, ◌≡◌, ◌≢◌, ◌==◌, inl, inr, Bool, true, false, Option, Some, List, [], ◌∷◌, ◌++◌, length, refl, sym, subst, ap, ap₂, ◌∙◌, arith}
 use Rattle.std.proofs.lemmas.Bool.{both_ways, cases_eq, eq-eqb, eqb-true, ne_eqb}
 use Rattle.disk.specs.declared.fault.DiskFault.TheVariants.{Failed}
 use Rattle.disk.specs.Disk.{DiskState, Call, Answer, Fault, Step}
@@ -9,15 +9,14 @@ use Rattle.paxos_block.specs.Saying.{Said as PBlock}
 use Rattle.paxos_block.specs.Places.{BeatOf, VoteOf, place_of, row_of}
 use Rattle.paxos_block.specs.Row.{row_seen}
 use Rattle.paxos_block.specs.Votes.{says_in}
-use Rattle.attempt.specs.Looking.{OnlyReads}
 use Rattle.attempt.specs.Answers.{Answered, Answers, on, heard_as}
 use Rattle.attempt.specs.Setup.{Setup}
 use Rattle.attempt.specs.NextCall.{call_by}
 use Rattle.attempt.proofs.More.{on_more, by_disk}
 use Rattle.beats.specs.Answers as beat_answers
 use Rattle.slot_log.specs.Shape.{Shape}
-use Rattle.host.specs.Host.{Doing, Memory, Host, Running, setup_of, beat_of, next_of}
-use Rattle.world.specs.Entry.{Filled, Start, Stop, Submit, Recover, Look, Beat, Mark, Called, Torn, Crashed, Lost, Migrated, is_on, is_of, disk_step}
+use Rattle.host.specs.Host.{Attempt, Marking, Doing, Attempts, Looks, Beats, Marks, Memory, Host, Running, setup_of, beat_of, next_doing, next_of}
+use Rattle.world.specs.Entry.{Filled, Called, Torn, Crashed, Lost, Migrated, is_on, is_of, disk_step}
 use Rattle.world.specs.World.{World, IsRun}
 use Rattle.world.specs.Chosen.{at}
 use Rattle.world.proofs.Looks.{reads_only}
@@ -29,7 +28,8 @@ use Rattle.world_safety.proofs.Blocks.Settled.{current, row_is}
 use Rattle.world_safety.proofs.Blocks.Values.{bytes_left}
 use Rattle.world_safety.proofs.Moves.Beating.{beat_within}
 use Rattle.world_safety.proofs.Moves.Calling.{tears}
-use Rattle.world_safety.proofs.Moves.Due.{IsBeatCall, IsMarkCall, IsLookCall, IsAtWork, busy, Due, due_of}
+use Rattle.world_safety.proofs.Moves.Beside.{IsNoAttempt}
+use Rattle.world_safety.proofs.Moves.Due.{IsBusyWith, busy, Due, due_of}
 use Rattle.world_safety.proofs.Moves.Marking.{promises, mark_inside}
 use Rattle.world_safety.proofs.Moves.Moving.{running_at}
 use Rattle.world_safety.proofs.Runs.Tracks.{moves_at, tied_at}
@@ -37,9 +37,9 @@ use Rattle.world_served.specs.Alone.{IsAlone}
 use Rattle.world_served.proofs.Blocks.{shown, shown_is, shown_kept, shown_beside}
 use Rattle.world_served.proofs.Resting.{RestsOn, Rests, rests_on, rests_more}
 
--- a call of a beat or of a marking, or one that only reads
+-- a call of a look, of a beat or of a marking
 abbrev pub IsQuietCall : Shape → ℕ → ℕ → Call → Host → Type 0
-IsQuietCall c g k call host = IsBeatCall c g k call host ⊎ (IsMarkCall c g k call host ⊎ OnlyReads call)
+IsQuietCall c g k call host = (doing : Doing) × IsBusyWith c g k call host doing × IsNoAttempt (Some doing)
 
 -- no other call is made, and no other write is torn
 abbrev pub IsQuiet : Shape → World → Filled → Type 0
@@ -48,45 +48,32 @@ IsQuiet c w (Torn g k call left) = IsQuietCall c g k call (w.host g) × Step (w.
 IsQuiet c w (Migrated disks log) = ⊥
 IsQuiet c w other = Unit {0}
 
--- a look only reads
-looks_read : (c : Shape) (h k : ℕ) (call : Call) (host : Host) → next_of c h host ≡ Some (k, call) → IsLookCall c k call host → OnlyReads call
-looks_read c h k call host next who = reads_only c h k who.memory who.looking call who.looks (ap (next_of c h) (sym who.running) ∙ next)
-
 -- who tries no slot, and has a call to make, makes a quiet one
-quiet_only : (c : Shape) (h k : ℕ) (call : Call) (host : Host) → next_of c h host ≡ Some (k, call) → ((m : Memory) → host ≡ Running m → m.doing ≡ None) → IsAtWork c h k call host → IsQuietCall c h k call host
-quiet_only c h k call host next rests who = elim who [
-  | inl tries ↦ absurd (let none = rests tries.memory tries.running in let both : None ≡ Some tries.doing = sym none ∙ tries.does in cc)
-  | inr (inl beats) ↦ inl beats
-  | inr (inr (inl marks)) ↦ inr (inl marks)
-  | inr (inr (inr looks)) ↦ inr (inr (looks_read c h k call host next looks))
-]
+quiet_only : (c : Shape) (h k : ℕ) (call : Call) (host : Host) → next_of c h host ≡ Some (k, call) → ((m : Memory) (t : Attempt) → host ≡ Running m → m.doing ≡ Some (Attempts t) → ⊥) → IsQuietCall c h k call host
+quiet_only c h k call host next rests = let at_work = busy c h k call host next in (at_work.0, at_work.1, none at_work.0 at_work.1)
+  where
+    none : (doing : Doing) → IsBusyWith c h k call host doing → IsNoAttempt (Some doing)
+    none (Attempts t) who = rests who.memory t who.running who.does
+    none other who = tt
 
 module _ (c : Shape) (log : List Filled) (run : IsRun c log) (i j host : ℕ) (alone : IsAlone c log i j host) (k : ℕ) (behind : i < k) (before : k < j) where
   -- so it is of the others while a host is alone
   pub others_quiet : (e : Filled) → slice_get log k ≡ Some e → is_of host e ≡ false → IsQuiet c (at c log k) e
-  others_quiet (Start g) is off = tt
-  others_quiet (Stop g) is off = tt
-  others_quiet (Submit g other n) is off = tt
-  others_quiet (Recover g n) is off = tt
-  others_quiet (Look g) is off = tt
-  others_quiet (Beat g) is off = tt
-  others_quiet (Mark g slot) is off = tt
   others_quiet (Called g d call answer left) is off =
       let may = each c log k (Called g d call answer left) run is in
       elim (alone.calls k g d call answer left behind before is) [
         | inl same ↦ absurd (both_ways (g == host) off (eq-eqb g host same))
-        | inr rests ↦ (quiet_only c g d call ((at c log k).host g) may.0 rests (busy c g d call ((at c log k).host g) may.0), may.1)
+        | inr rests ↦ (quiet_only c g d call ((at c log k).host g) may.0 rests, may.1)
       ]
   others_quiet (Torn g d call left) is off =
       let may = each c log k (Torn g d call left) run is in (
-        quiet_only c g d call ((at c log k).host g) may.0 (alone.tears k g d call left behind before is) (busy c g d call ((at c log k).host g) may.0),
+        quiet_only c g d call ((at c log k).host g) may.0 (alone.tears k g d call left behind before is),
         tears c (at c log k) (moves_at c log run k) (tied_at c log run k) g d call left may.1,
       )
-  others_quiet (Crashed d left) is off = tt
-  others_quiet (Lost d) is off = tt
   others_quiet (Migrated disks commands) is off = absurd (let first = migrated_first c log k disks commands run is in omega arith)
+  others_quiet other is off = tt
 
-module _ (c : Shape) (w : World) (ms : Moves) (tied : Tied c w ms) (h : ℕ) (m : Memory) (t : Doing) (running : w.host h ≡ Running m) (does : m.doing ≡ Some t) where
+module _ (c : Shape) (w : World) (ms : Moves) (tied : Tied c w ms) (h : ℕ) (m : Memory) (t : Attempt) (running : w.host h ≡ Running m) (does : m.doing ≡ Some (Attempts t)) where
   abbrev s : Setup
   s = setup_of c h m t.operation
 
@@ -148,11 +135,11 @@ module _ (c : Shape) (w : World) (ms : Moves) (tied : Tied c w ms) (h : ℕ) (m 
   -- WHAT ELSE MAY HAPPEN
 
   -- a call of a marking leaves the mbal that each block shows
-  mark_shows : (g k : ℕ) (call : Call) (answer : Answer) (e : Filled) (marks : IsMarkCall c g k call (w.host g)) → Step (w.disk k) call answer (disk_step (w.disk k) e) → (i : ℕ) → (shown (disk_step (w.disk k) e) slot i).mbal ≡ (shown (w.disk k) slot i).mbal
-  mark_shows g k call answer e marks step i =
-      elim (cases_eq marks.marking.slot slot) [
+  mark_shows : (g k : ℕ) (call : Call) (answer : Answer) (e : Filled) (q : Marking) (marks : IsBusyWith c g k call (w.host g) (Marks q)) → Step (w.disk k) call answer (disk_step (w.disk k) e) → (i : ℕ) → (shown (disk_step (w.disk k) e) slot i).mbal ≡ (shown (w.disk k) slot i).mbal
+  mark_shows g k call answer e q marks step i =
+      elim (cases_eq q.slot slot) [
         | inl at ↦ elim (cases_eq g i) [ inl own ↦ same_block at own | inr off ↦ beside (λ same. off (let one : g ≡ i = cc in one)) ]
-        | inr off ↦ beside (λ same. off (let one : marks.marking.slot ≡ slot = cc in one))
+        | inr off ↦ beside (λ same. off (let one : q.slot ≡ slot = cc in one))
       ]
     where
       new : DiskState
@@ -164,36 +151,39 @@ module _ (c : Shape) (w : World) (ms : Moves) (tied : Tied c w ms) (h : ℕ) (m 
       below : g < HOSTS
       below = (running_at c w ms tied g marks.memory marks.running).below
 
-      beside : VoteOf marks.marking.slot g ≢ VoteOf slot i → (shown new slot i).mbal ≡ (shown (w.disk k) slot i).mbal
+      beside : VoteOf q.slot g ≢ VoteOf slot i → (shown new slot i).mbal ≡ (shown (w.disk k) slot i).mbal
       beside differ =
-          let it = mark_inside c w ms tied g k call marks e answer step in
-          ap (λ (says : PBlock). says.mbal) (shown_beside c.slots slot i (VoteOf marks.marking.slot g) (w.disk k) new call answer trying.fits (it.0, below) differ (tied.images k) it.1 step)
+          let it = mark_inside c w ms tied g k call q marks e answer step in
+          ap (λ (says : PBlock). says.mbal) (shown_beside c.slots slot i (VoteOf q.slot g) (w.disk k) new call answer trying.fits (it.0, below) differ (tied.images k) it.1 step)
 
-      same_block : marks.marking.slot ≡ slot → g ≡ i → (shown new slot i).mbal ≡ (shown (w.disk k) slot i).mbal
+      same_block : q.slot ≡ slot → g ≡ i → (shown new slot i).mbal ≡ (shown (w.disk k) slot i).mbal
       same_block at own =
           let here : i < HOSTS = subst (λ (n : ℕ). n < HOSTS) own below in
-          let one : mine marks.marking.slot g ≡ mine slot i = ap₂ mine at own in
+          let one : mine q.slot g ≡ mine slot i = ap₂ mine at own in
           ap (λ (says : PBlock). says.mbal) (shown_is slot i new here)
-          ∙ subst (λ (place : ℕ). promised place new ≡ promised place (w.disk k)) one (promises c w ms tied g k call marks e answer step)
+          ∙ subst (λ (place : ℕ). promised place new ≡ promised place (w.disk k)) one (promises c w ms tied g k call q marks e answer step)
           ∙ sym (ap (λ (says : PBlock). says.mbal) (shown_is slot i (w.disk k) here))
 
   -- a quiet call of another
-  quiet_leaves : (g k : ℕ) (call : Call) (answer : Answer) (e : Filled) → IsQuietCall c g k call (w.host g) → Step (w.disk k) call answer (disk_step (w.disk k) e) → RestsOn h slot (w.disk k) (f k) → RestsOn h slot (disk_step (w.disk k) e) (f k)
-  quiet_leaves g k call answer e (inr (inl marks)) step =
+  quiet_leaves : (g k : ℕ) (call : Call) (answer : Answer) (e : Filled) (doing : Doing) → IsBusyWith c g k call (w.host g) doing → IsNoAttempt (Some doing) → Step (w.disk k) call answer (disk_step (w.disk k) e) → RestsOn h slot (w.disk k) (f k)
+      → RestsOn h slot (disk_step (w.disk k) e) (f k)
+  quiet_leaves g k call answer e (Attempts other) it none step = absurd none
+  quiet_leaves g k call answer e (Marks q) it none step =
       rests_on h slot (w.disk k) (disk_step (w.disk k) e) (f k) (λ current. (
         record { good = current.good; boot = current.boot ∙ boot_kept (w.disk k) (disk_step (w.disk k) e) call answer step },
-        λ i off. mark_shows g k call answer e marks step i,
+        λ i off. mark_shows g k call answer e q it step i,
       ))
-  quiet_leaves g k call answer e (inr (inr reads)) step =
+  quiet_leaves g k call answer e (Looks q) it none step =
       let new : DiskState = disk_step (w.disk k) e in
+      let reads = reads_only c g k it.memory q call it.does (subst (λ (o : Option Doing). next_doing c g it.memory o ≡ Some (k, call)) (sym it.does) it.due) in
       let same : new.bytes ≡ (w.disk k).bytes = bytes_left (w.disk k) new call answer reads step in
       rests_on h slot (w.disk k) new (f k) (λ current. (
         record { good = current.good; boot = current.boot ∙ boot_kept (w.disk k) new call answer step },
         λ i off. ap (λ (bytes : List ℕ). (says_in (row_seen (row_of slot bytes)) i).mbal) same,
       ))
-  quiet_leaves g k call answer e (inl beats) step =
-      let below = (running_at c w ms tied g beats.memory beats.running).below in
-      let inside = beat_within (beat_of c g) (beat_answers.on beats.heard) k call beats.due in
+  quiet_leaves g k call answer e (Beats heard) it none step =
+      let below = (running_at c w ms tied g it.memory it.running).below in
+      let inside = beat_within (beat_of c g) (beat_answers.on heard) k call it.due in
       rests_on h slot (w.disk k) (disk_step (w.disk k) e) (f k) (λ current. (
         record { good = current.good; boot = current.boot ∙ boot_kept (w.disk k) (disk_step (w.disk k) e) call answer step },
         λ i off. ap (λ (says : PBlock). says.mbal) (shown_beside c.slots slot i (BeatOf g) (w.disk k) (disk_step (w.disk k) e) call answer trying.fits below (λ same. cc) (tied.images k) inside step),
@@ -203,17 +193,10 @@ module _ (c : Shape) (w : World) (ms : Moves) (tied : Tied c w ms) (h : ℕ) (m 
   quiets_leave g k call answer e quiet step before d = go (k == d) refl
     where
       go : (b : Bool) → (k == d) ≡ b → RestsOn h slot (cond b (disk_step (w.disk d) e) (w.disk d)) (f d)
-      go true here = subst (λ (i : ℕ). RestsOn h slot (disk_step (w.disk i) e) (f i)) (eqb-true k d here) (quiet_leaves g k call answer e quiet step (before k))
+      go true here = subst (λ (i : ℕ). RestsOn h slot (disk_step (w.disk i) e) (f i)) (eqb-true k d here) (quiet_leaves g k call answer e quiet.0 quiet.1 quiet.2 step (before k))
       go false there = before d
 
   pub rests_still : (e : Filled) → IsQuiet c w e → Rests h slot w.disk f → Rests h slot (λ d. cond (is_on d e) (disk_step (w.disk d) e) (w.disk d)) f
-  rests_still (Start g) quiet before d = before d
-  rests_still (Stop g) quiet before d = before d
-  rests_still (Submit g command tries) quiet before d = before d
-  rests_still (Recover g tries) quiet before d = before d
-  rests_still (Look g) quiet before d = before d
-  rests_still (Beat g) quiet before d = before d
-  rests_still (Mark g n) quiet before d = before d
   rests_still (Called g k call answer left) quiet before d = quiets_leave g k call answer (Called g k call answer left) quiet.0 quiet.1 before d
   rests_still (Torn g k call left) quiet before d = quiets_leave g k call (Fault Failed) (Torn g k call left) quiet.0 quiet.1 before d
   rests_still (Crashed k left) quiet before d = go (k == d)
@@ -227,3 +210,4 @@ module _ (c : Shape) (w : World) (ms : Moves) (tied : Tied c w ms) (h : ℕ) (m 
       go true = rests_on h slot (w.disk d) (disk_step (w.disk d) (Lost k)) (f d) (λ current. (record { good = current.good; boot = current.boot }, λ g off. refl)) (before d)
       go false = before d
   rests_still (Migrated disks log) quiet before d = absurd quiet
+  rests_still other quiet before d = before d

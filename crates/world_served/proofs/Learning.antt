@@ -20,12 +20,11 @@ use Rattle.lock_command.specs.declared.command.Command.{Command}
 use Rattle.lock_command.specs.Command.{spelling}
 use Rattle.lock_command.specs.Reading.{decoded}
 use Rattle.slot_log.specs.Shape.{Shape}
-use Rattle.host.specs.Host.{Operation, Submitting, Doing, Memory, Host, Running, setup_of, input_of, learned_of, does, learns, is_submitted, after_learning, takes, by_status, hears_from, Beats}
-use Rattle.host.proofs.Hosts.{beats_heard}
-use Rattle.world.specs.Entry.{Filled, Start, Stop, Submit, Recover, Look, Beat, Mark, Called, Torn, Crashed, Lost, Migrated, is_of, host_step}
+use Rattle.host.specs.Host.{Operation, Submitting, Attempt, Doing, Attempts, Memory, Host, Running, setup_of, input_of, learned_of, does, learns, is_submitted, after_learning, takes, by_status, hears_from}
+use Rattle.host.specs.declared.task.Task.TheVariants.{Submit}
+use Rattle.world.specs.Entry.{Filled, Begin, Called, is_of, host_step}
 use Rattle.world.specs.World.{World, MayFollow, IsRun}
 use Rattle.world.specs.Chosen.{at, migrated, Hears}
-use Rattle.world.proofs.Beside.{looking_heard, marking_heard}
 use Rattle.world.proofs.Histories.{heard_then, committed}
 use Rattle.world.proofs.Runs.{each, submits_reads}
 use Rattle.world_safety.specs.Goes.{ProposesWith}
@@ -66,7 +65,7 @@ module _ (c : Shape) (log : List Filled) (run : IsRun c log) (some : 1 ≤ c.dis
   IsOwn w = serving.IsOwn c log i host command marks w
 
   module _ (k : ℕ) (behind : i < k) (before : k < j) (d : ℕ) (call : Call) (answer : Answer) (left : List ℕ) (entry : slice_get log k ≡ Some (Called host d call answer left)) (calls : ℕ)
-      (earlier : (p : ℕ) → i < p → p ≤ k → IsOwn (at c log p)) (m : Memory) (running : (at c log k).host host ≡ Running m) (t : Doing) (doing : m.doing ≡ Some t) (no_beat : m.beats.heard ≡ None) (no_mark : m.marking ≡ None) (no_look : m.looking ≡ None) (is : serving.IsServing c log i host command marks calls (at c log k) m t) where
+      (earlier : (p : ℕ) → i < p → p ≤ k → IsOwn (at c log p)) (m : Memory) (running : (at c log k).host host ≡ Running m) (t : Attempt) (doing : m.doing ≡ Some (Attempts t)) (is : serving.IsServing c log i host command marks calls (at c log k) m t) where
     abbrev w : World
     w = at c log k
 
@@ -82,7 +81,7 @@ module _ (c : Shape) (log : List Filled) (run : IsRun c log) (some : 1 ≤ c.dis
     abbrev heard : List Answered
     heard = t.heard ++ x ∷ []
 
-    abbrev going : Doing
+    abbrev going : Attempt
     going = record { operation = t.operation; tries = t.tries; heard = heard }
 
     abbrev after : World
@@ -133,7 +132,7 @@ module _ (c : Shape) (log : List Filled) (run : IsRun c log) (some : 1 ≤ c.dis
       -- where it is not this one, and some host put it in by then, the slot had a proposal
       module _ (other : bytes_eq (spelling command) value ≡ false) (by : IsPutBefore c log run (suc k) (length m.learned) value) where
         -- not this host behind the submission, which puts in its own
-        put_own : (h : ℕ) → h ≡ host → (q : Memory) (u : Doing) → (at c log by.place).host h ≡ Running q → q.doing ≡ Some u → input_of u.operation ≡ Some value → i < by.place → ⊥
+        put_own : (h : ℕ) → h ≡ host → (q : Memory) (u : Attempt) → (at c log by.place).host h ≡ Running q → q.doing ≡ Some (Attempts u) → input_of u.operation ≡ Some value → i < by.place → ⊥
         put_own h same q u runs does input late =
             let here = subst (λ (g : ℕ). (at c log by.place).host g ≡ Running q) same runs in
             let own : u.operation ≡ Submitting command = earlier by.place late (let b = by.before in omega arith) q u here does in
@@ -143,42 +142,22 @@ module _ (c : Shape) (log : List Filled) (run : IsRun c log) (some : 1 ≤ c.dis
 
         -- so nobody did behind it
         put_late : (o : Filled) → slice_get log by.place ≡ Some o → is_of by.put.host o ≡ true → ProposesWith c by.put.host by.put.memory by.put.doing o value → i < by.place → ⊥
-        put_late (Start g) found of votes late = votes
-        put_late (Stop g) found of votes late = votes
-        put_late (Submit g other_command n) found of votes late = votes
-        put_late (Recover g n) found of votes late = votes
-        put_late (Look g) found of votes late = votes
-        put_late (Beat g) found of votes late = votes
-        put_late (Mark g slot) found of votes late = votes
         put_late (Called g n other_call other_answer bytes) found of votes late =
             elim (alone.alone.calls by.place g n other_call other_answer bytes late (let b = by.before in omega arith) found) [
               | inl its ↦ put_own by.put.host (sym (eqb-true g by.put.host of) ∙ its) by.put.memory by.put.doing by.put.running by.put.does by.put.input late
-              | inr rests ↦
-                  (let none = subst (TriesNone c log by.place) (eqb-true g by.put.host of) rests by.put.memory by.put.running in
-                  let both : None ≡ Some by.put.doing = sym none ∙ by.put.does in
-                  absurd (cc))
+              | inr rests ↦ subst (TriesNone c log by.place) (eqb-true g by.put.host of) rests by.put.memory by.put.doing by.put.running by.put.does
             ]
-        put_late (Torn g n other_call bytes) found of votes late = votes
-        put_late (Crashed n bytes) found of votes late = votes
-        put_late (Lost n) found of votes late = votes
-        put_late (Migrated n log_of) found of votes late = votes
+        put_late other_entry found of votes late = votes
 
         -- nor with it
         put_now : i ≡ by.place → ⊥
         put_now same =
-            let both : Some (Submit host command tries) ≡ Some by.entry = sym alone.submitted ∙ ap (slice_get log) same ∙ by.is in
-            let one : by.entry ≡ Submit host command tries = cc in
+            let both : Some (Begin host (Submit command tries)) ≡ Some by.entry = sym alone.submitted ∙ ap (slice_get log) same ∙ by.is in
+            let one : by.entry ≡ Begin host (Submit command tries) = cc in
             subst (λ (o : Filled). ProposesWith c by.put.host by.put.memory by.put.doing o value) one by.put.proposes
 
         -- and whoever did before it had a proposal for the slot
         put_early : (o : Filled) → slice_get log by.place ≡ Some o → is_of by.put.host o ≡ true → ProposesWith c by.put.host by.put.memory by.put.doing o value → by.place < i → marks (length m.learned) ≡ true
-        put_early (Start g) found of votes early = absurd votes
-        put_early (Stop g) found of votes early = absurd votes
-        put_early (Submit g other_command n) found of votes early = absurd votes
-        put_early (Recover g n) found of votes early = absurd votes
-        put_early (Look g) found of votes early = absurd votes
-        put_early (Beat g) found of votes early = absurd votes
-        put_early (Mark g slot) found of votes early = absurd votes
         put_early (Called g n other_call other_answer bytes) found of votes early =
             let put = by.put in
             alone.marked.proposed (length m.learned) by.place (ballot (setup_of c put.host put.memory put.doing.operation) (on (put.doing.heard ++ record { disk = n; heard = heard_as other_answer } ∷ []))) value early
@@ -204,10 +183,7 @@ module _ (c : Shape) (log : List Filled) (run : IsRun c log) (some : 1 ≤ c.dis
               in_ballot = refl;
             })
             (let learned = is.learned in omega arith)
-        put_early (Torn g n other_call bytes) found of votes early = absurd votes
-        put_early (Crashed n bytes) found of votes early = absurd votes
-        put_early (Lost n) found of votes early = absurd votes
-        put_early (Migrated n log_of) found of votes early = absurd votes
+        put_early other_entry found of votes early = absurd votes
 
         put_marked : marks (length m.learned) ≡ true
         put_marked = elim (cases_order by.place i) [
@@ -280,8 +256,5 @@ module _ (c : Shape) (log : List Filled) (run : IsRun c log) (some : 1 ≤ c.dis
         record {
           memory = new;
           running = ap (λ (b : Bool). cond b (host_step c host (w.host host) e) (w.host host)) (eq-eqb host host refl) ∙ now;
-          no_beat = ap (λ (b : Beats). b.heard) (beats_heard c host m (Some t) x) ∙ no_beat;
-          no_mark = marking_heard c host m (Some t) x ∙ no_mark;
-          no_look = looking_heard c host m (Some t) x ∙ no_look;
           so_far = status_so (taken s (on heard)) (status s (on heard)) refl ends;
         }

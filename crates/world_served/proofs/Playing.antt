@@ -13,7 +13,7 @@ use Rattle.attempt.specs.Answers.{Heard, Answered, Answers, on, heard_as, all_go
 use Rattle.attempt.specs.Setup.{Setup}
 use Rattle.attempt.specs.Visits.{is_stuck, is_past, visited, are_enough}
 use Rattle.slot_log.specs.Shape.{Shape}
-use Rattle.host.specs.Host.{Doing, Memory, Host, Stopped, Running, setup_of, next_of}
+use Rattle.host.specs.Host.{Doing, Attempts, Memory, Host, Stopped, Running, setup_of, next_of}
 use Rattle.world.specs.Entry.{Filled, Called, is_of, of_host, disk_step, host_step}
 use Rattle.world.specs.World.{World, world}
 use Rattle.world.specs.Happens.{Step, answer_of, stepped, with_entry, happens, happen}
@@ -66,8 +66,8 @@ well_answers s f one well =
 
 -- so it is of what a host has heard with one answer more, of a slot up to the last that it may try
 abbrev pub heard_well : Shape → ℕ → Memory → Option Doing → Answer → Bool
-heard_well c last m None answer = false
-heard_well c last m (Some t) answer = nat_le (length m.learned) last && is_well (setup_of c 0 m t.operation) (on (t.heard ++ record { disk = 0; heard = heard_as answer } ∷ []) 0)
+heard_well c last m (Some (Attempts t)) answer = nat_le (length m.learned) last && is_well (setup_of c 0 m t.operation) (on (t.heard ++ record { disk = 0; heard = heard_as answer } ∷ []) 0)
+heard_well c last m other answer = false
 
 -- and of the host that has it
 abbrev pub host_well : Shape → ℕ → Host → Answer → Bool
@@ -186,7 +186,7 @@ module _ (c : Shape) (last : ℕ) (begin : List Filled) (one : c.disks ≡ 1) (l
         let m = hears.memory in
         let t = hears.doing in
         let there : heard_well c last m m.doing (answer_of disk call) ≡ true = subst (λ (old : Host). host_well c last old (answer_of disk call) ≡ true) running good in
-        let both : heard_well c last m (Some t) (answer_of disk call) ≡ true = subst (λ (o : Option Doing). heard_well c last m o (answer_of disk call) ≡ true) hears.does there in
+        let both : heard_well c last m (Some (Attempts t)) (answer_of disk call) ≡ true = subst (λ (o : Option Doing). heard_well c last m o (answer_of disk call) ≡ true) hears.does there in
         let parts = both_true (nat_le (length m.learned) last) (is_well (setup_of c 0 m t.operation) (on (t.heard ++ record { disk = 0; heard = heard_as (answer_of disk call) } ∷ []) 0)) both in
         let doing = parts.1 in
         let low : length m.learned ≤ last = leb-true (length m.learned) last parts.0 in

@@ -15,8 +15,8 @@ use Rattle.paxos_block.specs.layouts.Saying.{zeros, heading, body_saying, number
 use Rattle.attempt.specs.Answers.{Answered}
 use Rattle.attempt.specs.Setup.{Setup}
 use Rattle.lock_command.specs.declared.command.Command.{Command}
-use Rattle.lock_command.specs.Command.{number, spelling}
-use Rattle.lock_command.specs.Reading.{decoded, lock_at, request_at, mode_of, name_at, enqueue_at, convert_at, action_at, command_at}
+use Rattle.lock_command.specs.Command.{number}
+use Rattle.lock_command.specs.Reading.{lock_at, request_at, mode_of, name_at, enqueue_at, convert_at, action_at, command_at}
 use Rattle.lock_table.specs.Apply.{applied, granted, without_value}
 use Rattle.lock_index.specs.Locks.{settled}
 use Rattle.lock_command.specs.declared.reply.Answer.TheVariants.{Queued}
@@ -24,7 +24,8 @@ use Rattle.slot_log.specs.Shape.{Shape}
 use Rattle.host.specs.declared.answer.HostAnswer.{HostAnswer}
 use Rattle.host.specs.declared.answer.HostAnswer.TheVariants.{Ack}
 use Rattle.host.specs.Host.{Host, Stopped, Running, fresh, is_stopped, idles, said_of}
-use Rattle.world.specs.Entry.{Filled, Start, Stop, Submit, Called, Torn, of_host, host_step}
+use Rattle.host.specs.declared.task.Task.TheVariants.{Submit}
+use Rattle.world.specs.Entry.{Filled, Start, Stop, Begin, Called, Torn, of_host, host_step}
 use Rattle.world.specs.World.{world}
 use Rattle.world.specs.Happens as events
 use Rattle.world.specs.Happens.{Event, entry_of, with_entry, happens, happen}
@@ -73,7 +74,7 @@ module _ (c : Shape) (last : ℕ) (begin log : List Filled) (disk : DiskState) (
   whole : take (i + 1 + n) log ≡ log
   whole = ap (λ (k : ℕ). take k log) (sym long) ∙ take-length log
 
-  left_alone_by : (command : Command) (tries : ℕ) (marks : ℕ → Bool) → slice_get begin i ≡ Some (Submit 0 command tries) → MarksOpen c log i 0 marks → IsLeftAlone c log i (i + 1 + n) 0 tries command marks
+  left_alone_by : (command : Command) (tries : ℕ) (marks : ℕ → Bool) → slice_get begin i ≡ Some (Begin 0 (Submit command tries)) → MarksOpen c log i 0 marks → IsLeftAlone c log i (i + 1 + n) 0 tries command marks
   left_alone_by command tries marks submitted marked =
       record {
         submitted = sym (get_take log (length begin) i (omega arith)) ∙ ap (λ (l : List Filled). slice_get l i) plays.begins ∙ submitted;
@@ -96,7 +97,7 @@ module _ (c : Shape) (last : ℕ) (begin log : List Filled) (disk : DiskState) (
 -- THE FIRST SUBMISSION
 
 abbrev first_two : List Filled
-first_two = Start 0 ∷ Submit 0 first_command 1 ∷ []
+first_two = Start 0 ∷ Begin 0 (Submit first_command 1) ∷ []
 
 -- the disk and the host behind its first two entries
 abbrev disk_then : DiskState
@@ -106,7 +107,7 @@ abbrev host_then : Host
 host_then = (world one_disk first_two).host 0
 
 -- the first two events bring them
-begun : (es : List Event) → happen one_disk [] (events.Start 0 ∷ events.Submit 0 first_command 1 ∷ es) ≡ happen one_disk first_two es
+begun : (es : List Event) → happen one_disk [] (events.Start 0 ∷ events.Begin 0 (Submit first_command 1) ∷ es) ≡ happen one_disk first_two es
 unfolding fresh_disk sequence_of body_of number_bytes tail_with copy_in decoded_row zeros heading body_saying number_at claim_of is_said number lock_at request_at mode_of name_at enqueue_at convert_at action_at command_at
 begun es = refl
 
@@ -206,10 +207,10 @@ abbrev started : List Filled
 started = stopped ++ Start 0 ∷ []
 
 abbrev begun_again : List Filled
-begun_again = started ++ Submit 0 second_command 1 ∷ []
+begun_again = started ++ Begin 0 (Submit second_command 1) ∷ []
 
 abbrev host_again : Host
-host_again = host_step one_disk 0 (Running fresh) (Submit 0 second_command 1)
+host_again = host_step one_disk 0 (Running fresh) (Begin 0 (Submit second_command 1))
 
 first_long : length first_submission ≡ 19
 first_long = first_plays.long
@@ -221,7 +222,7 @@ started_long : length started ≡ 21
 started_long = let before = stopped_long in omega (arith, length-append stopped (Start 0 ∷ []))
 
 begun_long : length begun_again ≡ 22
-begun_long = let before = started_long in omega (arith, length-append started (Submit 0 second_command 1 ∷ []))
+begun_long = let before = started_long in omega (arith, length-append started (Begin 0 (Submit second_command 1) ∷ []))
 
 -- who says something runs
 runs : (host : Host) (said : HostAnswer) → said_of host ≡ Some said → is_stopped host ≡ false
@@ -244,12 +245,12 @@ host_started : (world one_disk started).host 0 ≡ Running fresh
 host_started = host_here one_disk stopped (Start 0) 0 refl ∙ ap (λ (host : Host). host_step one_disk 0 host (Start 0)) host_stopped
 
 -- the command is what its spelling reads as
-submits_so : events.brings_if (idles (Running fresh) && nat_lt 0 1) (events.submitted 0 1 (decoded (spelling second_command))) ≡ Some (Submit 0 second_command 1)
+submits_so : events.brings_if (idles (Running fresh)) (events.task_entry one_disk 0 (Submit second_command 1)) ≡ Some (Begin 0 (Submit second_command 1))
 unfolding fresh_disk sequence_of body_of number_bytes tail_with copy_in decoded_row zeros heading body_saying number_at claim_of is_said number lock_at request_at mode_of name_at enqueue_at convert_at action_at command_at
 submits_so = refl
 
-submits : happens one_disk started (events.Submit 0 second_command 1) ≡ begun_again
-submits = ap (with_entry started) (ap (λ (host : Host). events.brings_if (idles host && nat_lt 0 1) (events.submitted 0 1 (decoded (spelling second_command)))) host_started ∙ submits_so)
+submits : happens one_disk started (events.Begin 0 (Submit second_command 1)) ≡ begun_again
+submits = ap (with_entry started) (ap (λ (host : Host). events.brings_if (idles host) (events.task_entry one_disk 0 (Submit second_command 1))) host_started ∙ submits_so)
 
 -- the events go on from there
 happen_both : (c : Shape) (log : List Filled) (first second : List Event) → happen c log (first ++ second) ≡ happen c (happen c log first) second
@@ -259,8 +260,8 @@ happen_both c log (e ∷ first) second = happen_both c (happens c log e) first s
 goes_on : happen one_disk begun_again (steps 34) ≡ second_submission
 unfolding first_submission second_submission
 goes_on =
-    ap (λ (l : List Filled). happen one_disk l (steps 34)) (sym (ap (λ (l : List Filled). happens one_disk l (events.Submit 0 second_command 1)) (ap (λ (l : List Filled). happens one_disk l (events.Start 0)) stops ∙ starts) ∙ submits))
-    ∙ sym (happen_both one_disk [] (events.Start 0 ∷ events.Submit 0 first_command 1 ∷ steps 17) (events.Stop 0 ∷ events.Start 0 ∷ events.Submit 0 second_command 1 ∷ steps 34))
+    ap (λ (l : List Filled). happen one_disk l (steps 34)) (sym (ap (λ (l : List Filled). happens one_disk l (events.Begin 0 (Submit second_command 1))) (ap (λ (l : List Filled). happens one_disk l (events.Start 0)) stops ∙ starts) ∙ submits))
+    ∙ sym (happen_both one_disk [] (events.Start 0 ∷ events.Begin 0 (Submit first_command 1) ∷ steps 17) (events.Stop 0 ∷ events.Start 0 ∷ events.Begin 0 (Submit second_command 1) ∷ steps 34))
 
 -- by computing: behind thirty-four calls the host has acknowledged the second command, behind the first
 said_again : option_map (λ (q : DiskState × Host). said_of q.1) (option_and_then (λ (p : DiskState × Host). played one_disk 3 34 p.0 host_again) (played one_disk 0 17 disk_then host_then)) ≡ Some (Some (Ack 1 (without_value Queued)))
@@ -273,10 +274,10 @@ second_last =
     (ap (λ (o : Option (DiskState × Host)). option_map (λ (q : DiskState × Host). said_of q.1) (option_and_then (λ (p : DiskState × Host). played one_disk 3 34 p.0 host_again) o)) (sym first_last.1) ∙ said_again)
 
 disk_again : (world one_disk begun_again).disk 0 ≡ first_last.0.0
-disk_again = disk_there one_disk started (Submit 0 second_command 1) 0 refl ∙ disk_there one_disk stopped (Start 0) 0 refl ∙ disk_there one_disk first_submission (Stop 0) 0 refl ∙ first_plays.disk_is
+disk_again = disk_there one_disk started (Begin 0 (Submit second_command 1)) 0 refl ∙ disk_there one_disk stopped (Start 0) 0 refl ∙ disk_there one_disk first_submission (Stop 0) 0 refl ∙ first_plays.disk_is
 
 host_then_again : (world one_disk begun_again).host 0 ≡ host_again
-host_then_again = host_here one_disk started (Submit 0 second_command 1) 0 refl ∙ ap (λ (host : Host). host_step one_disk 0 host (Submit 0 second_command 1)) host_started
+host_then_again = host_here one_disk started (Begin 0 (Submit second_command 1)) 0 refl ∙ ap (λ (host : Host). host_step one_disk 0 host (Begin 0 (Submit second_command 1))) host_started
 
 second_plays : Plays one_disk 3 begun_again second_submission second_last.0.0 second_last.0.1 34
 second_plays =
@@ -289,14 +290,14 @@ second_plays =
 stopped_first : take 19 begun_again ≡ first_submission
 stopped_first =
     let a = first_long in let b = stopped_long in let d = started_long in
-    take-append-le 19 started (Submit 0 second_command 1 ∷ []) (omega arith) ∙ take-append-le 19 stopped (Start 0 ∷ []) (omega arith)
+    take-append-le 19 started (Begin 0 (Submit second_command 1) ∷ []) (omega arith) ∙ take-append-le 19 stopped (Start 0 ∷ []) (omega arith)
     ∙ ap (λ (n : ℕ). take n stopped) (sym first_long) ∙ take-append_seam first_submission (Stop 0 ∷ [])
 
 -- and neither of the two entries behind that is a call
 not_between : (k g d : ℕ) (call : Call) (answer : Answer) (left : List ℕ) → 19 ≤ k → k < 21 → slice_get begun_again k ≡ Some (Called g d call answer left) → ⊥
 not_between k g d call answer left low high is =
     let a = first_long in let b = stopped_long in let e = started_long in
-    let in_started : slice_get started k ≡ Some (Called g d call answer left) = sym (get_old started (Submit 0 second_command 1) k (omega arith)) ∙ is in
+    let in_started : slice_get started k ≡ Some (Called g d call answer left) = sym (get_old started (Begin 0 (Submit second_command 1)) k (omega arith)) ∙ is in
     elim (cases_lt k 20) [
       | inl first ↦
           (let here : k ≡ length first_submission = omega arith in
@@ -332,8 +333,8 @@ marks_first = record {
 
 -- THE SECOND SUBMISSION
 
-second_is : slice_get begun_again 21 ≡ Some (Submit 0 second_command 1)
-second_is = ap (slice_get begun_again) (sym started_long) ∙ get_last started (Submit 0 second_command 1)
+second_is : slice_get begun_again 21 ≡ Some (Begin 0 (Submit second_command 1))
+second_is = ap (slice_get begun_again) (sym started_long) ∙ get_last started (Begin 0 (Submit second_command 1))
 
 pub second_left_alone : IsLeftAlone one_disk second_submission 21 56 0 1 second_command first_open
 second_left_alone = left_alone_by one_disk 3 begun_again second_submission second_last.0.0 second_last.0.1 21 34 begun_long second_plays second_command 1 first_open second_is marks_first

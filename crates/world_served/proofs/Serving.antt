@@ -6,7 +6,7 @@ use Rattle.attempt.specs.Answers.{on}
 use Rattle.attempt.specs.Numbers.{count}
 use Rattle.lock_command.specs.declared.command.Command.{Command}
 use Rattle.slot_log.specs.Shape.{Shape}
-use Rattle.host.specs.Host.{Operation, Submitting, Doing, Memory, Running, learned_of, says, does, begins, full_answer, goes_on}
+use Rattle.host.specs.Host.{Operation, Submitting, Attempt, Doing, Attempts, Memory, Running, learned_of, says, does, begins, full_answer, goes_on}
 use Rattle.world.specs.Entry.{Filled}
 use Rattle.world.specs.World.{World}
 use Rattle.world.specs.Chosen.{at}
@@ -28,7 +28,7 @@ module _ (c : Shape) (log : List Filled) (i host : ℕ) (command : Command) (mar
   -- WHAT HOLDS
 
   -- an attempt is under way: the slots that were learned meanwhile are marked, and each took at most so many calls
-  pub record IsServing (calls : ℕ) (w : World) (m : Memory) (t : Doing) : Type 0 where
+  pub record IsServing (calls : ℕ) (w : World) (m : Memory) (t : Attempt) : Type 0 where
     pub quiet : m.said ≡ None
     pub operation : t.operation ≡ Submitting command
     pub past : ℕ
@@ -42,27 +42,25 @@ module _ (c : Shape) (log : List Filled) (i host : ℕ) (command : Command) (mar
   -- or the host has said what is claimed
   abbrev pub SoFar : ℕ → World → Memory → Option Doing → Type 0
   SoFar calls w m None = IsServedBy most calls m.said
-  SoFar calls w m (Some t) = IsServing calls w m t
+  SoFar calls w m (Some (Attempts t)) = IsServing calls w m t
+  SoFar calls w m (Some other) = ⊥
 
   -- so it is with the host, which runs
   pub record Serves (calls : ℕ) (w : World) : Type 0 where
     pub memory : Memory
     pub running : w.host host ≡ Running memory
-    pub no_beat : memory.beats.heard ≡ None
-    pub no_mark : memory.marking ≡ None
-    pub no_look : memory.looking ≡ None
     pub so_far : SoFar calls w memory memory.doing
 
   -- whatever attempt is under way then is the submission's
   abbrev pub IsOwn : World → Type 0
-  IsOwn w = (m : Memory) (t : Doing) → w.host host ≡ Running m → m.doing ≡ Some t → t.operation ≡ Submitting command
+  IsOwn w = (m : Memory) (t : Attempt) → w.host host ≡ Running m → m.doing ≡ Some (Attempts t) → t.operation ≡ Submitting command
 
   -- so it is
   pub own_so : (calls : ℕ) (w : World) → Serves calls w → IsOwn w
   own_so calls w serves m t running does =
       let both : Running serves.memory ≡ Running m = sym serves.running ∙ running in
       let same : serves.memory ≡ m = cc in
-      let one : serves.memory.doing ≡ Some t = ap (λ (k : Memory). k.doing) same ∙ does in
+      let one : serves.memory.doing ≡ Some (Attempts t) = ap (λ (k : Memory). k.doing) same ∙ does in
       (subst (SoFar calls w serves.memory) one serves.so_far).operation
 
   -- so many slots are within the marks
@@ -70,7 +68,7 @@ module _ (c : Shape) (log : List Filled) (i host : ℕ) (command : Command) (mar
   enough past room marked = within past (count c.slots marks) width (count_marked c.slots marks base past room marked)
 
   -- so the calls are fewer than the bound
-  serving_so : (calls : ℕ) (w : World) (m : Memory) (t : Doing) → IsServing calls w m t → calls < most
+  serving_so : (calls : ℕ) (w : World) (m : Memory) (t : Attempt) → IsServing calls w m t → calls < most
   serving_so calls w m t is =
       let fits = is.fits in
       let learned = is.learned in
@@ -109,4 +107,5 @@ module _ (c : Shape) (log : List Filled) (i host : ℕ) (command : Command) (mar
   -- what the host has said, if anything, is what is claimed
   pub said_so : (calls : ℕ) (w : World) (m : Memory) (o : Option Doing) → SoFar calls w m o → IsServedBy most calls m.said
   said_so calls w m None so = so
-  said_so calls w m (Some t) so = subst (IsServedBy most calls) (sym so.quiet) (serving_so calls w m t so)
+  said_so calls w m (Some (Attempts t)) so = subst (IsServedBy most calls) (sym so.quiet) (serving_so calls w m t so)
+  said_so calls w m (Some other) so = absurd so

@@ -6,15 +6,13 @@ use Rattle.disk.specs.Disk.{Call, Answer}
 use Rattle.attempt.specs.Numbers.{count}
 use Rattle.lock_command.specs.declared.command.Command.{Command}
 use Rattle.slot_log.specs.Shape.{Shape}
-use Rattle.host.specs.Host.{Submitting, Doing, Memory, Beats, Host, Stopped, Running, idles, learned_of, said_of, does, goes_on, next_look, next_marking, next_beside, next_doing, next_of}
-use Rattle.host.proofs.Hosts.{beats-goes_on}
-use Rattle.world.specs.Entry.{Filled, Submit, Called, is_of, host_step}
+use Rattle.host.specs.Host.{Submitting, Doing, Attempts, Memory, Host, Stopped, Running, idles, learned_of, said_of, does, goes_on, next_doing, next_of}
+use Rattle.host.specs.declared.task.Task.TheVariants.{Submit}
+use Rattle.world.specs.Entry.{Filled, Begin, Called, is_of, host_step}
 use Rattle.world.specs.World.{World, IsRun}
 use Rattle.world.specs.Chosen.{at, IsCallOf}
-use Rattle.world.proofs.Beside.{looking-goes_on, marking-goes_on}
 use Rattle.world.proofs.Runs.{each}
 use Rattle.world_safety.specs.Next.{next_world}
-use Rattle.world_safety.proofs.Moves.Moving.{idle_is}
 use Rattle.world_safety.proofs.Runs.Places.{at_next, at_end, host_next}
 use Rattle.world_safety.proofs.Runs.Tracks.{moves_at, tied_at}
 use Rattle.world_served.specs.Served.{IsLeftAlone, IsServedBy, calls_between}
@@ -40,7 +38,7 @@ module _ (c : Shape) (log : List Filled) (run : IsRun c log) (some : 1 ≤ c.dis
     -- the attempt's rows rest as they did
     still : (m : Memory) → (at c log k).host host ≡ Running m → (o : Option Doing) → m.doing ≡ o → SoFar calls (at c log k) m o → SoFar calls (next_world c (at c log k) e) m o
     still m running None does so = so
-    still m running (Some t) does so =
+    still m running (Some (Attempts t)) does so =
         record {
           quiet = so.quiet;
           operation = so.operation;
@@ -52,15 +50,13 @@ module _ (c : Shape) (log : List Filled) (run : IsRun c log) (some : 1 ≤ c.dis
           bound = so.bound;
           rests = rests_still c (at c log k) (moves_at c log run k) (tied_at c log run k) host m t running does e quiet so.rests;
         }
+    still m running (Some other) does so = absurd so
 
     pub still_so : Serves calls (at c log k) → Serves calls (next_world c (at c log k) e)
     still_so serves =
         record {
           memory = serves.memory;
           running = ap (λ (b : Bool). cond b (host_step c host ((at c log k).host host) e) ((at c log k).host host)) off ∙ serves.running;
-          no_beat = serves.no_beat;
-          no_mark = serves.no_mark;
-          no_look = serves.no_look;
           so_far = still serves.memory serves.running serves.memory.doing refl serves.so_far;
         }
 
@@ -71,16 +67,13 @@ module _ (c : Shape) (log : List Filled) (run : IsRun c log) (some : 1 ≤ c.dis
     pub now : Serves (calls_between log i k host) (at c log k)
     pub earlier : (p : ℕ) → i < p → p ≤ k → IsOwn (at c log p)
 
-  -- behind the Submit
+  -- behind the entry that begins it
   begun_so : (old : Host) → (at c log i).host host ≡ old → IsTrue (idles old) → Serves 0 (at c log (suc i))
   begun_so Stopped is idle = absurd (true≢false (sym idle))
   begun_so (Running m) is idle =
       record {
         memory = goes_on c m (Submitting command) tries;
-        running = host_next c log i (Submit host command tries) host alone.submitted (eq-eqb host host refl) ∙ ap (λ (old : Host). host_step c host old (Submit host command tries)) is;
-        no_beat = ap (λ (b : Beats). b.heard) (beats-goes_on c m (Submitting command) tries) ∙ (idle_is m idle).beats;
-        no_mark = marking-goes_on c m (Submitting command) tries ∙ (idle_is m idle).marks;
-        no_look = looking-goes_on c m (Submitting command) tries ∙ (idle_is m idle).looks;
+        running = host_next c log i (Begin host (Submit command tries)) host alone.submitted (eq-eqb host host refl) ∙ ap (λ (old : Host). host_step c host old (Begin host (Submit command tries))) is;
         so_far = serving.goes_on_so c log i host command marks some 0 (at c log (suc i)) m (Submitting command) tries 0 refl
             (let same : length m.learned ≡ serving.base c log i host command marks = ap (λ (old : Host). length (learned_of old)) (sym is) in omega arith)
             (λ slot above below. absurd (omega arith)) (omega arith) (omega arith);
@@ -89,34 +82,32 @@ module _ (c : Shape) (log : List Filled) (run : IsRun c log) (some : 1 ≤ c.dis
   -- so at the first place
   first : ServesTo (suc i)
   first =
-      let begun = begun_so ((at c log i).host host) refl (each c log i (Submit host command tries) run alone.submitted).0 in
+      let begun = begun_so ((at c log i).host host) refl (each c log i (Begin host (Submit command tries)) run alone.submitted).0 in
       record {
-        now = subst (λ (n : ℕ). Serves n (at c log (suc i))) (sym (none_yet log i host (Submit host command tries) alone.submitted)) begun;
+        now = subst (λ (n : ℕ). Serves n (at c log (suc i))) (sym (none_yet log i host (Begin host (Submit command tries)) alone.submitted)) begun;
         earlier = λ p behind le. (let same : suc i ≡ p = omega arith in subst (λ (q : ℕ). IsOwn (at c log q)) same (serving.own_so c log i host command marks 0 (at c log (suc i)) begun));
       }
 
   -- a host that has nothing under way makes no call
-  no_call : (k d : ℕ) (call : Call) (m : Memory) → (at c log k).host host ≡ Running m → m.doing ≡ None → m.beats.heard ≡ None → m.marking ≡ None → m.looking ≡ None → next_of c host ((at c log k).host host) ≡ Some (d, call) → ⊥
-  no_call k d call m running idle no_beat no_mark no_look next =
+  no_call : (k d : ℕ) (call : Call) (m : Memory) → (at c log k).host host ≡ Running m → m.doing ≡ None → next_of c host ((at c log k).host host) ≡ Some (d, call) → ⊥
+  no_call k d call m running idle next =
       let there : next_doing c host m m.doing ≡ Some (d, call) = ap (next_of c host) (sym running) ∙ next in
       let none : next_doing c host m None ≡ Some (d, call) = ap (next_doing c host m) (sym idle) ∙ there in
-      let beside : next_beside c host m None ≡ Some (d, call) = ap (next_beside c host m) (sym no_beat) ∙ none in
-      let neither : next_marking c host m None ≡ Some (d, call) = ap (next_marking c host m) (sym no_mark) ∙ beside in
-      let nothing : next_look c m None ≡ Some (d, call) = ap (next_look c m) (sym no_look) ∙ neither in
       absurd (cc)
 
   module _ (k : ℕ) (behind : i < k) (before : k < j) (to : ServesTo k) where
     -- a call of the host
-    called : (d : ℕ) (call : Call) (answer : Answer) (left : List ℕ) → slice_get log k ≡ Some (Called host d call answer left) → (m : Memory) → (at c log k).host host ≡ Running m → m.beats.heard ≡ None → m.marking ≡ None → m.looking ≡ None → (o : Option Doing) → m.doing ≡ o → SoFar (calls_between log i k host) (at c log k) m o
+    called : (d : ℕ) (call : Call) (answer : Answer) (left : List ℕ) → slice_get log k ≡ Some (Called host d call answer left) → (m : Memory) → (at c log k).host host ≡ Running m → (o : Option Doing) → m.doing ≡ o → SoFar (calls_between log i k host) (at c log k) m o
         → Serves (calls_between log i k host + 1) (next_world c (at c log k) (Called host d call answer left))
-    called d call answer left is m running no_beat no_mark no_look None does so = absurd (no_call k d call m running does no_beat no_mark no_look (each c log k _ run is).0)
-    called d call answer left is m running no_beat no_mark no_look (Some t) does so = answered_so c log run some i j host tries command marks alone k behind before d call answer left is (calls_between log i k host) to.earlier m running t does no_beat no_mark no_look so
+    called d call answer left is m running None does so = absurd (no_call k d call m running does (each c log k _ run is).0)
+    called d call answer left is m running (Some (Attempts t)) does so = answered_so c log run some i j host tries command marks alone k behind before d call answer left is (calls_between log i k host) to.earlier m running t does so
+    called d call answer left is m running (Some other) does so = absurd so
 
     -- which is all that it does meanwhile
     own_entry : (e : Filled) → slice_get log k ≡ Some e → is_of host e ≡ true → IsCallOf host e → Serves (calls_between log i k host + 1) (next_world c (at c log k) e)
     own_entry e is of call =
         subst (λ (o : Filled). Serves (calls_between log i k host + 1) (next_world c (at c log k) o)) (sym call.is)
-        (called call.disk call.call call.answer call.left (is ∙ ap Some call.is) to.now.memory to.now.running to.now.no_beat to.now.no_mark to.now.no_look to.now.memory.doing refl to.now.so_far)
+        (called call.disk call.call call.answer call.left (is ∙ ap Some call.is) to.now.memory to.now.running to.now.memory.doing refl to.now.so_far)
 
     -- whatever the entry
     by_entry : (o : Option Filled) → slice_get log k ≡ o → Serves (calls_between log i (suc k) host) (at c log (suc k))

@@ -4,8 +4,9 @@ use Rattle.lock_modes.specs.declared.mode.Mode.TheVariants.{Exclusive}
 use Rattle.lock_command.specs.declared.command.Command.{Command}
 use Rattle.lock_command.specs.declared.command.Action.TheVariants.{Enqueue}
 use Rattle.slot_log.specs.Shape.{Shape}
+use Rattle.host.specs.declared.task.Task.TheVariants.{Submit}
 use Rattle.world.specs.Entry.{Filled}
-use Rattle.world.specs.Happens.{Event, Start, Stop, Submit, Step, run}
+use Rattle.world.specs.Happens.{Event, Start, Stop, Begin, Step, run}
 
 -- one disk, and room for four commands
 abbrev pub one_disk : Shape
@@ -22,7 +23,7 @@ steps (suc n) = Step 0 ∷ steps n
 
 -- host 0 starts, submits the command with one try, and makes seventeen calls
 unfoldable pub first_submission : List Filled
-first_submission = run one_disk (Start 0 ∷ Submit 0 first_command 1 ∷ steps 17)
+first_submission = run one_disk (Start 0 ∷ Begin 0 (Submit first_command 1) ∷ steps 17)
 
 -- no slot is open
 abbrev pub none_open : ℕ → Bool
@@ -34,7 +35,7 @@ second_command = record { host = 0; client = 2; request = 1; action = Enqueue 2 
 
 -- Behind that submission host 0 stops, and so forgets; it starts again, submits the second command with one try, and makes thirty-four calls.
 unfoldable pub second_submission : List Filled
-second_submission = run one_disk ((Start 0 ∷ Submit 0 first_command 1 ∷ steps 17) ++ Stop 0 ∷ Start 0 ∷ Submit 0 second_command 1 ∷ steps 34)
+second_submission = run one_disk ((Start 0 ∷ Begin 0 (Submit first_command 1) ∷ steps 17) ++ Stop 0 ∷ Start 0 ∷ Begin 0 (Submit second_command 1) ∷ steps 34)
 
 -- slot 0 is open: the first command was proposed there
 abbrev pub first_open : ℕ → Bool

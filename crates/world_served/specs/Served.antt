@@ -6,8 +6,9 @@ use Rattle.slot_log.specs.Shape.{Shape}
 use Rattle.slot_log.specs.declared.outcome.Refusal.TheVariants as refusal
 use Rattle.host.specs.declared.answer.HostAnswer.{HostAnswer}
 use Rattle.host.specs.declared.answer.HostAnswer.TheVariants.{Ack, Refused}
+use Rattle.host.specs.declared.task.Task.TheVariants.{Submit}
 use Rattle.host.specs.Host.{learned_of, said_of}
-use Rattle.world.specs.Entry.{Filled, Submit, of_host}
+use Rattle.world.specs.Entry.{Filled, Begin, of_host}
 use Rattle.world.specs.Chosen.{at, migrated}
 use Rattle.world_safety.specs.Claims.{IsProposedAt}
 use Rattle.world_served.specs.Alone.{IsAlone, IsAnsweredWell}
@@ -31,7 +32,7 @@ calls_between log i j host = length (of_host host (drop (i + 1) (take j log)))
 
 -- A submission begins at entry i, and its host is left alone and answered from there until place j; the slots that are open are marked.
 pub record IsLeftAlone (c : Shape) (log : List Filled) (i j host tries : ℕ) (command : Command) (marks : ℕ → Bool) : Type 0 where
-  pub submitted : slice_get log i ≡ Some (Submit host command tries)
+  pub submitted : slice_get log i ≡ Some (Begin host (Submit command tries))
   pub order : i < j
   pub alone : IsAlone c log i j host
   pub answered : IsAnsweredWell c log i j host

@@ -10,7 +10,7 @@ use Rattle.lock_command.specs.Reading.{decoded}
 use Rattle.lock_command.specs.declared.reply.Reply.{Reply}
 use Rattle.slot_log.specs.Shape.{Shape}
 use Rattle.host.specs.declared.answer.HostAnswer.TheVariants.{Ack}
-use Rattle.host.specs.Host.{Operation, Submitting, Recovering, Doing, Memory, setup_of, with_heard, with_floor, learns, reply_after, is_submitted, after_learning, takes, by_status}
+use Rattle.host.specs.Host.{Operation, Submitting, Recovering, Attempt, Memory, setup_of, with_heard, with_floor, learns, reply_after, is_submitted, after_learning, takes, by_status}
 use Rattle.host.proofs.Hosts.{decoded_spelled}
 use Rattle.world.specs.Entry.{Filled}
 use Rattle.world.specs.World.{IsRun}
@@ -27,7 +27,7 @@ module _ (c : Shape) (slot : ℕ) (reply : Reply) where
   submitted_is (Submitting command) value is = (command, refl, (bytes_eq-Decides (spelling command) value).0 is)
   submitted_is Recovering value is = absurd (cc)
 
-  module _ (m : Memory) (t : Doing) (b : ℕ) where
+  module _ (m : Memory) (t : Attempt) (b : ℕ) where
     learned_acks : (value : List ℕ) (command : Command) → decoded value ≡ Some command → (own : Bool) → is_submitted t.operation value ≡ own → (after_learning c m t command own).said ≡ Some (Ack slot reply)
         → Acks m t (after_learning c m t command own) slot reply
     learned_acks value command reads false own is =
@@ -59,7 +59,7 @@ module _ (c : Shape) (slot : ℕ) (reply : Reply) where
     status_acks (Ended attempt.BallotsSpent) is = absurd (cc)
 
 -- an acknowledgement goes by what was under way, whatever it had heard
-acks_heard : (m : Memory) (t other : Doing) (new : Memory) (slot : ℕ) (reply : Reply) → other.operation ≡ t.operation → Acks m other new slot reply → Acks m t new slot reply
+acks_heard : (m : Memory) (t other : Attempt) (new : Memory) (slot : ℕ) (reply : Reply) → other.operation ≡ t.operation → Acks m other new slot reply → Acks m t new slot reply
 acks_heard m t other new slot reply same is =
     record { command = is.command; submitting = sym same ∙ is.submitting; read = is.read; reads = is.reads; same = is.same; slot_is = is.slot_is; reply_is = is.reply_is; learned = is.learned }
 
@@ -67,7 +67,7 @@ acks_heard m t other new slot reply same is =
 
 -- an acknowledgement is of the command that was submitted
 pub acks_at : (c : Shape) (log : List Filled) (i h slot : ℕ) (reply : Reply) → IsRun c log → SaysAt c log i h (Ack slot reply) → AcksAt c log i h slot reply
-acks_at c log i h slot reply run says = elim (whence c log i h (Ack slot reply) tt run says).is [
+acks_at c log i h slot reply run says = elim (whence c log i h (Ack slot reply) (λ none. none) run says).is [
   | inl first ↦ absurd (full_acks first.operation (length first.memory.learned) slot reply first.says.0)
   | inr later ↦
       (let call = later.0 in

@@ -11,17 +11,17 @@ use Rattle.attempt.proofs.Statuses.{HasNone, told_by}
 use Rattle.lock_command.specs.declared.command.Command.{Command}
 use Rattle.lock_command.specs.Command.{spelling}
 use Rattle.lock_command.specs.Reading.{decoded}
-use Rattle.beats.specs.Answers as beat_answers
 use Rattle.slot_log.specs.Shape.{Shape}
 use Rattle.slot_log.specs.declared.outcome.Refusal.TheVariants as refusal
 use Rattle.host.specs.declared.answer.HostAnswer.TheVariants.{Recovered, Refused}
-use Rattle.host.specs.Host.{Operation, Submitting, Recovering, Doing, Memory, Host, Stopped, Running, setup_of, says, begins, full_answer, goes_on, with_floor, learns, is_submitted, after_learning, takes, tries_again, by_status, with_heard, hears_from, hears_beside, is_stopped}
-use Rattle.world.specs.Entry.{Filled, Start, Stop, Submit, Recover, Look, Beat, Mark, Called, Torn, Crashed, Lost, Migrated, is_of, started, beats, marks, looks, begins_on, host_step}
+use Rattle.host.specs.declared.task.Task.{Task}
+use Rattle.host.specs.declared.task.Task.TheVariants.{Submit, Recover}
+use Rattle.host.specs.Host.{Operation, Submitting, Recovering, Attempt, Doing, Attempts, Memory, Host, Stopped, Running, setup_of, says, begins, full_answer, goes_on, with_floor, learns, is_submitted, after_learning, takes, tries_again, by_status, with_heard, starts, hears_from, is_stopped}
+use Rattle.world.specs.Entry.{Filled, Start, Stop, Begin, Called, Torn, Crashed, Lost, Migrated, is_of, started, begins_on, host_step}
 use Rattle.world.specs.World.{MayBegin, IsRun}
 use Rattle.world.specs.Chosen.{at, SaysAt, IsCallOf, IsRecovery}
 use Rattle.world_safety.specs.Claims.{AllBegun}
-use Rattle.world_safety.proofs.Moves.Looking.{on_none}
-use Rattle.world_safety.proofs.Moves.Marking.{beside_none, begun_doing}
+use Rattle.world_safety.proofs.Moves.Beside.{IsNoAttempt, starts_none, stays_none}
 use Rattle.world_safety.proofs.Runs.Places.{by_place}
 use Rattle.world_safety.proofs.Runs.Saying.{full_recovers, status_recovers, beginning_of, AtItsBeginning, AtACall, memory_at, heard_at, whence}
 
@@ -29,16 +29,16 @@ use Rattle.world_safety.proofs.Runs.Saying.{full_recovers, status_recovers, begi
 
 -- the operation under way is this one
 abbrev Does : Memory → Operation → Type 0
-Does m operation = (t : Doing) → m.doing ≡ Some t → t.operation ≡ operation
+Does m operation = (t : Attempt) → m.doing ≡ Some (Attempts t) → t.operation ≡ operation
 
 goes_on_does : (c : Shape) (m : Memory) (operation : Operation) (tries : ℕ) → Does (goes_on c m operation tries) operation
 goes_on_does c m operation tries = go (nat_lt (length m.learned) c.slots)
   where
     go : (b : Bool) → Does (if b then begins m operation tries else says m (full_answer operation (length m.learned))) operation
-    go true t is = let same : record { operation = operation; tries = tries; heard = [] } ≡ t = cc in ap (λ (d : Doing). d.operation) (sym same)
+    go true t is = let same : record { operation = operation; tries = tries; heard = [] } ≡ t = cc in ap (λ (d : Attempt). d.operation) (sym same)
     go false t is = absurd (cc)
 
-module _ (c : Shape) (m : Memory) (t : Doing) (b : ℕ) where
+module _ (c : Shape) (m : Memory) (t : Attempt) (b : ℕ) where
   learned_does : (command : Command) (own : Bool) → Does (after_learning c m t command own) t.operation
   learned_does command true d is = absurd (cc)
   learned_does command false d is = goes_on_does c (learns m command) t.operation t.tries d is
@@ -52,10 +52,10 @@ module _ (c : Shape) (m : Memory) (t : Doing) (b : ℕ) where
     where
       go : (last : Bool) → Does (if last then says k (Refused refusal.Outrun) else begins k t.operation (t.tries - 1)) t.operation
       go true d is = absurd (cc)
-      go false d is = let same : record { operation = t.operation; tries = t.tries - 1; heard = [] } ≡ d = cc in ap (λ (x : Doing). x.operation) (sym same)
+      go false d is = let same : record { operation = t.operation; tries = t.tries - 1; heard = [] } ≡ d = cc in ap (λ (x : Attempt). x.operation) (sym same)
 
   status_does : (st : Status) → Does (by_status c m t b st) t.operation
-  status_does (Due p k) d is = let same : t ≡ d = cc in ap (λ (x : Doing). x.operation) (sym same)
+  status_does (Due p k) d is = let same : t ≡ d = cc in ap (λ (x : Attempt). x.operation) (sym same)
   status_does (Ended (attempt.Committed value)) d is = taken_does value (decoded value) d is
   status_does (Ended (attempt.Decided value)) d is = taken_does value (decoded value) d is
   status_does (Ended attempt.Empty) d is = absurd (cc)
@@ -77,18 +77,18 @@ empty_recovers c h m Recovering heard is = refl
 
 -- A RECOVERY UNDER WAY
 
--- behind its Recover entry the host has made device calls alone
+-- behind the entry with which it begins the host has made device calls alone
 record IsRecovering (log : List Filled) (i h : ℕ) : Type 0 where
   place : ℕ
   tries : ℕ
   before : place < i
-  entry : slice_get log place ≡ Some (Recover h tries)
+  entry : slice_get log place ≡ Some (Begin h (Recover tries))
   calls : (k : ℕ) (e : Filled) → place < k → k < i → slice_get log k ≡ Some e → is_of h e ≡ true → IsCallOf h e
 
 -- so has each host that recovers
 abbrev HasBegun : List Filled → ℕ → ℕ → Host → Type 0
 HasBegun log i h Stopped = Unit {0}
-HasBegun log i h (Running m) = (t : Doing) → m.doing ≡ Some t → t.operation ≡ Recovering → IsRecovering log i h
+HasBegun log i h (Running m) = (t : Attempt) → m.doing ≡ Some (Attempts t) → t.operation ≡ Recovering → IsRecovering log i h
 
 module _ (c : Shape) (log : List Filled) (h : ℕ) where
   -- the entries so far, and one more
@@ -119,44 +119,33 @@ module _ (c : Shape) (log : List Filled) (h : ℕ) where
       let same : Called h k call answer left ≡ other = cc in
       record { disk = k; call = call; answer = answer; left = left; is = sym same }
 
-  -- no beat, no marking and no look recovers anything
-  beside_begun : (i : ℕ) (m : Memory) → m.doing ≡ None → (o : Option (List beat_answers.Answered)) (k : ℕ) (answer : Answer) → HasBegun log (suc i) h (Running (hears_beside c h m o k answer))
-  beside_begun i m rests o k answer = λ t does recovers. absurd (let none = beside_none c h m o k answer rests in let both : None ≡ Some t = sym none ∙ does in cc)
-
-  starts_marking_begun : (i slot : ℕ) (host : Host) → HasBegun log (suc i) h (marks host slot)
-  starts_marking_begun i slot Stopped = tt
-  starts_marking_begun i slot (Running m) = λ t does recovers. absurd (let none = begun_doing m slot in let both : None ≡ Some t = sym none ∙ does in cc)
-
-  starts_beat_begun : (i : ℕ) (host : Host) → HasBegun log (suc i) h (beats host)
-  starts_beat_begun i Stopped = tt
-  starts_beat_begun i (Running m) = λ t does recovers. absurd (cc)
+  -- where no attempt is under way, nothing is recovered
+  none_begun : (i : ℕ) (m : Memory) → IsNoAttempt m.doing → HasBegun log (suc i) h (Running m)
+  none_begun i m none = λ t does recovers. absurd (subst IsNoAttempt does none)
 
   hears_begun : (i k : ℕ) (call : Call) (answer : Answer) (left : List ℕ) → slice_get log i ≡ Some (Called h k call answer left) → (m : Memory) (o : Option Doing) → m.doing ≡ o → HasBegun log i h (Running m)
       → HasBegun log (suc i) h (Running (hears_from c h m o k answer))
-  hears_begun i k call answer left is m None does known = beside_begun i m does m.beats.heard k answer
-  hears_begun i k call answer left is m (Some t) does known = λ d now recovers.
+  hears_begun i k call answer left is m (Some (Attempts t)) does known = λ d now recovers.
       let s = setup_of c h m t.operation in
       let x : Answered = record { disk = k; heard = heard_as answer } in
       let same : d.operation ≡ t.operation = status_does c m (with_heard t x) (taken s (on (t.heard ++ x ∷ []))) (status s (on (t.heard ++ x ∷ []))) d now in
       later i (own_call i k call answer left is) (Running m) known t does (sym same ∙ recovers)
+  hears_begun i k call answer left is m other does known = none_begun i (hears_from c h m other k answer) (stays_none c h m other k answer does tt)
 
   called_begun : (i k : ℕ) (call : Call) (answer : Answer) (left : List ℕ) → slice_get log i ≡ Some (Called h k call answer left) → (host : Host) → HasBegun log i h host
       → HasBegun log (suc i) h (host_step c h host (Called h k call answer left))
   called_begun i k call answer left is Stopped known = tt
   called_begun i k call answer left is (Running m) known = hears_begun i k call answer left is m m.doing refl known
 
-  submitted_begun : (i : ℕ) (command : Command) (tries : ℕ) (host : Host) → HasBegun log (suc i) h (begins_on c host (Submitting command) tries)
-  submitted_begun i command tries Stopped = tt
-  submitted_begun i command tries (Running m) = λ t does recovers. absurd (let same = goes_on_does c m (Submitting command) tries t does in cc)
-
-  recovered_begun : (i tries : ℕ) → slice_get log i ≡ Some (Recover h tries) → (host : Host) → HasBegun log (suc i) h (begins_on c host Recovering tries)
-  recovered_begun i tries is Stopped = tt
-  recovered_begun i tries is (Running m) = λ t does recovers.
+  task_begun : (i : ℕ) (task : Task) → slice_get log i ≡ Some (Begin h task) → (m : Memory) → HasBegun log (suc i) h (Running (starts c m task))
+  task_begun i (Submit command tries) is m = λ t does recovers. absurd (let same = goes_on_does c m (Submitting command) tries t does in cc)
+  task_begun i (Recover tries) is m = λ t does recovers.
       record { place = i; tries = tries; before = omega arith; entry = is; calls = λ k e above below found of. absurd (omega arith) }
+  task_begun i other is m = none_begun i (starts c m other) (starts_none c m other tt).0
 
-  looked_begun : (i : ℕ) (host : Host) → HasBegun log (suc i) h (looks c host)
-  looked_begun i Stopped = tt
-  looked_begun i (Running m) = λ t does recovers. absurd (let none = on_none c m 0 in let both : None ≡ Some t = sym none ∙ does in cc)
+  begins_begun : (i : ℕ) (task : Task) → slice_get log i ≡ Some (Begin h task) → (host : Host) → HasBegun log (suc i) h (begins_on c host task)
+  begins_begun i task is Stopped = tt
+  begins_begun i task is (Running m) = task_begun i task is m
 
   started_begun : (i : ℕ) (host : Host) → IsTrue (is_stopped host) → HasBegun log (suc i) h (started host)
   started_begun i Stopped stopped = λ t does recovers. absurd (cc)
@@ -165,11 +154,7 @@ module _ (c : Shape) (log : List Filled) (h : ℕ) where
   step_begun : (i : ℕ) (e : Filled) → slice_get log i ≡ Some e → MayBegin c (at c log i) e → is_of h e ≡ true → HasBegun log i h ((at c log i).host h) → HasBegun log (suc i) h (host_step c h ((at c log i).host h) e)
   step_begun i (Start g) is may of known = started_begun i ((at c log i).host h) (subst (λ (j : ℕ). IsTrue (is_stopped ((at c log i).host j))) (eqb-true g h of) may.1)
   step_begun i (Stop g) is may of known = tt
-  step_begun i (Submit g command tries) is may of known = submitted_begun i command tries ((at c log i).host h)
-  step_begun i (Recover g tries) is may of known = recovered_begun i tries (is ∙ ap (λ (j : ℕ). Some (Recover j tries)) (eqb-true g h of)) ((at c log i).host h)
-  step_begun i (Look g) is may of known = looked_begun i ((at c log i).host h)
-  step_begun i (Beat g) is may of known = starts_beat_begun i ((at c log i).host h)
-  step_begun i (Mark g slot) is may of known = starts_marking_begun i slot ((at c log i).host h)
+  step_begun i (Begin g task) is may of known = begins_begun i task (is ∙ ap (λ (j : ℕ). Some (Begin j task)) (eqb-true g h of)) ((at c log i).host h)
   step_begun i (Called g k call answer left) is may of known = called_begun i k call answer left (is ∙ ap (λ (j : ℕ). Some (Called j k call answer left)) (eqb-true g h of)) ((at c log i).host h) known
   step_begun i (Torn g k call left) is may of known = tt
   step_begun i (Crashed k left) is may of known = absurd (cc)
@@ -194,7 +179,7 @@ module _ (c : Shape) (log : List Filled) (h : ℕ) where
 -- SO IT BEGAN
 
 module _ (c : Shape) (log : List Filled) (run : IsRun c log) (j h n : ℕ) (says : SaysAt c log j h (Recovered n)) where
-  recover_entry : (operation : Operation) (tries : ℕ) → operation ≡ Recovering → slice_get log j ≡ Some (beginning_of h operation tries) → slice_get log j ≡ Some (Recover h tries)
+  recover_entry : (operation : Operation) (tries : ℕ) → operation ≡ Recovering → slice_get log j ≡ Some (beginning_of h operation tries) → slice_get log j ≡ Some (Begin h (Recover tries))
   recover_entry (Submitting command) tries is entry = absurd (cc)
   recover_entry Recovering tries is entry = entry
 
@@ -228,7 +213,7 @@ module _ (c : Shape) (log : List Filled) (run : IsRun c log) (j h n : ℕ) (says
       )
 
 pub all_begun : (c : Shape) (log : List Filled) → IsRun c log → AllBegun c log
-all_begun c log run j h n says = elim (whence c log j h (Recovered n) tt run says).is [
+all_begun c log run j h n says = elim (whence c log j h (Recovered n) (λ none. none) run says).is [
   | inl first ↦ at_once c log run j h n says first
   | inr later ↦ at_a_call c log run j h n says later.0 later.1
 ]

@@ -74,7 +74,7 @@ module _ (c : Shape) (log : List Filled) (run : IsRun c log) (i h : ℕ) where
 
   -- one comes behind a call with which a value is committed, or told
   pub acknowledged : (slot : ℕ) (reply : _) → SaysAt c log i h (Ack slot reply) → IsAcceptedAt c log i h slot ⊎ IsToldOwnAt c log i h slot
-  acknowledged slot reply says = elim (whence c log i h (Ack slot reply) tt run says).is [
+  acknowledged slot reply says = elim (whence c log i h (Ack slot reply) (λ none. none) run says).is [
     | inl first ↦ absurd (full_acks first.operation (length first.memory.learned) slot reply first.says.0)
     | inr later ↦
         (let call = later.0 in
@@ -105,7 +105,7 @@ module _ (c : Shape) (log : List Filled) (run : IsRun c log) (i h : ℕ) where
 
   -- one comes behind a call with which its slot is found empty, or the last slot is learned; or where it begins
   pub recovered : (n : ℕ) → SaysAt c log i h (Recovered n) → IsPreparedAt c log i h ⊎ (((slot : ℕ) × IsToldAt c log i h slot) ⊎ IsFullAt c log i h n)
-  recovered n says = elim (whence c log i h (Recovered n) tt run says).is [
+  recovered n says = elim (whence c log i h (Recovered n) (λ none. none) run says).is [
     | inl first ↦
         (let is = full_recovers first.operation (length first.memory.learned) n first.says.0 in
         inr (inr (full_at first.operation first.tries (length first.memory.learned) n is.0 is.1 first.says.1 first.entry)))

@@ -31,4 +31,4 @@ looks_chosen c log run i s heard d value hears ended =
     let here : look.status own (on all) ≡ look.Ended (look.Decided d value) =
     subst (λ (xs : List Answered). look.status own (on xs) ≡ look.Ended (look.Decided d value)) hears.is_heard (subst (λ (t : look.Setup). look.status t (on heard) ≡ look.Ended (look.Decided d value)) hears.is_setup ended) in
     subst (λ (t : look.Setup). IsChosenBefore c log i t.slot value) (sym hears.is_setup)
-    (looked_at c log run i hears.host hears.disk hears.call hears.answer hears.left hears.entry hears.memory hears.looking d value hears.running hears.looks.looks here)
+    (looked_at c log run i hears.host hears.disk hears.call hears.answer hears.left hears.entry hears.memory hears.looking d value hears.running hears.looks here)

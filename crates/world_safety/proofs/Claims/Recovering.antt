@@ -1,5 +1,5 @@
 -- A recovery that answers has missed nothing that was chosen before it began, nor before the attempt that found its slot empty.
-use Rattle.std.specs.Prelude.{IsTrue, slice_get, map}
+use Rattle.std.specs.Prelude.{IsTrue, is_none, slice_get, map}
 use Rattle.std.proofs.Common.{ℕ, zero, suc, ◌+◌, ◌-◌, ◌<◌, ◌≤◌, ◌≡◌, ◌⊎◌, inl, inr, Bool, true, false, Option, Some, None, List, [], ◌∷◌, ◌++◌, length, append_assoc, refl, sym, subst, ap, ap₂, ◌∙◌, arith}
 use Rattle.std.proofs.Math.Path.{fun_ext}
 use Rattle.std.proofs.lemmas.Bool.{cases_Bool, cases_eq}
@@ -12,8 +12,9 @@ use Rattle.attempt.specs.Setup.{Setup}
 use Rattle.slot_log.specs.Shape.{Shape}
 use Rattle.host.specs.declared.answer.HostAnswer.{HostAnswer}
 use Rattle.host.specs.declared.answer.HostAnswer.TheVariants.{Recovered}
-use Rattle.host.specs.Host.{Doing, Memory, Host, Stopped, Running, setup_of, is_idle_in, idles, said_of}
-use Rattle.world.specs.Entry.{Filled, Recover, is_of, host_step}
+use Rattle.host.specs.declared.task.Task.TheVariants.{Recover}
+use Rattle.host.specs.Host.{Attempt, Doing, Attempts, Memory, Host, Stopped, Running, setup_of, idles, said_of}
+use Rattle.world.specs.Entry.{Filled, Begin, is_of, host_step}
 use Rattle.world.specs.World.{World, IsRun}
 use Rattle.world.specs.Chosen.{at, IsChosenAt, migrated}
 use Rattle.world.proofs.Histories.{starts}
@@ -46,18 +47,18 @@ use Rattle.world_safety.proofs.Runs.Tracks.{moves_at, tied_at, step_at, later_pl
 
 -- a host tries a slot, or not
 tries_in : (w : World) (h n : ℕ) (m : Memory) → w.host h ≡ Running m → (o : Option Doing) → m.doing ≡ o → IsTryingAt w h n ⊎ (IsTryingAt w h n → ⊥)
-tries_in w h n m running None none = inr (λ trying. (
-    let both : Running m ≡ Running trying.memory = sym running ∙ trying.running in
-    let same : m ≡ trying.memory = cc in
-    let some : None ≡ Some trying.doing = sym none ∙ ap (λ (k : Memory). k.doing) same ∙ trying.does in
-    absurd (cc)))
-tries_in w h n m running (Some t) does = elim (cases_eq (length m.learned) n) [
+tries_in w h n m running (Some (Attempts t)) does = elim (cases_eq (length m.learned) n) [
   | inl here ↦ inl (record { memory = m; doing = t; running = running; does = does; is = here })
   | inr other ↦ inr (λ trying. (
       let both : Running m ≡ Running trying.memory = sym running ∙ trying.running in
       let same : m ≡ trying.memory = cc in
       other (ap (λ (k : Memory). length k.learned) same ∙ trying.is)))
 ]
+tries_in w h n m running other does = inr (λ trying. (
+    let both : Running m ≡ Running trying.memory = sym running ∙ trying.running in
+    let same : m ≡ trying.memory = cc in
+    let some : m.doing ≡ Some (Attempts trying.doing) = ap (λ (k : Memory). k.doing) same ∙ trying.does in
+    absurd (cc)))
 
 tries_at : (w : World) (h n : ℕ) (host : Host) → w.host h ≡ host → IsTryingAt w h n ⊎ (IsTryingAt w h n → ⊥)
 tries_at w h n Stopped stopped = inr (λ trying. (let both : Stopped ≡ Running trying.memory = sym stopped ∙ trying.running in absurd (cc)))
@@ -114,11 +115,11 @@ module _ (c : Shape) (log : List Filled) (run : IsRun c log) where
       }
 
   -- a host that begins to recover tries nothing yet
-  pub idle_before : (host : Host) (m : Memory) (t : Doing) → IsTrue (idles host) → host ≡ Running m → m.doing ≡ Some t → ⊥
+  pub idle_before : (host : Host) (m : Memory) (t : Attempt) → IsTrue (idles host) → host ≡ Running m → m.doing ≡ Some (Attempts t) → ⊥
   idle_before Stopped m t idle is does = absurd (cc)
   idle_before (Running n) m t idle is does =
       let same : n ≡ m = cc in
-      let busy : is_idle_in n n.doing ≡ false = ap (is_idle_in n) (ap (λ (k : Memory). k.doing) same ∙ does) in
+      let busy : is_none n.doing ≡ false = ap (λ (o : Option Doing). is_none o) (ap (λ (k : Memory). k.doing) same ∙ does) in
       cc
 
   -- A host does not try slot n at place i.
@@ -270,5 +271,5 @@ module _ (c : Shape) (log : List Filled) (run : IsRun c log) where
   -- a recovery begins where its host tries nothing
   pub misses_nothing : MissesNothing c log
   misses_nothing i j host n slot value is chosen =
-      let idle : IsTrue (idles ((at c log i).host host)) = (each c log i (Recover host is.tries) run is.begins).0 in
+      let idle : IsTrue (idles ((at c log i).host host)) = (each c log i (Begin host (Recover is.tries)) run is.begins).0 in
       empty_shows i j host n slot value (λ trying. absurd (idle_before ((at c log i).host host) trying.memory trying.doing idle trying.running trying.does)) is.order is.says chosen

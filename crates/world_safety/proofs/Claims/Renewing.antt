@@ -1,10 +1,10 @@
 -- A full log is final, and a run that begins with what carries its table over goes on from it.
-use Rattle.std.proofs.Common.{◌≡◌, ◌≤◌, ◌+◌, ℕ, List, ◌++◌, length, take, drop, sym, ap, subst, ◌∙◌}
+use Rattle.std.proofs.Common.{◌≡◌, ◌+◌, ℕ, List, ◌++◌, length, take, drop, sym, ap, subst, ◌∙◌}
 use Rattle.std.proofs.lemmas.List.{take-take, take-append-drop}
 use Rattle.lock_command.specs.declared.command.Command.{Command}
 use Rattle.lock_table.specs.Apply.{applied, table_after}
 use Rattle.lock_table.specs.Carrying.{carried_over, without_clients}
-use Rattle.lock_table.specs.Picture.{Shown, IsPictureOf}
+use Rattle.lock_table.specs.Picture.{IsPictureOf}
 use Rattle.lock_table.proofs.Carrying.{forgotten_later, forgotten_replied, pictured_later, replied_later}
 use Rattle.slot_log.specs.Shape.{Shape}
 use Rattle.world.specs.Entry.{Filled}
@@ -12,7 +12,7 @@ use Rattle.world.specs.World.{IsRun}
 use Rattle.host.specs.declared.answer.HostAnswer.TheVariants.{Recovered}
 use Rattle.world.specs.Chosen.{migrated, SaysAt}
 use Rattle.world.specs.Headline.{HasOneLog, prefix_at}
-use Rattle.world_safety.specs.Renewals.{FullLogsAreFinal, GoesOn, GoesOnWithout, RecoveriesGoOn, RecoveriesGoOnWithout}
+use Rattle.world_safety.specs.Renewals.{FullLogsAreFinal, RecoveriesGoOn, RecoveriesGoOnWithout}
 use Rattle.world_safety.proofs.Claims.Safety.{headline}
 
 pub full_logs_are_final : (c : Shape) (log : List Filled) → IsRun c log → FullLogsAreFinal c log

@@ -11,8 +11,9 @@ use Rattle.lock_table.specs.Apply.{table_after}
 use Rattle.slot_log.specs.Shape.{Shape}
 use Rattle.host.specs.declared.answer.HostAnswer.{HostAnswer}
 use Rattle.host.specs.declared.answer.HostAnswer.TheVariants.{Ack, Recovered, Looked}
-use Rattle.host.specs.Host.{Submitting, Doing, Memory, Host, Stopped, Running, learned_of, reply_after, said_of}
-use Rattle.world.specs.Entry.{Filled, Recover, Migrated}
+use Rattle.host.specs.Host.{Submitting, Attempt, Attempts, Memory, Host, Stopped, Running, learned_of, reply_after, said_of}
+use Rattle.host.specs.declared.task.Task.TheVariants.{Recover}
+use Rattle.world.specs.Entry.{Filled, Begin, Migrated}
 use Rattle.world.specs.World.{IsRun}
 use Rattle.world.specs.Happens.{run as happened, run_after}
 use Rattle.world.specs.Chosen.{at, migrated, IsChosen, IsLog, SaysAt, IsAcknowledgedAt, IsRecovery}
@@ -21,7 +22,7 @@ use Rattle.world.proofs.Runs.{each, run_is_run, run_after_is_run, begins_migrate
 use Rattle.world.proofs.Safe.{one_log, one_begins_other}
 use Rattle.world_safety.specs.Acks.{AcksAt}
 use Rattle.world_safety.specs.Log.{IsLogBefore}
-use Rattle.world_safety.specs.Tracks.{IsChosenBefore, AreChosen, Counts, IsTrue, IsTrueOf}
+use Rattle.world_safety.specs.Tracks.{IsChosenBefore, AreChosen, Counts, IsTrueDoing, IsTrue, IsTrueOf}
 use Rattle.world_safety.proofs.Claims.Acknowledging.{acks_at}
 use Rattle.world_safety.proofs.Runs.Commands.{IsSpelling, AreSpelled, commands_of, one_command, map_there, stands_where, begins_by}
 use Rattle.world_safety.proofs.Runs.Tracks.{all_true}
@@ -98,9 +99,9 @@ module _ (c : Shape) (log : List Filled) (run : IsRun c log) where
 
     same_command : is.acks.command ≡ command
     same_command =
-        let doing : Some acked.doing ≡ Some is.doing = sym acked.does ∙ ap (λ (m : Memory). m.doing) same_memory ∙ is.does in
+        let doing : Some (Attempts acked.doing) ≡ Some (Attempts is.doing) = sym acked.does ∙ ap (λ (m : Memory). m.doing) same_memory ∙ is.does in
         let one_doing : acked.doing ≡ is.doing = cc in
-        let both : Submitting is.acks.command ≡ Submitting command = sym is.acks.submitting ∙ ap (λ (t : Doing). t.operation) (sym one_doing) ∙ acked.submitting in
+        let both : Submitting is.acks.command ≡ Submitting command = sym is.acks.submitting ∙ ap (λ (t : Attempt). t.operation) (sym one_doing) ∙ acked.submitting in
         cc
 
     known : IsTrue c log i host is.memory
@@ -109,7 +110,8 @@ module _ (c : Shape) (log : List Filled) (run : IsRun c log) where
     -- and so what it has learned
     read_is : is.acks.read ≡ command
     read_is =
-        let begun = known.begun is.doing is.does is.acks.command is.acks.submitting in
+        let under_way : IsTrueDoing c log i host (length is.memory.learned) (Some (Attempts is.doing)) = subst (IsTrueDoing c log i host (length is.memory.learned)) is.does known.doing in
+        let begun = under_way.0 is.acks.command is.acks.submitting in
         sym (one_command is.acks.command is.acks.read begun.reads is.acks.reads is.acks.same) ∙ same_command
 
     learned_then : learned_of ((at c log (i + 1)).host host) ≡ is.memory.learned ++ is.acks.read ∷ []
@@ -185,7 +187,7 @@ module _ (c : Shape) (log : List Filled) (run : IsRun c log) where
         let first = begins_migrated log n (spelling found.0) is in
         let behind : 0 < recovery.0 = elim (cases_eq recovery.0 0) [
           | inr other ↦ omega arith
-          | inl zero_is ↦ absurd (let both : Some (Migrated first.disks first.commands) ≡ Some (Recover host recovery.1.tries) = sym first.first ∙ ap (slice_get log) (sym zero_is) ∙ recovery.1.begins in cc)
+          | inl zero_is ↦ absurd (let both : Some (Migrated first.disks first.commands) ≡ Some (Begin host (Recover recovery.1.tries)) = sym first.first ∙ ap (slice_get log) (sym zero_is) ∙ recovery.1.begins in cc)
         ] in
         absurd (let below = misses_nothing c log run recovery.0 i host n n (spelling found.0) recovery.1 (inr (behind, is)) in omega arith))
   ]

@@ -7,31 +7,29 @@ use Rattle.attempt.specs.Answers.{Answered, on, heard_as}
 use Rattle.attempt.specs.Setup.{Setup}
 use Rattle.attempt.specs.Status.{status, taken}
 use Rattle.slot_log.specs.Shape.{Shape}
-use Rattle.host.specs.Host.{Doing, Memory, Host, Stopped, Running, setup_of, by_status, hears_from, next_of}
+use Rattle.host.specs.Host.{Attempt, Doing, Attempts, Memory, Host, Running, setup_of, by_status, hears_from, next_of}
 use Rattle.world.specs.Entry.{Called, Torn, disk_step, host_step}
 use Rattle.world.specs.World.{World, Tears}
 use Rattle.agreement.specs.Event.{Event}
 use Rattle.agreement.specs.Chosen.{IsInput}
 use Rattle.agreement.specs.Log.{events_of_slot, IsHistory}
-use Rattle.agreement.specs.Log.Move.{Restart}
 use Rattle.world_safety.specs.Goes.{IsTryingAt, HostGoes, Carries, DecidesChosen, Goes}
 use Rattle.world_safety.specs.Next.{next_world}
 use Rattle.world_safety.specs.Tied.{Moves, machine, IsTrying, IsDoing, IsRunning, Tied}
 use Rattle.world_safety.proofs.Moves.Hearing.{IsPutIn, IsAnswerHeard, hears}
-use Rattle.world_safety.proofs.Moves.Settling.{IsQuiet}
 use Rattle.world_safety.proofs.Moves.Tearing.{tears_to}
 use Rattle.world_safety.proofs.Moves.Ending.{answered_late}
-use Rattle.world_safety.proofs.Moves.Hosts.{Late, tied_with, but_stops, stops_learned}
+use Rattle.world_safety.proofs.Moves.Hosts.{Late}
 use Rattle.attempt_safety.proofs.Slotting.{events_append}
 use Rattle.world_safety.proofs.Moves.Machines.{input_append}
 use Rattle.world_safety.proofs.Moves.OneBlock.{with_disks}
-use Rattle.world_safety.proofs.Moves.Moving.{carries_later, chosen_later, for_host, late_goes, late_tied, stopped_goes, running_at}
+use Rattle.world_safety.proofs.Moves.Moving.{carries_later, chosen_later, for_host, late_goes, late_tied, stops_within, running_at}
 
 module _ (c : Shape) (w : World) (ms : Moves) (tied : Tied c w ms) where
   -- A DEVICE CALL
 
   module _ (h k : ℕ) (call : Call) (answer : Answer) (left : List ℕ) (next : next_of c h (w.host h) ≡ Some (k, call)) (step : Step (w.disk k) call answer (disk_step (w.disk k) (Called h k call answer left)))
-      (m : Memory) (t : Doing) (running : w.host h ≡ Running m) (does : m.doing ≡ Some t) (decides : DecidesChosen c w ms (Called h k call answer left)) where
+      (m : Memory) (t : Attempt) (running : w.host h ≡ Running m) (does : m.doing ≡ Some (Attempts t)) (decides : DecidesChosen c w ms (Called h k call answer left)) where
     abbrev x : Answered
     x = record { disk = k; heard = heard_as answer }
 
@@ -60,7 +58,7 @@ module _ (c : Shape) (w : World) (ms : Moves) (tied : Tied c w ms) where
     new = by_status c m (record { operation = t.operation; tries = t.tries; heard = heard }) (taken s (on heard)) (status s (on heard))
 
     late : Late c w2 (ms ++ hears_it.early) h (Some (length m.learned)) new
-    late = answered_late c w2 (ms ++ hears_it.early) h m t heard hears_it.tied run.below trying.fits trying.input hears_it.learned hears_it.follows hears_it.knows hears_it.votes trying.alone
+    late = answered_late c w2 (ms ++ hears_it.early) h m t heard hears_it.tied run.below trying.fits trying.input hears_it.learned hears_it.follows hears_it.knows hears_it.votes
         (λ v ended. chosen_later c.disks ms hears_it.early (length m.learned) v hears_it.tied.history (decides.0 m t v running does ended))
 
     now : host_step c h (w.host h) (Called h k call answer left) ≡ Running new
@@ -82,7 +80,7 @@ module _ (c : Shape) (w : World) (ms : Moves) (tied : Tied c w ms) where
     abbrev late_moves : Moves
     late_moves = ms ++ (hears_it.early ++ late.late)
 
-    abbrev CarriesAs : Memory → Doing → Type 0
+    abbrev CarriesAs : Memory → Attempt → Type 0
     CarriesAs m' t' = Carries (machine late_moves (length m'.learned)) (setup_of c h m' t'.operation) (on (t'.heard ++ x ∷ []))
 
     carries_here : CarriesAs m t
@@ -91,11 +89,11 @@ module _ (c : Shape) (w : World) (ms : Moves) (tied : Tied c w ms) where
         subst (λ (l : Moves). Carries (machine l (length m.learned)) s (on heard)) regroup
         (carries_later s (on heard) (ms ++ hears_it.early) late.late (length m.learned) (subst (λ (l : Moves). IsHistory c.disks l) (sym regroup) called_tied.history) hears_it.carries)
 
-    called_carries : (m' : Memory) (t' : Doing) → w.host h ≡ Running m' → m'.doing ≡ Some t' → CarriesAs m' t'
+    called_carries : (m' : Memory) (t' : Attempt) → w.host h ≡ Running m' → m'.doing ≡ Some (Attempts t') → CarriesAs m' t'
     called_carries m' t' is does' =
         let both : Running m' ≡ Running m = sym is ∙ running in
         let same : m' ≡ m = cc in
-        let ones : Some t' ≡ Some t = sym does' ∙ ap (λ (k : Memory). k.doing) same ∙ does in
+        let ones : Some (Attempts t') ≡ Some (Attempts t) = sym does' ∙ ap (λ (k : Memory). k.doing) same ∙ does in
         let one : t' ≡ t = cc in
         subst (λ (q : Memory). CarriesAs q t') (sym same) (subst (CarriesAs m) (sym one) carries_here)
 
@@ -116,29 +114,11 @@ module _ (c : Shape) (w : World) (ms : Moves) (tied : Tied c w ms) where
   -- A TORN WRITE: its host stops within it
 
   module _ (h k : ℕ) (call : Call) (left : List ℕ) (next : next_of c h (w.host h) ≡ Some (k, call)) (step : Step (w.disk k) call (Fault Failed) (disk_step (w.disk k) (Called h k call (Fault Failed) left)))
-      (m : Memory) (t : Doing) (running : w.host h ≡ Running m) (does : m.doing ≡ Some t) where
-    torn_input : (early : Moves) → IsQuiet early → (j : ℕ) (v : List ℕ) → IsInput (events_of_slot j (early ++ Restart h ∷ [])) v → ⊥
-    torn_input early quiet j v input =
-        elim (input_append (events_of_slot j early) (events_of_slot j (Restart h ∷ [])) v (subst (λ (es : List (Event (List ℕ))). IsInput es v) (events_append j early (Restart h ∷ [])) input)) [
-          | inl before ↦ quiet j v before
-          | inr later ↦ elim later [ inl puts ↦ puts | inr rest ↦ rest ]
-        ]
-
+      (m : Memory) (t : Attempt) (running : w.host h ≡ Running m) (does : m.doing ≡ Some (Attempts t)) where
     pub torn_goes : Goes c w (Torn h k call left) ms
     torn_goes =
         let it = tears_to c w ms h k call (Fault Failed) left m t (record { tied = tied; running = running; does = does; next = next; step = step }) (λ row is. absurd (cc)) in
-        let disks = (λ (d : ℕ). cond (k == d) (disk_step (w.disk d) (Torn h k call left)) (w.disk d)) in
-        let w2 = with_disks w disks in
-        let regroup = append_assoc ms it.early (Restart h ∷ []) in
-        record {
-          more = it.early ++ Restart h ∷ [];
-          tied = subst (λ (l : Moves). Tied c (next_world c w (Torn h k call left)) l) regroup
-              (tied_with c w2 ((ms ++ it.early) ++ Restart h ∷ []) h (λ g. Stopped) (but_stops c w2 (ms ++ it.early) h it.tied) (stops_learned c w2 (ms ++ it.early) h it.tied));
-          inputs = λ j v input. absurd (torn_input it.early it.quiet j v input);
-          host = λ g of. for_host (λ i. HostGoes c w (Torn h k call left) ms (it.early ++ Restart h ∷ []) i) h g of (stopped_goes c w (Torn h k call left) ms (it.early ++ Restart h ∷ []) h refl);
-          carries = tt;
-          marks = it.marks;
-        }
+        stops_within c w ms h k call left it.early it.quiet it.tied it.marks
 
   pub tears : (h k : ℕ) (call : Call) (left : List ℕ) → Tears call (w.disk k) (disk_step (w.disk k) (Torn h k call left)) → Step (w.disk k) call (Fault Failed) (disk_step (w.disk k) (Called h k call (Fault Failed) left))
   tears h k Attach left is = absurd is

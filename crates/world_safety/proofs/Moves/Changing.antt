@@ -14,7 +14,7 @@ use Rattle.attempt.specs.NextCall.{says_for, call_by}
 use Rattle.attempt.proofs.Histories.{behind_due}
 use Rattle.attempt.proofs.Lists.{by_eq}
 use Rattle.slot_log.specs.Shape.{Shape}
-use Rattle.host.specs.Host.{Doing, Memory, setup_of}
+use Rattle.host.specs.Host.{Attempt, Memory, setup_of}
 use Rattle.world.specs.Entry.{Filled, Called, disk_step}
 use Rattle.world.specs.World.{World}
 use Rattle.agreement.specs.State.{Cell, start as beginning}
@@ -43,7 +43,7 @@ use Rattle.world_safety.proofs.Blocks.Putting.{CanBegin, own_after}
 use Rattle.world_safety.proofs.Blocks.Adding.{own_says}
 use Rattle.world_safety.proofs.Moves.Moving.{marks_by}
 
-module _ (c : Shape) (w : World) (ms : Moves) (h k : ℕ) (call : Call) (answer : Answer) (left : List ℕ) (m : Memory) (t : Doing) (now : IsCall c w ms h k call answer left m t) (known : Due c w ms h k call answer left m t now) where
+module _ (c : Shape) (w : World) (ms : Moves) (h k : ℕ) (call : Call) (answer : Answer) (left : List ℕ) (m : Memory) (t : Attempt) (now : IsCall c w ms h k call answer left m t) (known : Due c w ms h k call answer left m t now) where
   open now use {tied}
   open known use {run, trying, is, step_by, due_at, reached, waiting, phase_is, may, inside, image, image_then}
 

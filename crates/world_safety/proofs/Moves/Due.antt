@@ -1,6 +1,6 @@
 -- What is known of a device call that is answered: of its host, of the attempt, and of the disk.
 use Rattle.std.specs.Prelude.{take, drop, ◌-◌}
-use Rattle.std.proofs.Common.{ℕ, ◌+◌, ◌≡◌, ◌⊎◌, inl, inr, Option, Some, None, List, length, refl, sym, subst, ap, ◌∙◌, arith}
+use Rattle.std.proofs.Common.{ℕ, ◌+◌, ◌≡◌, Option, Some, None, List, length, refl, sym, subst, ap, ◌∙◌, arith}
 use Rattle.std.proofs.Common.{length-drop}
 use Rattle.std.proofs.lemmas.List.{length-take-le}
 use Rattle.disk.specs.Disk.{DiskState, Call, Answer, Step}
@@ -21,14 +21,9 @@ use Rattle.attempt.proofs.Histories.{IsReached, history_reached, visit}
 use Rattle.attempt.proofs.Replies.{IsAnswer, answer_is, next_is}
 use Rattle.attempt.proofs.Statuses.{IsDueAt, due_is}
 use Rattle.attempt.proofs.Visitors.{IsWaiting, waiting_is}
-use Rattle.beats.specs.Answers as beat_answers
-use Rattle.beats.specs.Status as beat
 use Rattle.slot_log.specs.Shape.{Shape}
-use Rattle.host.specs.Host.{Doing, Memory, Host, Stopped, Running, setup_of, beat_of, Marking, Looking, marking_of, look_of, next_look, next_marking, next_beside, next_doing, next_of}
-use Rattle.marks.specs.Status as mark
-use Rattle.looks.specs.Status as look
+use Rattle.host.specs.Host.{Attempt, Doing, Attempts, Memory, Host, Stopped, Running, setup_of, next_doing, next_of}
 use Rattle.world.specs.Entry.{Called, disk_step}
-use Rattle.world.specs.Looks.{IsLooking}
 use Rattle.world.specs.World.{World}
 use Rattle.world.proofs.Enduring.{step_fits}
 use Rattle.agreement.specs.State.{put}
@@ -42,73 +37,31 @@ use Rattle.world_safety.proofs.Blocks.Within.{within, may_write}
 
 -- WHO HAS A CALL TO MAKE
 
--- it is running, and tries a slot
-pub record Attempts (host : Host) : Type 0 where
+-- The host is running, and has this under way, of which the call is next.
+pub record IsBusyWith (c : Shape) (h k : ℕ) (call : Call) (host : Host) (doing : Doing) : Type 0 where
   pub memory : Memory
-  pub doing : Doing
   pub running : host ≡ Running memory
   pub does : memory.doing ≡ Some doing
+  pub due : next_doing c h memory (Some doing) ≡ Some (k, call)
 
--- or tries none, but beats, and this call is next of the beat
-pub record IsBeatCall (c : Shape) (h k : ℕ) (call : Call) (host : Host) : Type 0 where
-  pub memory : Memory
-  pub running : host ≡ Running memory
-  pub rests : memory.doing ≡ None
-  pub heard : List beat_answers.Answered
-  pub beats : memory.beats.heard ≡ Some heard
-  pub due : beat.next_call (beat_of c h) (beat_answers.on heard) ≡ Some (k, call)
-
--- or neither, but marks a slot, and this call is next of the marking
-pub record IsMarkCall (c : Shape) (h k : ℕ) (call : Call) (host : Host) : Type 0 where
-  pub memory : Memory
-  pub running : host ≡ Running memory
-  pub rests : memory.doing ≡ None
-  pub beats : memory.beats.heard ≡ None
-  pub marking : Marking
-  pub marks : memory.marking ≡ Some marking
-  pub due : mark.next_call (marking_of c h memory marking.slot) (on marking.heard) ≡ Some (k, call)
-
--- or none of these, but looks, and this call is next of the look
-pub record IsLookCall (c : Shape) (k : ℕ) (call : Call) (host : Host) : Type 0 where
-  pub memory : Memory
-  pub running : host ≡ Running memory
-  pub looking : Looking
-  pub looks : IsLooking memory looking
-  pub due : look.next_call (look_of c memory looking.first) (on looking.heard) ≡ Some (k, call)
-
--- one of the four
-abbrev pub IsAtWork : Shape → (h k : ℕ) → Call → Host → Type 0
-IsAtWork c h k call host = Attempts host ⊎ (IsBeatCall c h k call host ⊎ (IsMarkCall c h k call host ⊎ IsLookCall c k call host))
-
-pub busy : (c : Shape) (h k : ℕ) (call : Call) (host : Host) → next_of c h host ≡ Some (k, call) → IsAtWork c h k call host
+-- so is each host that has a call to make
+pub busy : (c : Shape) (h k : ℕ) (call : Call) (host : Host) → next_of c h host ≡ Some (k, call) → (doing : Doing) × IsBusyWith c h k call host doing
 busy c h k call Stopped next = absurd (cc)
 busy c h k call (Running m) next = go m.doing refl next
   where
-    looks_by : (o : Option Looking) → m.doing ≡ None → m.beats.heard ≡ None → m.marking ≡ None → m.looking ≡ o → next_look c m o ≡ Some (k, call) → IsLookCall c k call (Running m)
-    looks_by None none calm unmarked looks due = absurd (cc)
-    looks_by (Some t) none calm unmarked looks due = record { memory = m; running = refl; looking = t; looks = record { tries = none; beats = calm; marks = unmarked; looks = looks }; due = due }
-
-    marks_by : (o : Option Marking) → m.doing ≡ None → m.beats.heard ≡ None → m.marking ≡ o → next_marking c h m o ≡ Some (k, call) → IsMarkCall c h k call (Running m) ⊎ IsLookCall c k call (Running m)
-    marks_by None none calm marks due = inr (looks_by m.looking none calm marks refl due)
-    marks_by (Some t) none calm marks due = inl (record { memory = m; running = refl; rests = none; beats = calm; marking = t; marks = marks; due = due })
-
-    beside : (o : Option (List beat_answers.Answered)) → m.doing ≡ None → m.beats.heard ≡ o → next_beside c h m o ≡ Some (k, call) → IsBeatCall c h k call (Running m) ⊎ (IsMarkCall c h k call (Running m) ⊎ IsLookCall c k call (Running m))
-    beside None none beats due = inr (marks_by m.marking none beats refl due)
-    beside (Some heard) none beats due = inl (record { memory = m; running = refl; rests = none; heard = heard; beats = beats; due = due })
-
-    go : (o : Option Doing) → m.doing ≡ o → next_doing c h m o ≡ Some (k, call) → IsAtWork c h k call (Running m)
-    go None does due = inr (beside m.beats.heard does refl due)
-    go (Some t) does due = inl (record { memory = m; doing = t; running = refl; does = does })
+    go : (o : Option Doing) → m.doing ≡ o → next_doing c h m o ≡ Some (k, call) → (doing : Doing) × IsBusyWith c h k call (Running m) doing
+    go None does due = absurd (cc)
+    go (Some doing) does due = (doing, record { memory = m; running = refl; does = does; due = due })
 
 -- A device call of a host that tries a slot is its next, and with the answer the disk makes a step.
-pub record IsCall (c : Shape) (w : World) (ms : Moves) (h k : ℕ) (call : Call) (answer : Answer) (left : List ℕ) (m : Memory) (t : Doing) : Type 0 where
+pub record IsCall (c : Shape) (w : World) (ms : Moves) (h k : ℕ) (call : Call) (answer : Answer) (left : List ℕ) (m : Memory) (t : Attempt) : Type 0 where
   pub tied : Tied c w ms
   pub running : w.host h ≡ Running m
-  pub does : m.doing ≡ Some t
+  pub does : m.doing ≡ Some (Attempts t)
   pub next : next_of c h (w.host h) ≡ Some (k, call)
   pub step : Step (w.disk k) call answer (disk_step (w.disk k) (Called h k call answer left))
 
-module _ (c : Shape) (w : World) (ms : Moves) (h k : ℕ) (call : Call) (answer : Answer) (left : List ℕ) (m : Memory) (t : Doing) (now : IsCall c w ms h k call answer left m t) where
+module _ (c : Shape) (w : World) (ms : Moves) (h k : ℕ) (call : Call) (answer : Answer) (left : List ℕ) (m : Memory) (t : Attempt) (now : IsCall c w ms h k call answer left m t) where
   open now use {tied, running, does, next, step}
 
   abbrev s : Setup

@@ -12,7 +12,7 @@ use Rattle.attempt.specs.Setup.{Setup}
 use Rattle.attempt.proofs.More.{on_more, by_disk}
 use Rattle.lock_command.specs.Command.{spelling}
 use Rattle.slot_log.specs.Shape.{Shape}
-use Rattle.host.specs.Host.{Doing, Memory, setup_of}
+use Rattle.host.specs.Host.{Attempt, Memory, setup_of}
 use Rattle.world.specs.Entry.{Filled, Called, disk_step}
 use Rattle.world.specs.World.{World}
 use Rattle.agreement.specs.Event.{Event, state_after}
@@ -44,7 +44,7 @@ pub record IsPutIn (s : Setup) (heard : List Answered) (j : ℕ) (v : List ℕ) 
   pub proposes : Proposes s (on heard) v
 
 -- The attempt has heard the answer: the machines have come to where hosts and disks stand, but for what the host does next.
-pub record IsAnswerHeard (c : Shape) (w w' : World) (ms : Moves) (h : ℕ) (m : Memory) (t : Doing) (heard : List Answered) : Type 0 where
+pub record IsAnswerHeard (c : Shape) (w w' : World) (ms : Moves) (h : ℕ) (m : Memory) (t : Attempt) (heard : List Answered) : Type 0 where
   pub early : Moves
   pub tied : TiedBut c w' (ms ++ early) h
   pub learned : (slots_after (ms ++ early)).learned h ≡ map spelling m.learned
@@ -55,7 +55,7 @@ pub record IsAnswerHeard (c : Shape) (w w' : World) (ms : Moves) (h : ℕ) (m : 
   pub carries : Carries (machine (ms ++ early) (length m.learned)) (setup_of c h m t.operation) (on heard)
   pub marks : KeepsMarks c w w'
 
-module _ (c : Shape) (w : World) (ms : Moves) (h k : ℕ) (call : Call) (answer : Answer) (left : List ℕ) (m : Memory) (t : Doing) (now : IsCall c w ms h k call answer left m t) (known : Due c w ms h k call answer left m t now) where
+module _ (c : Shape) (w : World) (ms : Moves) (h k : ℕ) (call : Call) (answer : Answer) (left : List ℕ) (m : Memory) (t : Attempt) (now : IsCall c w ms h k call answer left m t) (known : Due c w ms h k call answer left m t now) where
   open now use {tied, step}
   open known use {run, trying, answered, is, step_by, due_at, reached, waiting, phase_is, may, inside, image, image_then, shows}
 
@@ -146,7 +146,7 @@ module _ (c : Shape) (w : World) (ms : Moves) (h k : ℕ) (call : Call) (answer 
         }
 
 -- each answer is a few events of the attempt
-pub hears : (c : Shape) (w : World) (ms : Moves) (h k : ℕ) (call : Call) (answer : Answer) (left : List ℕ) (m : Memory) (t : Doing) → IsCall c w ms h k call answer left m t
+pub hears : (c : Shape) (w : World) (ms : Moves) (h k : ℕ) (call : Call) (answer : Answer) (left : List ℕ) (m : Memory) (t : Attempt) → IsCall c w ms h k call answer left m t
     → IsAnswerHeard c w (with_disks w (λ d. cond (k == d) (disk_step (w.disk d) (Called h k call answer left)) (w.disk d))) ms h m t (t.heard ++ record { disk = k; heard = heard_as answer } ∷ [])
 hears c w ms h k call answer left m t now =
     let known = due_of c w ms h k call answer left m t now in

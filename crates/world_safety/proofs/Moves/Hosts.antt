@@ -15,7 +15,7 @@ use Rattle.slot_log.specs.Shape.{Shape}
 use Rattle.host.specs.declared.answer.HostAnswer.{HostAnswer}
 use Rattle.host.specs.declared.answer.HostAnswer.TheVariants.{Recovered}
 use Rattle.marks.specs.Status as mark
-use Rattle.host.specs.Host.{Marking, marking_of, Operation, Doing, Memory, Host, Stopped, Running, input_of, setup_of, says, begins, full_answer, goes_on}
+use Rattle.host.specs.Host.{Operation, Attempt, Doing, Attempts, Marks, Memory, Host, Stopped, Running, marking_of, input_of, setup_of, says, begins, full_answer, goes_on}
 use Rattle.world.specs.World.{World}
 use Rattle.agreement.specs.Event.{Event, after, state_after}
 use Rattle.agreement.specs.Event.Event.{Starts, Stops}
@@ -32,11 +32,12 @@ use Rattle.attempt_safety.proofs.Leaving.{follows_same, by_stopping, by_starting
 use Rattle.attempt_safety.proofs.Slotting.{events_here, learned_same}
 use Rattle.world_safety.specs.Goes.{Has}
 use Rattle.world_safety.specs.Knows.{Knows, KnowsFor}
-use Rattle.world_safety.specs.Marking.{KnowsMark, IsMarkingIf}
+use Rattle.world_safety.specs.Marking.{KnowsMark}
 use Rattle.world_safety.specs.Next.{with_host}
 use Rattle.world_safety.specs.Tied.{Moves, machine, IsTrying, IsDoing, IsRunning, HostAt, TiedBut, Tied}
 use Rattle.attempt.specs.Votes.{IsLong}
 use Rattle.world_safety.proofs.Blocks.Keeping.{spares_same, knows_spared}
+use Rattle.world_safety.proofs.Moves.Beside.{IsNoAttempt, SaysNoneOfLog, TriesNone}
 use Rattle.world_safety.proofs.Moves.Machines.{machine_is, machine_here, machine_there, machine_learn, machine_restart, history_more, learned_more}
 use Rattle.world_safety.proofs.Blocks.Standing.{stands_same}
 use Rattle.attempt.proofs.Votes.{votes_none}
@@ -58,23 +59,19 @@ KeepsKnown c w w' ms ms' g =
 abbrev pub KeepsMarking : Shape → World → World → ℕ → Type 0
 KeepsMarking c w w' g = (s : mark.Setup) (a : List Heard) (d : ℕ) → s.host ≡ g → s.slot < c.slots → g < HOSTS → KnowsMark (w.disk d) s a → KnowsMark (w'.disk d) s a
 
-pub marking_kept : (c : Shape) (w w' : World) (g : ℕ) → KeepsMarking c w w' g → (m : Memory) → g < HOSTS → (o : Option Marking) → IsMarkingIf c w g m o → IsMarkingIf c w' g m o
-marking_kept c w w' g keeps m below None is = tt
-marking_kept c w w' g keeps m below (Some t) is =
-    record { learned = is.learned; fits = is.fits; knows = λ d. keeps (marking_of c g m t.slot) (on t.heard d) d refl is.fits below (is.knows d); votes = is.votes }
-
 module _ (c : Shape) (w w' : World) (ms ms' : Moves) (g : ℕ) (same : SameHosts ms ms' g) (learned : (slots_after ms').learned g ≡ (slots_after ms).learned g) (keeps : KeepsKnown c w w' ms ms' g) (marking : KeepsMarking c w w' g) where
   doing_kept : (m : Memory) → g < HOSTS → (o : Option Doing) → IsDoing c w ms g m o → IsDoing c w' ms' g m o
-  doing_kept m below None is = marking_kept c w w' g marking m below m.marking is
-  doing_kept m below (Some t) is =
+  doing_kept m below (Some (Attempts t)) is =
       record {
         fits = is.fits;
         follows = follows_same (setup_of c g m t.operation) (machine ms (length m.learned)) (machine ms' (length m.learned)) (same (length m.learned)) t.heard is.follows;
         knows = λ d. keeps m t.operation (on t.heard) d is.fits below (is.knows d);
         votes = is.votes;
         input = is.input;
-        alone = is.alone;
       }
+  doing_kept m below (Some (Marks t)) is =
+      record { learned = is.learned; fits = is.fits; knows = λ d. marking (marking_of c g m t.slot) (on t.heard d) d refl is.fits below (is.knows d); votes = is.votes }
+  doing_kept m below other is = tt
 
   pub host_kept : (host : Host) → HostAt c w ms g host → HostAt c w' ms' g host
   host_kept Stopped is = learned ∙ is
@@ -134,9 +131,9 @@ module _ (c : Shape) (w : World) (ms : Moves) (h n : ℕ) where
 first_kind : (kind : Kind) (P : Kind → Type 0) → Some Attaching ≡ Some kind → P Attaching → P kind
 first_kind kind P is p = let same : Attaching ≡ kind = cc in subst P same p
 
-pub begins_trying : (c : Shape) (w : World) (ms : Moves) (h : ℕ) (m : Memory) (operation : Operation) (tries : ℕ) → length m.learned < c.slots → IsLong (input_of operation) → m.marking ≡ None
+pub begins_trying : (c : Shape) (w : World) (ms : Moves) (h : ℕ) (m : Memory) (operation : Operation) (tries : ℕ) → length m.learned < c.slots → IsLong (input_of operation)
     → IsTrying c w (ms ++ At (length m.learned) (Starts h) ∷ []) h (begins m operation tries) (record { operation = operation; tries = tries; heard = [] })
-begins_trying c w ms h m operation tries fits long alone =
+begins_trying c w ms h m operation tries fits long =
     let s = setup_of c h m operation in
     record {
       fits = fits;
@@ -144,7 +141,6 @@ begins_trying c w ms h m operation tries fits long alone =
       knows = λ d. record { boot = omega arith; next = λ current kind is. first_kind kind (λ k. KnowsFor k (w.disk d) s (on []) d ((machine (ms ++ At (length m.learned) (Starts h) ∷ []) (length m.learned)).cell h d)) is tt };
       votes = λ d. votes_none cluster_version;
       input = long;
-      alone = alone;
     }
 
 -- WHAT A HOST'S MOVES ARE
@@ -161,27 +157,35 @@ pub record Late (c : Shape) (w : World) (ms : Moves) (h : ℕ) (trying : Option 
   pub tied : TiedBut c w (ms ++ late) h
   pub running : IsRunning c w (ms ++ late) h m
   pub quiet : (k : ℕ) (v : List ℕ) → IsInput (events_of_slot k late) v → ⊥
-  pub begun : (t : Doing) → m.doing ≡ Some t → (trying ≡ Some (length m.learned)) ⊎ Has late (At (length m.learned) (Starts h))
+  pub begun : (t : Attempt) → m.doing ≡ Some (Attempts t) → (trying ≡ Some (length m.learned)) ⊎ Has late (At (length m.learned) (Starts h))
   pub empty : (n : ℕ) → m.said ≡ Some (Recovered n) → (c.slots ≤ length m.learned) ⊎ FoundEmpty c (ms ++ late) h trying (length m.learned)
 
-module _ (c : Shape) (w : World) (ms : Moves) (h : ℕ) (m : Memory) (tied : TiedBut c w ms h) (below : h < HOSTS) (learned : (slots_after ms).learned h ≡ map spelling m.learned) (alone : m.marking ≡ None) (trying : Option ℕ) where
-  -- it marks nothing
-  rests_then : (said : HostAnswer) (floor : ℕ) → IsMarkingIf c w h (record { learned = m.learned; floor = floor; doing = None; said = Some said; beats = m.beats; marking = m.marking; looking = m.looking }) m.marking
-  rests_then said floor = subst (IsMarkingIf c w h (record { learned = m.learned; floor = floor; doing = None; said = Some said; beats = m.beats; marking = m.marking; looking = m.looking })) (sym alone) tt
+-- by none, where it goes on with its attempt, or tries none
+pub stays_late : (c : Shape) (w : World) (ms : Moves) (h : ℕ) (trying : Option ℕ) (m : Memory) → TiedBut c w ms h → IsRunning c w ms h m → ((t : Attempt) → m.doing ≡ Some (Attempts t) → trying ≡ Some (length m.learned))
+    → ((n : ℕ) → m.said ≡ Some (Recovered n) → (c.slots ≤ length m.learned) ⊎ FoundEmpty c ms h trying (length m.learned)) → Late c w ms h trying m
+stays_late c w ms h trying m tied running begun empty =
+    let none = sym (append-nil ms) in
+    record {
+      late = [];
+      tied = subst (λ (l : Moves). TiedBut c w l h) none tied;
+      running = subst (λ (l : Moves). IsRunning c w l h m) none running;
+      quiet = λ k v input. input;
+      begun = λ t does. inl (begun t does);
+      empty = λ n is. subst (λ (l : Moves). (c.slots ≤ length m.learned) ⊎ FoundEmpty c l h trying (length m.learned)) none (empty n is);
+    }
 
+pub rests_late : (c : Shape) (w : World) (ms : Moves) (h : ℕ) (trying : Option ℕ) (m : Memory) → TiedBut c w ms h → IsRunning c w ms h m → TriesNone m → Late c w ms h trying m
+rests_late c w ms h trying m tied running none =
+    stays_late c w ms h trying m tied running (λ t does. absurd (subst IsNoAttempt does none.0)) (λ n is. absurd (subst SaysNoneOfLog is none.1))
+
+module _ (c : Shape) (w : World) (ms : Moves) (h : ℕ) (m : Memory) (tied : TiedBut c w ms h) (below : h < HOSTS) (learned : (slots_after ms).learned h ≡ map spelling m.learned) (trying : Option ℕ) where
   -- it says something, and is idle
   pub says_late : (said : HostAnswer) (floor : ℕ) → ((n : ℕ) → said ≡ Recovered n → (c.slots ≤ length m.learned) ⊎ FoundEmpty c ms h trying (length m.learned))
-      → Late c w ms h trying (record { learned = m.learned; floor = floor; doing = None; said = Some said; beats = m.beats; marking = m.marking; looking = m.looking })
+      → Late c w ms h trying (record { learned = m.learned; floor = floor; doing = None; said = Some said; readings = m.readings })
   says_late said floor empty =
-      let none = sym (append-nil ms) in
-      record {
-        late = [];
-        tied = subst (λ (l : Moves). TiedBut c w l h) none tied;
-        running = subst (λ (l : Moves). IsRunning c w l h (record { learned = m.learned; floor = floor; doing = None; said = Some said; beats = m.beats; marking = m.marking; looking = m.looking })) none (record { below = below; learned = learned; doing = rests_then said floor });
-        quiet = λ k v input. input;
-        begun = λ t is. absurd (cc);
-        empty = λ n is. subst (λ (l : Moves). (c.slots ≤ length m.learned) ⊎ FoundEmpty c l h trying (length m.learned)) none (empty n (let same : said ≡ Recovered n = cc in same));
-      }
+      stays_late c w ms h trying (record { learned = m.learned; floor = floor; doing = None; said = Some said; readings = m.readings }) tied (record { below = below; learned = learned; doing = tt })
+      (λ t is. absurd (cc))
+      (λ n is. empty n (let same : said ≡ Recovered n = cc in same))
 
   no_input : (n k : ℕ) (v : List ℕ) → IsInput (events_of_slot k (At n (Starts h) ∷ [])) v → ⊥
   no_input n k v = go (k == n)
@@ -199,7 +203,7 @@ module _ (c : Shape) (w : World) (ms : Moves) (h : ℕ) (m : Memory) (tied : Tie
         running = record {
           below = below;
           learned = ap (λ (l : ℕ → List (List ℕ)). l h) (learned_same (length m.learned) ms (Starts h ∷ [])) ∙ learned;
-          doing = begins_trying c w ms h m operation tries fits long alone;
+          doing = begins_trying c w ms h m operation tries fits long;
         };
         quiet = no_input (length m.learned);
         begun = λ t is. inr ([], [], refl);

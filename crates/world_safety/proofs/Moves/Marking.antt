@@ -1,7 +1,7 @@
--- A marking: it begins with no move, and none is made by its calls, since each says again what the host's own block said.
-use Rattle.std.specs.Prelude.{IsTrue, nat_lt, nat_le, slice_get, take, drop, ◌-◌, if◌then◌else◌}
+-- A marking: no move is made by its calls, since each says again what the host's own block said.
+use Rattle.std.specs.Prelude.{nat_lt, nat_le, slice_get, take, drop, ◌-◌, if◌then◌else◌}
 use Rattle.std.specs.Option.{option_map}
-use Rattle.std.proofs.Common.{ℕ, zero, suc, ◌+◌, ◌<◌, ◌≤◌, ◌≡◌, ◌≢◌, ◌==◌, ◌&&◌, ◌⊎◌, inl, inr, Bool, true, false, not, cond, Option, Some, None, List, [], ◌∷◌, ◌++◌, length, append-nil, refl, sym, subst, ap, ◌∙◌, arith}
+use Rattle.std.proofs.Common.{ℕ, zero, suc, ◌+◌, ◌<◌, ◌≤◌, ◌≡◌, ◌≢◌, ◌==◌, ◌&&◌, ◌⊎◌, inl, inr, Bool, true, false, not, cond, Option, Some, None, List, [], ◌∷◌, ◌++◌, length, refl, sym, subst, ap, ◌∙◌, arith}
 use Rattle.std.proofs.lemmas.Bool.{and_parts, ltb-true, eq-eqb}
 use Rattle.disk.specs.declared.fault.DiskFault.TheVariants.{Failed}
 use Rattle.disk.specs.Disk.{DiskState, Call, Answer, Fault, Step}
@@ -28,7 +28,6 @@ use Rattle.attempt.proofs.Firsts.{some_below}
 use Rattle.attempt.proofs.Lists.{by_eq}
 use Rattle.attempt.proofs.More.{on_more, by_disk}
 use Rattle.attempt.specs.Answers as answers
-use Rattle.beats.specs.Answers as beat_answers
 use Rattle.std.proofs.Common.{length-drop}
 use Rattle.std.proofs.lemmas.List.{length-take-le}
 use Rattle.world_safety.proofs.Blocks.Owning.{row_told}
@@ -36,27 +35,25 @@ use Rattle.lock_command.specs.declared.command.Command.{Command}
 use Rattle.marks.specs.Status as mark
 use Rattle.slot_log.specs.Shape.{Shape}
 use Rattle.slot_log.specs.declared.outcome.Refusal.TheVariants as refusal
-use Rattle.host.specs.declared.answer.HostAnswer.TheVariants.{Recovered, Refused}
-use Rattle.host.specs.Host.{Doing, Marking, Memory, Host, Stopped, Running, idles, hears_from, hears_beside, hears_apart, hears_marking, marking_by, marking_with, marking_of, starts_marking, with_marking, spelled}
-use Rattle.world.specs.Entry.{Filled, Mark, Called, Torn, disk_step, host_step, marks}
+use Rattle.host.specs.declared.answer.HostAnswer.TheVariants.{Refused}
+use Rattle.host.specs.declared.task.Task.TheVariants.{Mark}
+use Rattle.host.specs.Host.{Marking, Marks, Memory, says, does, hears_marking, marking_by, marking_with, marking_of, starts_marking, spelled}
+use Rattle.world.specs.Entry.{Filled, Called, Torn, disk_step}
 use Rattle.world.specs.World.{World}
-use Rattle.world.proofs.Enduring.{step_fits}
-use Rattle.agreement.specs.Log.Move.{Restart}
+use Rattle.world.proofs.Enduring.{on_either, step_fits}
 use Rattle.attempt_safety.specs.Registers.{IsNext}
 use Rattle.attempt_safety.proofs.Cells.{block_same}
 use Rattle.world_safety.specs.Blocks.{Stands}
-use Rattle.world_safety.specs.Goes.{HostGoes, Goes}
-use Rattle.world_safety.specs.Marking.{KnowsMark, KnowsMarkFor, IsMarkingSlot, IsMarkingIf}
+use Rattle.world_safety.specs.Goes.{Goes}
+use Rattle.world_safety.specs.Marking.{KnowsMark, KnowsMarkFor, IsMarkingSlot}
 use Rattle.world_safety.specs.Marks.{AllSay, MaySayOn, HasLearned, KeepsMarks}
-use Rattle.world_safety.specs.Next.{next_world}
-use Rattle.world_safety.specs.Tied.{Moves, machine, IsDoing, IsRunning, HostAt, TiedBut, Tied}
+use Rattle.world_safety.specs.Tied.{Moves, machine, IsDoing, IsRunning, TiedBut, Tied}
 use Rattle.world_safety.proofs.Blocks.Keeping.{Spares, spares_others, spares_same}
 use Rattle.world_safety.proofs.Blocks.Marked.{AfterMark, promised, mark_after}
-use Rattle.world_safety.proofs.Moves.Beating.{hears_none, quiet_goes}
-use Rattle.world_safety.proofs.Moves.Looking.{look_none}
-use Rattle.world_safety.proofs.Moves.Due.{IsMarkCall}
-use Rattle.world_safety.proofs.Moves.Hosts.{tied_but, tied_with, but_stops, stops_learned, same_host}
-use Rattle.world_safety.proofs.Moves.Moving.{idle_is, marks_stay, marks_by, for_host, stopped_goes, running_at}
+use Rattle.world_safety.proofs.Moves.Beside.{hears_none, starts_none}
+use Rattle.world_safety.proofs.Moves.Due.{IsBusyWith}
+use Rattle.world_safety.proofs.Moves.Hosts.{Late, rests_late, tied_but, same_host}
+use Rattle.world_safety.proofs.Moves.Moving.{marks_by, running_at, disk_then, beside_called_goes, beside_torn_goes}
 use Rattle.world_safety.proofs.Moves.OneBlock.{with_disks, IsOther, by_block, but_one}
 
 -- THE CALL THAT IS DUE
@@ -190,44 +187,7 @@ module _ (s : mark.Setup) (a : List Heard) (full : length (body_saying (mark.wit
   mark_within Reading = tt
   mark_within (Putting p call) = put_within _ call
 
--- WHAT IT MAKES OF ITS HOST
-
-pub marking_none : (m : Memory) (t : Marking) (st : mark.Status) → (marking_by m t st).doing ≡ None
-marking_none m t (mark.Due disk) = refl
-marking_none m t (mark.Ended (mark.Marked count)) = refl
-marking_none m t (mark.Ended mark.NoMajority) = refl
-
-hears_marking_none : (c : Shape) (h : ℕ) (m : Memory) (o : Option Marking) (x : Answered) → m.doing ≡ None → (hears_marking c h m o x).doing ≡ None
-hears_marking_none c h m None x rests = rests
-hears_marking_none c h m (Some t) x rests = marking_none m (marking_with t x) (mark.status (marking_of c h m t.slot) (on (marking_with t x).heard))
-
-apart_none : (c : Shape) (h : ℕ) (m : Memory) (o : Option Marking) (x : Answered) → m.doing ≡ None → (hears_apart c h m o x).doing ≡ None
-apart_none c h m None x rests = look_none c m m.looking x rests
-apart_none c h m (Some t) x rests = hears_marking_none c h m (Some t) x rests
-
--- so it tries nothing where it tried nothing
-pub beside_none : (c : Shape) (h : ℕ) (m : Memory) (o : Option (List beat_answers.Answered)) (k : ℕ) (answer : Answer) → m.doing ≡ None → (hears_beside c h m o k answer).doing ≡ None
-beside_none c h m None k answer rests = apart_none c h m m.marking (record { disk = k; heard = heard_as answer }) rests
-beside_none c h m (Some heard) k answer rests = hears_none c h m (Some heard) (record { disk = k; heard = beat_answers.heard_as answer }) rests
-
-not_recovered : (m : Memory) (t : Marking) (st : mark.Status) (n : ℕ) → (marking_by m t st).said ≡ Some (Recovered n) → ⊥
-not_recovered m t (mark.Due disk) n is = absurd (cc)
-not_recovered m t (mark.Ended (mark.Marked count)) n is = absurd (cc)
-not_recovered m t (mark.Ended mark.NoMajority) n is = absurd (cc)
-
-pub begun_doing : (m : Memory) (slot : ℕ) → (starts_marking m slot).doing ≡ None
-begun_doing m slot = by (nat_lt slot (length m.learned))
-  where
-    by : (b : Bool) → (if b then with_marking m (Some (record { slot = slot; heard = [] })) None else with_marking m m.marking (Some (Refused refusal.NotLearned))).doing ≡ None
-    by true = refl
-    by false = refl
-
-begun_said : (m : Memory) (slot n : ℕ) → (starts_marking m slot).said ≡ Some (Recovered n) → ⊥
-begun_said m slot n = by (nat_lt slot (length m.learned))
-  where
-    by : (b : Bool) → (if b then with_marking m (Some (record { slot = slot; heard = [] })) None else with_marking m m.marking (Some (Refused refusal.NotLearned))).said ≡ Some (Recovered n) → ⊥
-    by true is = absurd (cc)
-    by false is = absurd (cc)
+-- IT BEGINS
 
 -- of a disk that has answered nothing
 knows_first : (disk : DiskState) (s : mark.Setup) → KnowsMark disk s []
@@ -238,44 +198,25 @@ knows_first disk s =
       next = λ current kind is. (let same : Attaching ≡ kind = (let both : Some Attaching ≡ Some kind = is in cc) in subst (λ (k : Kind). KnowsMarkFor k disk s []) same tt);
     }
 
+-- so of all disks, where the slot is learned
+pub starts_marking_late : (c : Shape) (w : World) (ms : Moves) (h : ℕ) (m : Memory) → TiedBut c w ms h → IsRunning c w ms h m → (slot : ℕ) → slot < c.slots → Late c w ms h None (starts_marking m slot)
+starts_marking_late c w ms h m tied run slot fits =
+    rests_late c w ms h None (starts_marking m slot) tied
+    (on_either (nat_lt slot (length m.learned)) (does m (Marks (record { slot = slot; heard = [] }))) (says m (Refused refusal.NotLearned)) (λ (n : Memory). IsRunning c w ms h n)
+    (λ is. record {
+      below = run.below;
+      learned = run.learned;
+      doing = record { learned = ltb-true slot (length m.learned) is; fits = fits; knows = λ d. knows_first (w.disk d) (marking_of c h m slot); votes = λ d. votes_none cluster_version };
+    })
+    (λ unknown. record { below = run.below; learned = run.learned; doing = tt }))
+    (starts_none c m (Mark slot) tt)
+
+-- A CALL OF IT
+
 module _ (c : Shape) (w : World) (ms : Moves) (tied : Tied c w ms) where
-  -- A MARKING BEGINS
-
-  begins_at : (h : ℕ) (m : Memory) (slot : ℕ) → slot < c.slots → IsRunning c w ms h m → m.marking ≡ None → IsRunning c w ms h (starts_marking m slot)
-  begins_at h m slot fits run none = by (nat_lt slot (length m.learned)) refl
-    where
-      by : (b : Bool) → nat_lt slot (length m.learned) ≡ b → IsRunning c w ms h (if b then with_marking m (Some (record { slot = slot; heard = [] })) None else with_marking m m.marking (Some (Refused refusal.NotLearned)))
-      by true is =
-          record {
-            below = run.below;
-            learned = run.learned;
-            doing = record { learned = ltb-true slot (length m.learned) is; fits = fits; knows = λ d. knows_first (w.disk d) (marking_of c h m slot); votes = λ d. votes_none cluster_version };
-          }
-      by false is =
-          record { below = run.below; learned = run.learned; doing = subst (IsMarkingIf c w h (with_marking m m.marking (Some (Refused refusal.NotLearned)))) (sym none) tt }
-
-  pub starts_marking_goes : (h slot : ℕ) → slot < c.slots → (host : Host) → w.host h ≡ host → IsTrue (idles host) → Goes c w (Mark h slot) ms
-  starts_marking_goes h slot fits Stopped is idle = absurd (cc)
-  starts_marking_goes h slot fits (Running m) is idle =
-      let now : host_step c h (w.host h) (Mark h slot) ≡ Running (starts_marking m slot) = ap (λ (host : Host). marks host slot) is in
-      let new : IsRunning c w ms h (starts_marking m slot) = begins_at h m slot fits (running_at c w ms tied h m is) (idle_is m idle).marks in
-      record {
-        more = [];
-        tied = subst (λ (l : Moves). Tied c (next_world c w (Mark h slot)) l) (sym (append-nil ms)) (tied_with c w ms h (λ g. host_step c g (w.host g) (Mark h slot)) (tied_but c w ms h tied) (subst (HostAt c w ms h) (sym now) new));
-        inputs = λ j v input. absurd input;
-        host = λ g of. for_host (λ i. HostGoes c w (Mark h slot) ms [] i) h g of (quiet_goes c w ms tied (Mark h slot) h (starts_marking m slot) now (begun_doing m slot) (begun_said m slot));
-        carries = tt;
-        marks = marks_stay c w (Mark h slot) (λ d. refl);
-      }
-
-  -- A CALL OF IT
-
-  module _ (h k : ℕ) (call : Call) (it : IsMarkCall c h k call (w.host h)) (e : Filled) (answer : Answer) (step : Step (w.disk k) call answer (disk_step (w.disk k) e)) where
+  module _ (h k : ℕ) (call : Call) (t : Marking) (it : IsBusyWith c h k call (w.host h) (Marks t)) (e : Filled) (answer : Answer) (step : Step (w.disk k) call answer (disk_step (w.disk k) e)) where
     abbrev m : Memory
     m = it.memory
-
-    abbrev t : Marking
-    t = it.marking
 
     abbrev s : mark.Setup
     s = marking_of c h m t.slot
@@ -296,7 +237,7 @@ module _ (c : Shape) (w : World) (ms : Moves) (tied : Tied c w ms) where
     run = running_at c w ms tied h m it.running
 
     marking : IsMarkingSlot c w h m t
-    marking = subst (IsMarkingIf c w h m) it.marks (subst (IsDoing c w ms h m) it.rests run.doing)
+    marking = subst (IsDoing c w ms h m) it.does run.doing
 
     due : IsMarkDue s a call
     due = mark_due s (on t.heard) k call it.due
@@ -433,45 +374,17 @@ module _ (c : Shape) (w : World) (ms : Moves) (tied : Tied c w ms) where
     runs_by (mark.Ended (mark.Marked count)) = record { below = run.below; learned = run.learned; doing = tt }
     runs_by (mark.Ended mark.NoMajority) = record { below = run.below; learned = run.learned; doing = tt }
 
-  pub mark_called_goes : (h k : ℕ) (call : Call) (answer : Answer) (left : List ℕ) (it : IsMarkCall c h k call (w.host h)) → Step (w.disk k) call answer (disk_step (w.disk k) (Called h k call answer left)) → Goes c w (Called h k call answer left) ms
-  mark_called_goes h k call answer left it step =
-      let e : Filled = Called h k call answer left in
-      let x : Answered = record { disk = k; heard = heard_as answer } in
-      let t : Marking = it.marking in
-      let st = mark.status (marking_of c h it.memory t.slot) (on (marking_with t x).heard) in
-      let new : Memory = marking_by it.memory (marking_with t x) st in
-      let w3 = with_disks w (λ (d : ℕ). cond (k == d) (disk_step (w.disk d) (Called h k call answer left)) (w.disk d)) in
-      let now : host_step c h (w.host h) (Called h k call answer left) ≡ Running new =
-      ap (λ (host : Host). host_step c h host (Called h k call answer left)) it.running
-      ∙ ap (λ (o : Option Doing). Running (hears_from c h it.memory o k answer)) it.rests
-      ∙ ap (λ (o : Option (List beat_answers.Answered)). Running (hears_beside c h it.memory o k answer)) it.beats
-      ∙ ap (λ (o : Option Marking). Running (hears_apart c h it.memory o x)) it.marks in
-      let runs : IsRunning c w3 ms h new = runs_by h k call it (Called h k call answer left) answer step st in
-      record {
-        more = [];
-        tied = subst (λ (l : Moves). Tied c (next_world c w (Called h k call answer left)) l) (sym (append-nil ms))
-            (tied_with c w3 ms h (λ g. host_step c g (w.host g) (Called h k call answer left)) (mark_but h k call it (Called h k call answer left) answer step) (subst (HostAt c w3 ms h) (sym now) runs));
-        inputs = λ j v input. absurd input;
-        host = λ g of. for_host (λ i. HostGoes c w (Called h k call answer left) ms [] i) h g of (quiet_goes c w ms tied (Called h k call answer left) h new now (marking_none it.memory (marking_with t x) st) (not_recovered it.memory (marking_with t x) st));
-        carries = λ m' t' running does. absurd (
-            let both : Running it.memory ≡ Running m' = sym it.running ∙ running in
-            let one : it.memory ≡ m' = cc in
-            let neither : None ≡ Some t' = sym it.rests ∙ ap (λ (q : Memory). q.doing) one ∙ does in
-            cc);
-        marks = mark_keeps h k call it (Called h k call answer left) answer step;
-      }
+  module _ (h k : ℕ) (call : Call) (t : Marking) (it : IsBusyWith c h k call (w.host h) (Marks t)) where
+    pub mark_called_goes : (answer : Answer) (left : List ℕ) → Step (w.disk k) call answer (disk_step (w.disk k) (Called h k call answer left)) → Goes c w (Called h k call answer left) ms
+    mark_called_goes answer left step =
+        let e : Filled = Called h k call answer left in
+        let more = marking_with t (record { disk = k; heard = heard_as answer }) in
+        beside_called_goes c w ms h k call answer left (Marks t) it tt
+        (rests_late c (disk_then w k e) ms h None (hears_marking c h it.memory t (record { disk = k; heard = heard_as answer })) (mark_but h k call t it e answer step)
+        (runs_by h k call t it e answer step (mark.status (marking_of c h it.memory t.slot) (on more.heard))) (hears_none c h it.memory (Marks t) k answer tt))
+        (mark_keeps h k call t it e answer step)
 
-  -- A TORN WRITE OF IT: its host stops within it
-
-  pub mark_torn_goes : (h k : ℕ) (call : Call) (left : List ℕ) (it : IsMarkCall c h k call (w.host h)) → Step (w.disk k) call (Fault Failed) (disk_step (w.disk k) (Called h k call (Fault Failed) left)) → Goes c w (Torn h k call left) ms
-  mark_torn_goes h k call left it step =
-      let w3 = with_disks w (λ (d : ℕ). cond (k == d) (disk_step (w.disk d) (Torn h k call left)) (w.disk d)) in
-      let but : TiedBut c w3 ms h = mark_but h k call it (Torn h k call left) (Fault Failed) step in
-      record {
-        more = Restart h ∷ [];
-        tied = tied_with c w3 (ms ++ Restart h ∷ []) h (λ g. Stopped) (but_stops c w3 ms h but) (stops_learned c w3 ms h but);
-        inputs = λ j v input. absurd (elim input [ inl puts ↦ puts | inr rest ↦ rest ]);
-        host = λ g of. for_host (λ i. HostGoes c w (Torn h k call left) ms (Restart h ∷ []) i) h g of (stopped_goes c w (Torn h k call left) ms (Restart h ∷ []) h refl);
-        carries = tt;
-        marks = mark_keeps h k call it (Torn h k call left) (Fault Failed) step;
-      }
+    -- a torn write of it: its host stops within it
+    pub mark_torn_goes : (left : List ℕ) → Step (w.disk k) call (Fault Failed) (disk_step (w.disk k) (Called h k call (Fault Failed) left)) → Goes c w (Torn h k call left) ms
+    mark_torn_goes left step =
+        beside_torn_goes c w ms h k call left (mark_but h k call t it (Torn h k call left) (Fault Failed) step) (mark_keeps h k call t it (Torn h k call left) (Fault Failed) step)

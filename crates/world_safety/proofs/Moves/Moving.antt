@@ -1,8 +1,7 @@
 -- What the moves of an entry tell of its host, and that what is chosen stays so.
-use Rattle.std.proofs.Common.{ℕ, ◌≤◌, ◌≡◌, ◌==◌, ◌⊎◌, inl, inr, Bool, true, false, not, cond, is_some, Option, Some, None, List, ◌∷◌, ◌++◌, length, append_assoc, refl, sym, subst, ap, ◌∙◌}
-use Rattle.std.specs.Prelude.{◌&&◌, IsTrue}
-use Rattle.std.proofs.lemmas.Bool.{eqb-true, and_parts}
-use Rattle.disk.specs.Disk.{DiskState}
+use Rattle.std.proofs.Common.{ℕ, ◌≤◌, ◌≡◌, ◌==◌, ◌⊎◌, inl, inr, Bool, true, false, cond, Option, Some, None, List, [], ◌∷◌, ◌++◌, length, append-nil, append_assoc, refl, sym, subst, ap, ◌∙◌}
+use Rattle.std.proofs.lemmas.Bool.{eqb-true}
+use Rattle.disk.specs.Disk.{DiskState, Call, Answer}
 use Rattle.torn_block.specs.Layout.{cluster_version}
 use Rattle.torn_block.specs.Block.{value_of}
 use Rattle.paxos_block.specs.Places.{VoteOf, place_of}
@@ -12,24 +11,27 @@ use Rattle.attempt.specs.Answers.{Answers}
 use Rattle.attempt.specs.Proposal.{ballot}
 use Rattle.attempt.specs.Setup.{Setup}
 use Rattle.slot_log.specs.Shape.{Shape}
-use Rattle.beats.specs.Answers as beat_answers
-use Rattle.host.specs.Host.{Doing, Memory, Host, Stopped, Running, rests, is_idle_in, is_idle}
-use Rattle.world.specs.Entry.{Filled, is_on, disk_step, host_step}
+use Rattle.host.specs.Host.{Attempt, Doing, Attempts, Memory, Host, Stopped, Running, hears_from}
+use Rattle.world.specs.Entry.{Filled, Called, Torn, is_on, disk_step, host_step}
 use Rattle.world.specs.World.{World}
 use Rattle.agreement.specs.Event.{Event, IsRun, state_after}
 use Rattle.agreement.specs.Event.Event.{Starts}
-use Rattle.agreement.specs.Chosen.{IsProposed, IsChosenBy, IsChosen, IsEmpty}
+use Rattle.agreement.specs.Chosen.{IsInput, IsProposed, IsChosenBy, IsChosen, IsEmpty}
 use Rattle.agreement.specs.Log.{events_of_slot, IsHistory}
-use Rattle.agreement.specs.Log.Move.{At}
+use Rattle.agreement.specs.Log.Move.{At, Restart}
 use Rattle.agreement.proofs.Growing.{proposed_stays, chosen_stays}
 use Rattle.agreement.proofs.Runs.{places}
-use Rattle.world_safety.specs.Goes.{Has, IsTryingAt, HostGoes, Carries}
+use Rattle.world_safety.specs.Goes.{Has, IsTryingAt, HostGoes, Carries, Goes}
 use Rattle.world_safety.specs.Marks.{AllSay, MaySayOn, HasLearned, KeepsMarks}
 use Rattle.world_safety.specs.Next.{next_world, with_host}
-use Rattle.world_safety.specs.Tied.{Moves, machine, IsRunning, HostAt, Tied}
-use Rattle.world_safety.proofs.Moves.Hosts.{Late, tied_with}
+use Rattle.world_safety.specs.Tied.{Moves, machine, IsRunning, HostAt, TiedBut, Tied}
+use Rattle.world_safety.proofs.Moves.Beside.{IsNoAttempt}
+use Rattle.world_safety.proofs.Moves.Due.{IsBusyWith}
+use Rattle.world_safety.proofs.Moves.Hosts.{Late, tied_with, but_stops, stops_learned}
+use Rattle.world_safety.proofs.Moves.OneBlock.{with_disks}
+use Rattle.world_safety.proofs.Moves.Settling.{IsQuiet}
 use Rattle.attempt_safety.proofs.Slotting.{events_append}
-use Rattle.world_safety.proofs.Moves.Machines.{machine_runs}
+use Rattle.world_safety.proofs.Moves.Machines.{machine_runs, input_append}
 
 -- WHAT IS CHOSEN STAYS SO
 
@@ -71,7 +73,7 @@ module _ (c : Shape) (w w2 : World) (e : Filled) (ms early : Moves) (h : ℕ) (t
   memory_is : (m : Memory) → host_step c h (w.host h) e ≡ Running m → new ≡ m
   memory_is m now = let both : Running new ≡ Running m = sym is ∙ now in cc
 
-  begun_by : (m : Memory) (t : Doing) → new ≡ m → m.doing ≡ Some t → IsTryingAt w h (length m.learned) ⊎ Has (early ++ late.late) (At (length m.learned) (Starts h))
+  begun_by : (m : Memory) (t : Attempt) → new ≡ m → m.doing ≡ Some (Attempts t) → IsTryingAt w h (length m.learned) ⊎ Has (early ++ late.late) (At (length m.learned) (Starts h))
   begun_by m t same does =
       subst (λ (k : Memory). IsTryingAt w h (length k.learned) ⊎ Has (early ++ late.late) (At (length k.learned) (Starts h))) same
       (elim (late.begun t (ap (λ (k : Memory). k.doing) same ∙ does)) [
@@ -108,32 +110,6 @@ module _ (c : Shape) (w : World) (ms : Moves) (tied : Tied c w ms) where
   pub running_at : (h : ℕ) (m : Memory) → w.host h ≡ Running m → IsRunning c w ms h m
   running_at h m is = subst (HostAt c w ms h) is (tied.hosts h)
 
--- AN IDLE HOST
-
-pub record IsIdle (m : Memory) : Type 0 where
-  pub tries : m.doing ≡ None
-  pub beats : m.beats.heard ≡ None
-  pub marks : m.marking ≡ None
-  pub looks : m.looking ≡ None
-
-rests_none : (o : Option (List beat_answers.Answered)) → rests o ≡ true → o ≡ None
-rests_none None is = refl
-rests_none (Some heard) is = absurd (cc)
-
-none_some : {A : Type 0} (o : Option A) → not (is_some o) ≡ true → o ≡ None
-none_some None is = refl
-none_some (Some t) is = absurd (cc)
-
-pub idle_is : (m : Memory) → IsTrue (is_idle m) → IsIdle m
-idle_is m idle = go m.doing refl idle
-  where
-    go : (o : Option Doing) → m.doing ≡ o → IsTrue (is_idle_in m o) → IsIdle m
-    go None does idle =
-        let two = and_parts (rests m.beats.heard && not (is_some m.marking)) (not (is_some m.looking)) idle in
-        let parts = and_parts (rests m.beats.heard) (not (is_some m.marking)) two.0 in
-        record { tries = does; beats = rests_none m.beats.heard parts.0; marks = none_some m.marking parts.1; looks = none_some m.looking two.1 }
-    go (Some t) does idle = absurd (cc)
-
 -- MARKS
 
 -- an entry on no disk leaves all blocks
@@ -147,3 +123,63 @@ marks_stay c w e off slot host d slot_below below =
 pub marks_by : (w : World) (slot host : ℕ) (disk new : DiskState) → Outcomes cluster_version disk (place_of (VoteOf slot host)) new
     → AllSay (λ says. says.mark ≡ true → MaySayOn (place_of (VoteOf slot host)) disk says ⊎ HasLearned w host slot says) (place_of (VoteOf slot host)) new
 marks_by w slot host disk new o bytes left marked = let b = o bytes left in inl (b.0, b.1, ap (λ (block : List ℕ). says_of (value_of block)) (sym b.2))
+
+-- ON ONE DISK
+
+-- the disk of the entry makes a step
+abbrev pub disk_then : World → ℕ → Filled → World
+disk_then w k e = with_disks w (λ d. cond (k == d) (disk_step (w.disk d) e) (w.disk d))
+
+-- A host hears an answer, but no attempt does. It has come to where it stands by a few moves, and so the entry is these.
+module _ (c : Shape) (w : World) (ms : Moves) (h k : ℕ) (call : Call) (answer : Answer) (left : List ℕ) (doing : Doing) (it : IsBusyWith c h k call (w.host h) doing) where
+  abbrev heard : Memory
+  heard = hears_from c h it.memory (Some doing) k answer
+
+  heard_is : host_step c h (w.host h) (Called h k call answer left) ≡ Running heard
+  heard_is = ap (λ (host : Host). host_step c h host (Called h k call answer left)) it.running ∙ ap (λ (o : Option Doing). Running (hears_from c h it.memory o k answer)) it.does
+
+  module _ (none : IsNoAttempt (Some doing)) (late : Late c (disk_then w k (Called h k call answer left)) ms h None heard) where
+    by : Late c (disk_then w k (Called h k call answer left)) (ms ++ []) h None heard
+    by = subst (λ (l : Moves). Late c (disk_then w k (Called h k call answer left)) l h None heard) (sym (append-nil ms)) late
+
+    pub beside_called_goes : KeepsMarks c w (disk_then w k (Called h k call answer left)) → Goes c w (Called h k call answer left) ms
+    beside_called_goes keeps =
+        record {
+          more = by.late;
+          tied = late_tied c w (disk_then w k (Called h k call answer left)) (Called h k call answer left) ms [] h None heard by heard_is (λ n is. absurd (cc)) (λ g. host_step c g (w.host g) (Called h k call answer left)) heard_is;
+          inputs = λ j v input. absurd (by.quiet j v input);
+          host = λ g of. for_host (λ i. HostGoes c w (Called h k call answer left) ms by.late i) h g of
+              (late_goes c w (disk_then w k (Called h k call answer left)) (Called h k call answer left) ms [] h None heard by heard_is (λ n is. absurd (cc)));
+          carries = λ m t running does. absurd (
+              let both : Running it.memory ≡ Running m = sym it.running ∙ running in
+              let one : it.memory ≡ m = cc in
+              let is : Some doing ≡ Some (Attempts t) = sym it.does ∙ ap (λ (n : Memory). n.doing) one ∙ does in
+              subst IsNoAttempt is none);
+          marks = keeps;
+        }
+
+-- A host stops within a write: one move more.
+module _ (c : Shape) (w : World) (ms : Moves) (h k : ℕ) (call : Call) (left : List ℕ) (early : Moves) (quiet : IsQuiet early) (but : TiedBut c (disk_then w k (Torn h k call left)) (ms ++ early) h) where
+  torn_input : (j : ℕ) (v : List ℕ) → IsInput (events_of_slot j (early ++ Restart h ∷ [])) v → ⊥
+  torn_input j v input =
+      elim (input_append (events_of_slot j early) (events_of_slot j (Restart h ∷ [])) v (subst (λ (es : List (Event (List ℕ))). IsInput es v) (events_append j early (Restart h ∷ [])) input)) [
+        | inl before ↦ quiet j v before
+        | inr later ↦ elim later [ inl puts ↦ puts | inr rest ↦ rest ]
+      ]
+
+  pub stops_within : KeepsMarks c w (disk_then w k (Torn h k call left)) → Goes c w (Torn h k call left) ms
+  stops_within keeps =
+      record {
+        more = early ++ Restart h ∷ [];
+        tied = subst (λ (l : Moves). Tied c (next_world c w (Torn h k call left)) l) (append_assoc ms early (Restart h ∷ []))
+            (tied_with c (disk_then w k (Torn h k call left)) ((ms ++ early) ++ Restart h ∷ []) h (λ g. Stopped) (but_stops c (disk_then w k (Torn h k call left)) (ms ++ early) h but) (stops_learned c (disk_then w k (Torn h k call left)) (ms ++ early) h but));
+        inputs = λ j v input. absurd (torn_input j v input);
+        host = λ g of. for_host (λ i. HostGoes c w (Torn h k call left) ms (early ++ Restart h ∷ []) i) h g of (stopped_goes c w (Torn h k call left) ms (early ++ Restart h ∷ []) h refl);
+        carries = tt;
+        marks = keeps;
+      }
+
+-- so it is where no move was made before
+pub beside_torn_goes : (c : Shape) (w : World) (ms : Moves) (h k : ℕ) (call : Call) (left : List ℕ) → TiedBut c (disk_then w k (Torn h k call left)) ms h → KeepsMarks c w (disk_then w k (Torn h k call left)) → Goes c w (Torn h k call left) ms
+beside_torn_goes c w ms h k call left but keeps =
+    stops_within c w ms h k call left [] (λ j v input. input) (subst (λ (l : Moves). TiedBut c (disk_then w k (Torn h k call left)) l h) (sym (append-nil ms)) but) keeps

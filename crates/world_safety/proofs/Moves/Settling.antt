@@ -15,7 +15,7 @@ use Rattle.attempt.specs.Answers.{Heard, Answered, Answers, on, heard_as}
 use Rattle.attempt.specs.Setup.{Setup}
 use Rattle.lock_command.specs.Command.{spelling}
 use Rattle.slot_log.specs.Shape.{Shape}
-use Rattle.host.specs.Host.{Doing, Memory, setup_of}
+use Rattle.host.specs.Host.{Attempt, Memory, setup_of}
 use Rattle.world.specs.Entry.{Called, disk_step}
 use Rattle.world.specs.World.{World}
 use Rattle.agreement.specs.State.{Cell}
@@ -47,7 +47,7 @@ abbrev pub IsQuiet : Moves → Type 0
 IsQuiet late = (k : ℕ) (v : List ℕ) → IsInput (events_of_slot k late) v → ⊥
 
 -- The answer is one that the registers allow, where a few moves have settled the own block.
-pub record Ready (c : Shape) (w : World) (ms : Moves) (h k : ℕ) (m : Memory) (t : Doing) (x : Heard) : Type 0 where
+pub record Ready (c : Shape) (w : World) (ms : Moves) (h k : ℕ) (m : Memory) (t : Attempt) (x : Heard) : Type 0 where
   pub pre : Moves
   pub quiet : IsQuiet pre
   pub tied : TiedBut c w (ms ++ pre) h
@@ -55,7 +55,7 @@ pub record Ready (c : Shape) (w : World) (ms : Moves) (h k : ℕ) (m : Memory) (
   pub trying : IsTrying c w (ms ++ pre) h m t
   pub allows : RegistersAllow h k (on t.heard k) x (machine (ms ++ pre) (length m.learned))
 
-module _ (c : Shape) (w : World) (ms : Moves) (h k : ℕ) (call : Call) (answer : Answer) (left : List ℕ) (m : Memory) (t : Doing) (now : IsCall c w ms h k call answer left m t) (known : Due c w ms h k call answer left m t now) where
+module _ (c : Shape) (w : World) (ms : Moves) (h k : ℕ) (call : Call) (answer : Answer) (left : List ℕ) (m : Memory) (t : Attempt) (now : IsCall c w ms h k call answer left m t) (known : Due c w ms h k call answer left m t now) where
   open now use {tied, step}
   open known use {run, trying, is, step_by, waiting}
 
@@ -176,7 +176,6 @@ module _ (c : Shape) (w : World) (ms : Moves) (h k : ℕ) (call : Call) (answer 
           knows = known_now;
           votes = trying.votes;
           input = trying.input;
-          alone = trying.alone;
         }
 
     ready_row : Ready c w ms h k m t (heard_as answer)

@@ -8,7 +8,7 @@ use Rattle.attempt.specs.Answers.{Answers, on, heard_as}
 use Rattle.attempt.specs.Setup.{Setup}
 use Rattle.lock_command.specs.Command.{spelling}
 use Rattle.slot_log.specs.Shape.{Shape}
-use Rattle.host.specs.Host.{Doing, Memory, setup_of}
+use Rattle.host.specs.Host.{Attempt, Memory, setup_of}
 use Rattle.world.specs.Entry.{Called, disk_step}
 use Rattle.world.specs.World.{World}
 use Rattle.agreement.specs.Event as agreement
@@ -41,7 +41,7 @@ pub record IsTornTo (c : Shape) (w w' : World) (ms : Moves) (h : ℕ) : Type 0 w
 abbrev pub IsUntold : Answer → Type 0
 IsUntold answer = (row : List DecodedBlock) → heard_as answer ≡ answers.Told (Some row) → ⊥
 
-module _ (c : Shape) (w : World) (ms : Moves) (h k : ℕ) (call : Call) (answer : Answer) (left : List ℕ) (m : Memory) (t : Doing) (now : IsCall c w ms h k call answer left m t) (known : Due c w ms h k call answer left m t now) (untold : IsUntold answer)
+module _ (c : Shape) (w : World) (ms : Moves) (h k : ℕ) (call : Call) (answer : Answer) (left : List ℕ) (m : Memory) (t : Attempt) (now : IsCall c w ms h k call answer left m t) (known : Due c w ms h k call answer left m t now) (untold : IsUntold answer)
     (r : Ready c w ms h k m t (heard_as answer)) where
   open known use {run, is, due_at, reached}
 
@@ -105,7 +105,7 @@ module _ (c : Shape) (w : World) (ms : Moves) (h k : ℕ) (call : Call) (answer 
       }
 
 -- where a call tells no row, its own event alone may be made
-pub tears_to : (c : Shape) (w : World) (ms : Moves) (h k : ℕ) (call : Call) (answer : Answer) (left : List ℕ) (m : Memory) (t : Doing) → IsCall c w ms h k call answer left m t → IsUntold answer
+pub tears_to : (c : Shape) (w : World) (ms : Moves) (h k : ℕ) (call : Call) (answer : Answer) (left : List ℕ) (m : Memory) (t : Attempt) → IsCall c w ms h k call answer left m t → IsUntold answer
     → IsTornTo c w (with_disks w (λ d. cond (k == d) (disk_step (w.disk d) (Called h k call answer left)) (w.disk d))) ms h
 tears_to c w ms h k call answer left m t now untold =
     let known = due_of c w ms h k call answer left m t now in

@@ -11,8 +11,8 @@ use Rattle.attempt.specs.Setup.{Setup}
 use Rattle.attempt.specs.Standing.{HasBallot, HasProposal}
 use Rattle.attempt.specs.Visits.{visited, are_enough}
 use Rattle.slot_log.specs.Shape.{Shape}
-use Rattle.host.specs.Host.{Doing, Memory, Host, Stopped, Running, setup_of}
-use Rattle.world.specs.Entry.{Filled, Start, Stop, Submit, Recover, Look, Beat, Mark, Called, Torn, Crashed, Lost, Migrated}
+use Rattle.host.specs.Host.{Attempt, Doing, Attempts, Memory, Host, Stopped, Running, setup_of}
+use Rattle.world.specs.Entry.{Filled, Start, Stop, Begin, Called, Torn, Crashed, Lost, Migrated}
 use Rattle.world.specs.Chosen.{at, IsChosenAt}
 
 -- either so, or not
@@ -79,21 +79,21 @@ module _ (c : Shape) (log : List Filled) (i : ℕ) where
     running_as q = subst (λ (g : ℕ). (at c log i).host g ≡ Running q.2.hears.memory) (sym (host_is q)) q.2.hears.running
 
     -- a value that the entry chooses its host's attempt chooses
-    chooses_as : (m : Memory) → (at c log i).host h ≡ Running m → (t : Doing) → m.doing ≡ Some t → (q : ChoosesAt) → Chooses (setup_of c h m t.operation) (on (t.heard ++ record { disk = k; heard = heard_as answer } ∷ [])) q.1
+    chooses_as : (m : Memory) → (at c log i).host h ≡ Running m → (t : Attempt) → m.doing ≡ Some (Attempts t) → (q : ChoosesAt) → Chooses (setup_of c h m t.operation) (on (t.heard ++ record { disk = k; heard = heard_as answer } ∷ [])) q.1
     chooses_as m running t does q =
         let hears = q.2.hears in
         let both : Running hears.memory ≡ Running m = sym (running_as q) ∙ running in
         let same : hears.memory ≡ m = cc in
-        let ones : Some hears.doing ≡ Some t = sym hears.does ∙ ap (λ (x : Memory). x.doing) same ∙ does in
+        let ones : Some (Attempts hears.doing) ≡ Some (Attempts t) = sym hears.does ∙ ap (λ (x : Memory). x.doing) same ∙ does in
         let one : hears.doing ≡ t = cc in
         let setup : q.2.setup ≡ setup_of c h m t.operation =
-        hears.is_setup ∙ ap (λ (g : ℕ). setup_of c g hears.memory hears.doing.operation) (sym (host_is q)) ∙ ap (λ (x : Memory). setup_of c h x hears.doing.operation) same ∙ ap (λ (x : Doing). setup_of c h m x.operation) one in
+        hears.is_setup ∙ ap (λ (g : ℕ). setup_of c g hears.memory hears.doing.operation) (sym (host_is q)) ∙ ap (λ (x : Memory). setup_of c h x hears.doing.operation) same ∙ ap (λ (x : Attempt). setup_of c h m x.operation) one in
         let heard : q.2.heard ≡ t.heard ++ record { disk = k; heard = heard_as answer } ∷ [] =
-        hears.is_heard ∙ ap (λ (x : Doing). x.heard ++ record { disk = hears.disk; heard = heard_as hears.answer } ∷ []) one
+        hears.is_heard ∙ ap (λ (x : Attempt). x.heard ++ record { disk = hears.disk; heard = heard_as hears.answer } ∷ []) one
         ∙ ap (λ (d : ℕ). t.heard ++ record { disk = d; heard = heard_as hears.answer } ∷ []) (sym (disk_is q)) ∙ ap (λ (a : Answer). t.heard ++ record { disk = k; heard = heard_as a } ∷ []) (sym (answer_is q)) in
         subst (λ (s : Setup). Chooses s (on (t.heard ++ record { disk = k; heard = heard_as answer } ∷ [])) q.1) setup (subst (λ (xs : List Answered). Chooses q.2.setup (on xs) q.1) heard q.2.chooses)
 
-    by_attempt : (m : Memory) → (at c log i).host h ≡ Running m → (t : Doing) → m.doing ≡ Some t → Told (ChoosesSome (setup_of c h m t.operation) (on (t.heard ++ record { disk = k; heard = heard_as answer } ∷ []))) → Told ChoosesAt
+    by_attempt : (m : Memory) → (at c log i).host h ≡ Running m → (t : Attempt) → m.doing ≡ Some (Attempts t) → Told (ChoosesSome (setup_of c h m t.operation) (on (t.heard ++ record { disk = k; heard = heard_as answer } ∷ []))) → Told ChoosesAt
     by_attempt m running t does (inl chooses) = inl (
       length m.learned,
       chooses.0,
@@ -121,12 +121,12 @@ module _ (c : Shape) (log : List Filled) (i : ℕ) where
     by_attempt m running t does (inr none) = inr (λ q. none (q.1, chooses_as m running t does q))
 
     by_doing : (m : Memory) → (at c log i).host h ≡ Running m → (o : Option Doing) → m.doing ≡ o → Told ChoosesAt
-    by_doing m running None does = inr (λ q. absurd (
+    by_doing m running (Some (Attempts t)) does = by_attempt m running t does (chooses_or_not (setup_of c h m t.operation) (on (t.heard ++ record { disk = k; heard = heard_as answer } ∷ [])))
+    by_doing m running other does = inr (λ q. absurd (
         let both : Running m ≡ Running q.2.hears.memory = sym running ∙ running_as q in
         let same : m ≡ q.2.hears.memory = cc in
-        let found : m.doing ≡ Some q.2.hears.doing = ap (λ (x : Memory). x.doing) same ∙ q.2.hears.does in
+        let found : m.doing ≡ Some (Attempts q.2.hears.doing) = ap (λ (x : Memory). x.doing) same ∙ q.2.hears.does in
         cc))
-    by_doing m running (Some t) does = by_attempt m running t does (chooses_or_not (setup_of c h m t.operation) (on (t.heard ++ record { disk = k; heard = heard_as answer } ∷ [])))
 
     by_host : (host : Host) → (at c log i).host h ≡ host → Told ChoosesAt
     by_host Stopped is_so = inr (λ q. absurd (let both : Stopped ≡ Running q.2.hears.memory = sym is_so ∙ running_as q in cc))
@@ -136,11 +136,7 @@ module _ (c : Shape) (log : List Filled) (i : ℕ) where
   entry_tells (Called h k call answer left) is = by_host h k call answer left is ((at c log i).host h) refl
   entry_tells (Start h) is = not_called (Start h) is (λ g k call answer left same. absurd (cc))
   entry_tells (Stop h) is = not_called (Stop h) is (λ g k call answer left same. absurd (cc))
-  entry_tells (Submit h command tries) is = not_called (Submit h command tries) is (λ g k call answer left same. absurd (cc))
-  entry_tells (Recover h tries) is = not_called (Recover h tries) is (λ g k call answer left same. absurd (cc))
-  entry_tells (Look h) is = not_called (Look h) is (λ g k call answer left same. absurd (cc))
-  entry_tells (Beat h) is = not_called (Beat h) is (λ g k call answer left same. absurd (cc))
-  entry_tells (Mark h slot) is = not_called (Mark h slot) is (λ g k call answer left same. absurd (cc))
+  entry_tells (Begin h task) is = not_called (Begin h task) is (λ g k call answer left same. absurd (cc))
   entry_tells (Torn h k call left) is = not_called (Torn h k call left) is (λ g k call answer left same. absurd (cc))
   entry_tells (Crashed k left) is = not_called (Crashed k left) is (λ g k call answer left same. absurd (cc))
   entry_tells (Lost k) is = not_called (Lost k) is (λ g k call answer left same. absurd (cc))

@@ -12,7 +12,7 @@ use Rattle.paxos_block.specs.Row.{DecodedBlock, seen_in, seen_at}
 use Rattle.paxos_block.proofs.PlaceLemmas.{block_of-row_of}
 use Rattle.paxos_block.proofs.RowLemmas.{said_sees}
 use Rattle.attempt.specs.Answers as answers
-use Rattle.attempt.specs.Answers.{Heard, Told, Answers, on, heard_as, boot_of}
+use Rattle.attempt.specs.Answers.{Heard, Answered, Told, Answers, on, heard_as, boot_of}
 use Rattle.attempt.specs.Calls.{Opening, goal}
 use Rattle.attempt.specs.Prepared.{IsMarkSeen}
 use Rattle.attempt.specs.History.{Fits}
@@ -20,13 +20,14 @@ use Rattle.attempt.specs.Setup.{Setup}
 use Rattle.attempt.specs.Status.{Ended, Decided, status}
 use Rattle.attempt.proofs.Deciding.{mark_seen}
 use Rattle.attempt.proofs.Lists.{length_more, get_front, get_last, get_none}
+use Rattle.attempt.proofs.More.{on_more, by_disk}
 use Rattle.attempt.proofs.Statuses.{HasDecided, told_by}
 use Rattle.attempt.proofs.Votes.{told_is}
 use Rattle.looks.specs.Shown.{IsMarkRead}
 use Rattle.looks.specs.Status as look
 use Rattle.looks.proofs.Ends.{decided_is, mark_read}
 use Rattle.slot_log.specs.Shape.{Shape}
-use Rattle.host.specs.Host.{Doing, Memory, setup_of}
+use Rattle.host.specs.Host.{Attempt, Memory, setup_of}
 use Rattle.world.specs.Entry.{Called, disk_step}
 use Rattle.world.specs.World.{World}
 use Rattle.world.proofs.Enduring.{step_fits}
@@ -54,6 +55,12 @@ tells_more K a x before last n row is = elim (cases_lt n (length a)) [
       ]
 ]
 
+-- so it is on each disk
+pub all_tell_more : (K : List ℕ → Type 0) (heard : List Answered) (x : Answered) → ((d : ℕ) → TellsTrueMarks K (on heard d)) → ((row : List DecodedBlock) → x.heard ≡ Told (Some row) → ShowsTrueMarks K row) → (d : ℕ) → TellsTrueMarks K (on (heard ++ x ∷ []) d)
+all_tell_more K heard x before last =
+    subst (λ (f : Answers). (d : ℕ) → TellsTrueMarks K (f d)) (sym (on_more heard x))
+    (by_disk (on heard) x.disk x.heard (λ d a. TellsTrueMarks K a) (tells_more K (on heard x.disk) x.heard (before x.disk) last) (λ d off. before d))
+
 -- what a marked block tells at the opening's end is known
 pub decided_known : (K : List ℕ → Type 0) (s : Setup) (f : Answers) (value : List ℕ) → ((d : ℕ) → TellsTrueMarks K (f d)) → s.version ≡ cluster_version → status s f ≡ Ended (Decided value) → K value
 decided_known K s f value tells of_cluster ended =
@@ -72,7 +79,7 @@ marks_kept c w w' Known keeps learned all slot host d slot_below below bytes lef
 ]
 
 -- a row that is told shows true marks
-pub row_true : (c : Shape) (w : World) (ms : Moves) (Known : ℕ → List ℕ → Type 0) → AllMarksTrue c w Known → (h k : ℕ) (call : Call) (answer : Answer) (left : List ℕ) (m : Memory) (t : Doing) → IsCall c w ms h k call answer left m t
+pub row_true : (c : Shape) (w : World) (ms : Moves) (Known : ℕ → List ℕ → Type 0) → AllMarksTrue c w Known → (h k : ℕ) (call : Call) (answer : Answer) (left : List ℕ) (m : Memory) (t : Attempt) → IsCall c w ms h k call answer left m t
     → (row : List DecodedBlock) → heard_as answer ≡ answers.Told (Some row) → ShowsTrueMarks (Known (length m.learned)) row
 row_true c w ms Known all h k call answer left m t now row tells g below =
     let known = due_of c w ms h k call answer left m t now in

@@ -3,8 +3,7 @@ use Rattle.std.specs.Prelude.{slice_get, ◌-◌}
 use Rattle.std.proofs.Common.{ℕ, zero, suc, ◌+◌, ◌<◌, ◌≤◌, ◌≡◌, ◌⊎◌, true, inl, inr, Option, Some, None, List, [], ◌∷◌, ◌++◌, length, take, append-nil, append_assoc, refl, sym, subst, ap, ◌∙◌, arith}
 use Rattle.disk.proofs.StepLemmas.{shape_fresh}
 use Rattle.paxos_block.specs.Places.{image_length}
-use Rattle.attempt.specs.Answers.{Answered, Answers, on, heard_as}
-use Rattle.attempt.proofs.More.{on_more, by_disk}
+use Rattle.attempt.specs.Answers.{Answered, on, heard_as}
 use Rattle.std.proofs.lemmas.Bool.{cases_eq}
 use Rattle.attempt.specs.Proposal.{ballot}
 use Rattle.attempt.specs.Setup.{Setup}
@@ -13,12 +12,13 @@ use Rattle.lock_command.specs.Command.{spelling}
 use Rattle.slot_log.specs.Shape.{Shape}
 use Rattle.disk.specs.Disk.{Call, Answer}
 use Rattle.attempt.specs.Status.{Ended, Decided, status}
-use Rattle.host.specs.Host.{Doing, Looking, Memory, Host, Stopped, Running, Operation, Submitting, Recovering, input_of, setup_of, look_of, looking_with, next_of}
-use Rattle.world.specs.Entry.{Filled, Submit, Called, Migrated, is_of}
+use Rattle.host.specs.declared.task.Task.TheVariants.{Submit}
+use Rattle.host.specs.Host.{Attempt, Looking, Attempts, Looks, Memory, Host, Stopped, Running, Operation, Submitting, Recovering, input_of, setup_of, look_of, looking_with, next_of}
+use Rattle.world.specs.Entry.{Filled, Begin, Called, Migrated, is_of}
 use Rattle.world.specs.World.{World, MayFollow, CanMigrate, IsRun}
 use Rattle.world.specs.Chosen.{at, Hears, IsChosenAt, IsMigrated, IsSubmittedBefore}
 use Rattle.looks.specs.Status as look
-use Rattle.world.proofs.Looking.{alone, fits, next_is}
+use Rattle.world.proofs.Looking.{fits, next_is}
 use Rattle.world.proofs.Runs.{IsMigration, beginning, each, follows_or, follows_of, migrated_first, begins_migrated}
 use Rattle.agreement.specs.Event.{Event}
 use Rattle.attempt_safety.specs.Machine.{Machine}
@@ -29,14 +29,14 @@ use Rattle.agreement.proofs.Inputs.{only_inputs}
 use Rattle.agreement.proofs.Runs.{holds_reached}
 use Rattle.world_safety.specs.Goes.{IsInputAt, Carries, DecidesChosen, Goes}
 use Rattle.world_safety.specs.Tied.{Moves, machine, Tied}
-use Rattle.world_safety.specs.Tracks.{IsChosenBefore, IsTrue, IsTrueOf}
+use Rattle.world_safety.specs.Tracks.{IsChosenBefore, IsTrueDoing, IsTrue, IsTrueOf}
 use Rattle.world_safety.proofs.Moves.Entries.{goes}
 use Rattle.world_safety.proofs.Moves.Moving.{proposed_by_later, chosen_by_later, chosen_later}
 use Rattle.world_safety.specs.Next.{next_world}
-use Rattle.world_safety.specs.Marks.{AllMarksTrue, TellsTrueMarks, KeepsMarks}
+use Rattle.world_safety.specs.Marks.{AllMarksTrue, KeepsMarks}
 use Rattle.world_safety.proofs.Runs.Knowing.{later_chosen, TellsAttempt, TellsLook, ShowsTrue, true_next}
 use Rattle.world_safety.proofs.Moves.Looking.{due_call}
-use Rattle.world_safety.proofs.Runs.Showing.{tells_more, decided_known, marks_kept, row_true, look_row_true, look_known}
+use Rattle.world_safety.proofs.Runs.Showing.{all_tell_more, decided_known, marks_kept, row_true, look_row_true, look_known}
 use Rattle.attempt_safety.proofs.Slotting.{events_append}
 use Rattle.world_safety.proofs.Moves.Machines.{machine_is, machine_runs, input_append}
 use Rattle.world_safety.proofs.Runs.Places.{at_next, at_end}
@@ -88,46 +88,37 @@ module _ (c : Shape) (log : List Filled) (run : IsRun c log) where
     tells_look : (h : ℕ) → TellsLook c log i h
     tells_look h k call answer left is m t running looks row tells =
         let may = each c log i (Called h k call answer left) run is in
-        let so = beginning c log i run in
         let s = look_of c m t.first in
-        let next = next_is c h m t k call (alone c (take i log) h m t so running looks) (subst (λ (host : Host). next_of c h host ≡ Some (k, call)) running may.0) in
-        look_row_true c (at c log i) (IsChosenBefore c log i) sound.marks s (on t.heard k) k _ call answer (fits c (take i log) h m t so running looks) (due_call s (on t.heard) (look.status s (on t.heard)) k call next) may.1 row tells
+        let next = next_is c h m t k call looks (subst (λ (host : Host). next_of c h host ≡ Some (k, call)) running may.0) in
+        look_row_true c (at c log i) (IsChosenBefore c log i) sound.marks s (on t.heard k) k _ call answer (fits c (take i log) h m t (beginning c log i run) running looks) (due_call s (on t.heard) (look.status s (on t.heard)) k call next) may.1 row tells
 
     shows_by : (h : ℕ) → ShowsTrue c log i h
     shows_by h = (tells_attempt h, tells_look h)
 
     -- so what an attempt takes as decided was chosen before
-    decided_by : (h k : ℕ) (call : Call) (answer : Answer) (left : List ℕ) → slice_get log i ≡ Some (Called h k call answer left) → (m : Memory) (t : Doing) (v : List ℕ) → (at c log i).host h ≡ Running m → m.doing ≡ Some t
+    decided_by : (h k : ℕ) (call : Call) (answer : Answer) (left : List ℕ) → slice_get log i ≡ Some (Called h k call answer left) → (m : Memory) (t : Attempt) (v : List ℕ) → (at c log i).host h ≡ Running m → m.doing ≡ Some (Attempts t)
         → status (setup_of c h m t.operation) (on (t.heard ++ record { disk = k; heard = heard_as answer } ∷ [])) ≡ Ended (Decided v) → IsChosenBefore c log i (length m.learned) v
     decided_by h k call answer left is m t v running does ended =
         let K = IsChosenBefore c log i (length m.learned) in
         let x : Answered = record { disk = k; heard = heard_as answer } in
-        let known = knows_true h m running in
-        let tells : (d : ℕ) → TellsTrueMarks K (on (t.heard ++ x ∷ []) d) =
-        subst (λ (f : Answers). (d : ℕ) → TellsTrueMarks K (f d)) (sym (on_more t.heard x))
-        (by_disk (on t.heard) k (heard_as answer) (λ d a. TellsTrueMarks K a)
-        (tells_more K (on t.heard k) (heard_as answer) (known.told t does k) (λ row told. tells_attempt h k call answer left is m t running does row told))
-        (λ d off. known.told t does d)) in
+        let known : IsTrueDoing c log i h (length m.learned) (Some (Attempts t)) = subst (IsTrueDoing c log i h (length m.learned)) does (knows_true h m running).doing in
+        let tells = all_tell_more K t.heard x known.1 (λ row told. tells_attempt h k call answer left is m t running does row told) in
         decided_known K (setup_of c h m t.operation) (on (t.heard ++ x ∷ [])) v tells refl ended
 
     -- and so was what a look is told
-    looked_by : (h k : ℕ) (call : Call) (answer : Answer) (left : List ℕ) → slice_get log i ≡ Some (Called h k call answer left) → (m : Memory) (t : Looking) (d : ℕ) (v : List ℕ) → (at c log i).host h ≡ Running m → m.looking ≡ Some t
+    looked_by : (h k : ℕ) (call : Call) (answer : Answer) (left : List ℕ) → slice_get log i ≡ Some (Called h k call answer left) → (m : Memory) (t : Looking) (d : ℕ) (v : List ℕ) → (at c log i).host h ≡ Running m → m.doing ≡ Some (Looks t)
         → look.status (look_of c m t.first) (on (looking_with t (record { disk = k; heard = heard_as answer })).heard) ≡ look.Ended (look.Decided d v) → IsChosenBefore c log i (length m.learned) v
     looked_by h k call answer left is m t d v running looks ended =
         let K = IsChosenBefore c log i (length m.learned) in
         let x : Answered = record { disk = k; heard = heard_as answer } in
-        let known = knows_true h m running in
-        let tells : (e : ℕ) → TellsTrueMarks K (on (t.heard ++ x ∷ []) e) =
-        subst (λ (f : Answers). (e : ℕ) → TellsTrueMarks K (f e)) (sym (on_more t.heard x))
-        (by_disk (on t.heard) k (heard_as answer) (λ e a. TellsTrueMarks K a)
-        (tells_more K (on t.heard k) (heard_as answer) (known.looked t looks k) (λ row told. tells_look h k call answer left is m t running looks row told))
-        (λ e off. known.looked t looks e)) in
+        let known : IsTrueDoing c log i h (length m.learned) (Some (Looks t)) = subst (IsTrueDoing c log i h (length m.learned)) looks (knows_true h m running).doing in
+        let tells = all_tell_more K t.heard x known (λ row told. tells_look h k call answer left is m t running looks row told) in
         look_known K (look_of c m t.first) (on (t.heard ++ x ∷ [])) d v tells ended
 
     decides_by : (e : Filled) → slice_get log i ≡ Some e → DecidesChosen c (at c log i) ms e
     decides_by (Called h k call answer left) is = (
       λ m t v running does ended. sound.chosen (length m.learned) v (decided_by h k call answer left is m t v running does ended),
-      λ m t d v running looks ended. sound.chosen (length m.learned) v (looked_by h k call answer left is m t d v running looks.looks ended),
+      λ m t d v running looks ended. sound.chosen (length m.learned) v (looked_by h k call answer left is m t d v running looks ended),
     )
     decides_by other is = tt
 
@@ -281,12 +272,12 @@ module _ (c : Shape) (log : List Filled) (run : IsRun c log) where
   all_true i h = (track i).1.hosts h
 
   -- what an attempt takes as decided was chosen before
-  pub decided_at : (i h k : ℕ) (call : Call) (answer : Answer) (left : List ℕ) → slice_get log i ≡ Some (Called h k call answer left) → (m : Memory) (t : Doing) (v : List ℕ) → (at c log i).host h ≡ Running m → m.doing ≡ Some t
+  pub decided_at : (i h k : ℕ) (call : Call) (answer : Answer) (left : List ℕ) → slice_get log i ≡ Some (Called h k call answer left) → (m : Memory) (t : Attempt) (v : List ℕ) → (at c log i).host h ≡ Running m → m.doing ≡ Some (Attempts t)
       → status (setup_of c h m t.operation) (on (t.heard ++ record { disk = k; heard = heard_as answer } ∷ [])) ≡ Ended (Decided v) → IsChosenBefore c log i (length m.learned) v
   decided_at i h k call answer left is m t v running does ended = decided_by i (track i).0 (track i).1 h k call answer left is m t v running does ended
 
   -- and so was what a look is told
-  pub looked_at : (i h k : ℕ) (call : Call) (answer : Answer) (left : List ℕ) → slice_get log i ≡ Some (Called h k call answer left) → (m : Memory) (t : Looking) (d : ℕ) (v : List ℕ) → (at c log i).host h ≡ Running m → m.looking ≡ Some t
+  pub looked_at : (i h k : ℕ) (call : Call) (answer : Answer) (left : List ℕ) → slice_get log i ≡ Some (Called h k call answer left) → (m : Memory) (t : Looking) (d : ℕ) (v : List ℕ) → (at c log i).host h ≡ Running m → m.doing ≡ Some (Looks t)
       → look.status (look_of c m t.first) (on (looking_with t (record { disk = k; heard = heard_as answer })).heard) ≡ look.Ended (look.Decided d v) → IsChosenBefore c log i (length m.learned) v
   looked_at i h k call answer left is m t d v running looks ended = looked_by i (track i).0 (track i).1 h k call answer left is m t d v running looks ended
 
@@ -423,8 +414,9 @@ module _ (c : Shape) (log : List Filled) (run : IsRun c log) where
   put_before i j e v put =
       let by = input_is put.doing.operation v put.input in
       let known : IsTrue c log i put.host put.memory = subst (IsTrueOf c log i put.host) put.running (all_true i put.host) in
-      let submitted = known.begun put.doing put.does by.0 by.1 in
-      record { place = submitted.place; entry = Submit put.host by.0 submitted.tries; command = by.0; before = submitted.before; is = submitted.entry; submits = refl; spelled = by.2 }
+      let under_way : IsTrueDoing c log i put.host (length put.memory.learned) (Some (Attempts put.doing)) = subst (IsTrueDoing c log i put.host (length put.memory.learned)) put.does known.doing in
+      let submitted = under_way.0 by.0 by.1 in
+      record { place = submitted.place; entry = Begin put.host (Submit by.0 submitted.tries); command = by.0; before = submitted.before; is = submitted.entry; submits = refl; spelled = by.2 }
 
   -- what was migrated was submitted with the first entry
   migrated_before : (i slot : ℕ) (v : List ℕ) → 0 < i → IsMigrated log slot v → IsSubmittedBefore log i v

@@ -4,15 +4,16 @@ use Rattle.std.proofs.lemmas.List.{length-set}
 use Rattle.disk.specs.Disk as device
 use Rattle.paxos_block.specs.Places.{image_length}
 use Rattle.slot_log.specs.Shape.{Shape}
-use Rattle.attempt.specs.Answers.{Answered}
+use Rattle.attempt.specs.Answers.{Heard, heard_as}
 use Rattle.attempt.specs.History.{Fits}
 use Rattle.beats.specs.Calls.{device_answer}
+use Rattle.host.specs.Alone.{IsAnsweredAlone}
 use Rattle.host.specs.Host.{hears_from}
 use Rattle.host.proofs.Hosts.{heard_same}
 use Rattle.dlm_images.specs.Operations.{Made, Standing}
-use Rattle.phases.specs.Calls.{IsWithin, call_of_need, heard_of}
+use Rattle.phases.specs.Calls.{IsWithin, call_of_need}
 use Rattle.host.specs.Kept.{LeadsTo, due_call}
-use Rattle.dlm_images.proofs.Driving.{attempt_hears, driven_at_first, driven_more, driven_out, within_more, set_keeps}
+use Rattle.dlm_images.proofs.Driving.{driven_at_first, driven_more, driven_out, within_more, set_keeps}
 use Rattle.dlm_images.proofs.operation.drive.Goals as goal
 
 pub loop-made-init : goal.loop-made-init
@@ -35,7 +36,6 @@ answer_of-heard-requires g c =
 pub loop-made-preserved : goal.loop-made-preserved
 loop-made-preserved g c = record {
   driven =
-      let x : Answered = record { disk = (due_call c.loop-made.host).0; heard = heard_of c.answer_of-heard.result } in
       let few : c.args.host.now.learner.shape.disks ≤ 7 = omega (arith, c.requires.few.0, c.requires.as_many) in
       let due = call_of_need c.call-need.result in
       let y : Made = record { disk = due.0; call = due.1; answer = device_answer c.answer_of-heard.result } in
@@ -46,7 +46,7 @@ loop-made-preserved g c = record {
       let old : Standing g.row.D.Denot = record { core = c.args.host.now; disks = c.args.disks.now } in
       let now : Standing g.row.D.Denot = record { core = c.loop-made.host; disks = c.loop-made.disks } in
       let new : Standing g.row.D.Denot = record { core = c.hear.new.self; disks = slice_set c.loop-made.disks c.from.result c.answer_of-heard.new.disk } in
-      driven_more g.D.Disk.gives shape old now new y x c.loop-made._made few
+      driven_more g.D.Disk.gives shape old now new y c.loop-made._made few
       (record {
         gave = record {
           before = get_or c.loop-made.disks c.from.result c.index-disks-from.result;
@@ -57,14 +57,12 @@ loop-made-preserved g c = record {
         };
         due = λ s h m leads. record { next = c.call-need.ensures.next s h m leads; fits = subst (Fits due.1) (heard_same c.answer_of-heard.result) c.answer_of-heard.ensures.fits };
         leads = λ s h m leads. subst (λ (p : ℕ × device.Call). LeadsTo s h (hears_from s h m m.doing p.0 (device_answer c.answer_of-heard.result)) c.hear.new.self) (sym c.call-need.ensures.due) (c.hear.ensures.leads s h m leads);
-      })
-      (record {
         busy = λ s h m leads. sym (c.idle.ensures.known s h m leads) ∙ c.if-idle.false;
-        leads = attempt_hears g.D.Disk.gives old now c.hear.new.self _ shape c.loop-made.invariant.driven (due_call c.loop-made.host).0 c.answer_of-heard.result
-            c.hear.ensures.leads;
-        alone = λ s h m leads. c.hear.ensures.alone s h m leads;
-        nine = λ s h m leads. c.hear.ensures.marked_nine s h m leads;
-        two = λ s h m leads. c.hear.ensures.looked_two s h m leads;
+        alone = λ s h m leads.
+            subst (λ (p : ℕ × device.Call). IsAnsweredAlone s h m m.doing (record { disk = p.0; heard = heard_as (device_answer c.answer_of-heard.result) })) (sym c.call-need.ensures.due)
+            (subst (λ (y : Heard). IsAnsweredAlone s h m m.doing (record { disk = (due_call c.loop-made.host).0; heard = y })) (heard_same c.answer_of-heard.result)
+            (c.hear.ensures.alone s h m leads));
+        few = λ s h m leads. c.hear.ensures.few s h m leads;
       })
       c.loop-made.invariant.driven;
   as_many = length-set c.loop-made.disks c.from.result _ ∙ c.loop-made.invariant.as_many;

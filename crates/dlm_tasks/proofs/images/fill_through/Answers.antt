@@ -1,6 +1,6 @@
 -- What is printed is how many slots were filled.
 use Rattle.std.proofs.lemmas.Result.{on_ok_weaker}
-use Rattle.host.specs.Host.{starts_look}
+use Rattle.host.specs.Host.{looks_on}
 use Rattle.dlm_images.specs.Operations.{after_made}
 use Rattle.dlm_tasks.proofs.images.fill_through.Goals as goal
 
@@ -8,7 +8,7 @@ pub fill_log-requires : goal.fill_log-requires
 fill_log-requires g c =
     let over = c.requires in
     let done = c.look.ensures.looked in
-    record { over = (over.0, after_made c.args.config over.0 (starts_look c.args.config over.1) done.made, done.leads c.args.config over.0 over.1 over.2) }
+    record { over = (over.0, after_made c.args.config over.0 (looks_on c.args.config over.1 0) done.made, done.leads c.args.config over.0 over.1 over.2) }
 
 pub returns-in-Ok : goal.returns-in-Ok
 returns-in-Ok g c =

@@ -1,3 +1,4 @@
+use Rattle.host.specs.Host.{Attempts}
 use Rattle.world.proofs.Histories as histories
 use Rattle.world.proofs.law.attempts_hear_histories.Goals as goal
 
@@ -11,4 +12,4 @@ pub returns-clause-committed : goal.returns-clause-committed
 returns-clause-committed c = histories.committed
 
 pub returns-clause-due : goal.returns-clause-due
-returns-clause-due c = histories.has_call
+returns-clause-due c = λ c' log h m t. histories.has_call c' log h m (Attempts t)

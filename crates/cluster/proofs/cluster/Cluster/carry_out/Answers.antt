@@ -1,9 +1,9 @@
 use Rattle.std.proofs.Common.{rules, subst, inr}
 use Rattle.host.specs.Host.{learned_of}
+use Rattle.world.specs.Entry.{Begin}
 use Rattle.cluster_tie.specs.Parts.{Own}
-use Rattle.cluster.specs.Operations.{Fails, HasAnswered, IsAnswer, IsRefusedBy, Stops}
+use Rattle.cluster.specs.Operations.{Fails, HasAnswered, IsAnswer, IsRefusedBy, Stops, said_by}
 use Rattle.cluster.specs.Seat.{host_in}
-use Rattle.cluster.specs.Tasks.{begun_by, said_by, under_way}
 use Rattle.cluster.specs.declared.fault.HostFault.{HostFault}
 use Rattle.cluster.specs.declared.operate.Resumed.{Resumed}
 use Rattle.cluster.proofs.Looking.{looked, stopped, unbegun}
@@ -11,32 +11,32 @@ use Rattle.cluster.proofs.Operating.{gave_its, goes_on_so, refused, task_begun}
 use Rattle.cluster.proofs.cluster.Cluster.carry_out.Goals as goal
 
 pub go_on-requires : goal.go_on-requires
-go_on-requires g c = (under_way c.args.task.now, task_begun g.N.ClusterName.shape c.args.task.now c.args.seat.now c.begin.new.seat _ c.requires.idle c.in_ok-begin.ensures.seat)
+go_on-requires g c = (c.args.task.now, task_begun g.N.ClusterName.shape c.args.task.now c.args.seat.now c.begin.new.seat _ c.requires.idle c.in_ok-begin.ensures.seat)
 
 pub outcome-requires-clause-carried : goal.outcome-requires-clause-carried
 outcome-requires-clause-carried g c = (
-  under_way c.args.task.now,
-  goes_on_so g.N.ClusterName.shape (under_way c.args.task.now) c.begin.new.seat c.go_on.new.seat (task_begun g.N.ClusterName.shape c.args.task.now c.args.seat.now c.begin.new.seat _ c.requires.idle c.in_ok-begin.ensures.seat) c.in_ok-go_on.ensures.steps,
+  c.args.task.now,
+  goes_on_so g.N.ClusterName.shape c.args.task.now c.begin.new.seat c.go_on.new.seat (task_begun g.N.ClusterName.shape c.args.task.now c.args.seat.now c.begin.new.seat _ c.requires.idle c.in_ok-begin.ensures.seat) c.in_ok-go_on.ensures.steps,
 )
 
 pub returns-clause-carried : goal.returns-clause-carried
 returns-clause-carried g c =
     let shape = g.N.ClusterName.shape in
-    let carried = goes_on_so shape (under_way c.args.task.now) c.begin.new.seat c.go_on.new.seat (task_begun shape c.args.task.now c.args.seat.now c.begin.new.seat _ c.requires.idle c.in_ok-begin.ensures.seat) c.in_ok-go_on.ensures.steps in
+    let carried = goes_on_so shape c.args.task.now c.begin.new.seat c.go_on.new.seat (task_begun shape c.args.task.now c.args.seat.now c.begin.new.seat _ c.requires.idle c.in_ok-begin.ensures.seat) c.in_ok-go_on.ensures.steps in
     search (rules, carried)
 
 pub returns-clause-its : goal.returns-clause-its
 returns-clause-its g c =
     let shape = g.N.ClusterName.shape in
-    let carried = goes_on_so shape (under_way c.args.task.now) c.begin.new.seat c.go_on.new.seat (task_begun shape c.args.task.now c.args.seat.now c.begin.new.seat _ c.requires.idle c.in_ok-begin.ensures.seat) c.in_ok-go_on.ensures.steps in
-    let its : (gave : Resumed) → HasAnswered shape gave c.go_on.new.seat → IsAnswer (under_way c.args.task.now) (learned_of (host_in shape c.go_on.new.seat)) (said_by gave) = gave_its shape (under_way c.args.task.now) c.go_on.new.seat carried c.in_ok-go_on.ensures.idle in
+    let carried = goes_on_so shape c.args.task.now c.begin.new.seat c.go_on.new.seat (task_begun shape c.args.task.now c.args.seat.now c.begin.new.seat _ c.requires.idle c.in_ok-begin.ensures.seat) c.in_ok-go_on.ensures.steps in
+    let its : (gave : Resumed) → HasAnswered shape gave c.go_on.new.seat → IsAnswer c.args.task.now (learned_of (host_in shape c.go_on.new.seat)) (said_by gave) = gave_its shape c.args.task.now c.go_on.new.seat carried c.in_ok-go_on.ensures.idle in
     search (rules, its)
 
 pub returns-clause-err : goal.returns-clause-err
 returns-clause-err g c =
     let shape = g.N.ClusterName.shape in
-    let failed : (fault : HostFault) → IsRefusedBy shape fault c.go_on.new.seat → Fails shape (begun_by c.args.seat.now.number c.args.task.now) fault c.args.seat.now c.go_on.new.seat = λ fault is.
-    inr (_, subst (λ (o : Own). Stops shape fault o c.go_on.new.seat) c.in_ok-begin.ensures.seat (refused shape (under_way c.args.task.now) fault c.begin.new.seat c.go_on.new.seat (task_begun shape c.args.task.now c.args.seat.now c.begin.new.seat _ c.requires.idle c.in_ok-begin.ensures.seat) c.in_ok-go_on.ensures.steps is)) in
+    let failed : (fault : HostFault) → IsRefusedBy shape fault c.go_on.new.seat → Fails shape (Begin c.args.seat.now.number c.args.task.now) fault c.args.seat.now c.go_on.new.seat = λ fault is.
+    inr (_, subst (λ (o : Own). Stops shape fault o c.go_on.new.seat) c.in_ok-begin.ensures.seat (refused shape c.args.task.now fault c.begin.new.seat c.go_on.new.seat (task_begun shape c.args.task.now c.args.seat.now c.begin.new.seat _ c.requires.idle c.in_ok-begin.ensures.seat) c.in_ok-go_on.ensures.steps is)) in
     search (rules, failed)
 
 pub returns-clause-look : goal.returns-clause-look

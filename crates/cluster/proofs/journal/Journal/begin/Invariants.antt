@@ -1,5 +1,5 @@
-use Rattle.cluster.specs.Tasks.{begun_by}
+use Rattle.world.specs.Entry.{Begin}
 use Rattle.cluster.proofs.journal.Journal.begin.Given as goal
 
 abbrev pub ghosts-keep : goal.ghosts-keep
-ghosts-keep g a = record { entry = begun_by a.tie.now.number a.task.now }
+ghosts-keep g a = record { entry = Begin a.tie.now.number a.task.now }

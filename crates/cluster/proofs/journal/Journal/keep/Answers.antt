@@ -1,18 +1,16 @@
-use Rattle.std.proofs.Common.{◌≡◌, ◌++◌, ◌∷◌, [], None, Some, sym, ap, subst, ◌∙◌, arith}
-use Rattle.world.specs.Entry.{Filled}
+use Rattle.std.proofs.Common.{◌≡◌, ◌++◌, ◌∷◌, [], None, Some, refl, sym, ap, subst, ◌∙◌, arith}
+use Rattle.world.specs.Entry.{Filled, Begin}
 use Rattle.world.specs.Plain.{plain, plains}
 use Rattle.world.specs.World.{world, MayFollow, IsFreshRun}
 use Rattle.world.proofs.Runs as runs
 use Rattle.cluster_tie.specs.Parts.{disk_of, host_of, of_host}
 use Rattle.cluster.specs.Journal.{JournalState}
-use Rattle.cluster.specs.Tasks.{begun_by}
-use Rattle.cluster.proofs.Begun.{entry_own}
 use Rattle.cluster.proofs.Journals.{plains_more, keeps_tokens}
 use Rattle.cluster.proofs.journal.Journal.keep.Goals as goal
 
 pub append_host-requires : goal.append_host-requires
 append_host-requires g c =
-    subst (λ (e : Filled). (disk_of e ≡ None) × (host_of e ≡ Some c.args.tie.now.number)) (sym c.requires.entry) (entry_own c.args.tie.now.number c.args.task.now)
+    subst (λ (e : Filled). (disk_of e ≡ None) × (host_of e ≡ Some c.args.tie.now.number)) (sym c.requires.entry) (refl, refl)
 
 pub invariant_of-self-2 : goal.invariant_of-self-2
 invariant_of-self-2 g c =
@@ -24,7 +22,7 @@ invariant_of-self-2 g c =
     let host = c.args.tie.now in
     let log = c.self.inside.tie in
     let e = g.E.TiedEntry.entry in
-    let told = c.entry.ensures ∙ (λ i. plain (begun_by (c.requires.host i) c.args.task.now)) ∙ ap plain (sym c.requires.entry) in
+    let told = c.entry_of.ensures ∙ (λ i. plain (Begin (c.requires.host i) c.args.task.now)) ∙ ap plain (sym c.requires.entry) in
     let may = subst (λ (s : JournalState). host.entries ≡ of_host host.number s.log → MayFollow shape (world shape s.log) e) (sym c.self.view_is) c.requires.may a.parts in
     record {
       config = j.config;

@@ -1,26 +1,25 @@
-use Rattle.std.proofs.Common.{ℕ, List, Option, None, sym, ◌∙◌, ap, subst}
+use Rattle.std.proofs.Common.{List, ℕ, Option, None, sym, ◌∙◌, ap}
 use Rattle.slot_log.specs.Learning as log
 use Rattle.slot_log.specs.declared.operation.Operation.TheVariants as operation
 use Rattle.slot_log.specs.declared.outcome.LogOutcome.{LogOutcome}
 use Rattle.host.specs.Host.{Submitting, goes_on}
-use Rattle.host.specs.Kept.{Kept, LeadsTo, values_with, values_of, answer_of}
-use Rattle.host.proofs.Hosts.{values_of-goes_on, learned-goes_on, carries-goes_on, follows, beats-goes_on, beats_kept, apart-goes_on, none_apart, idles}
+use Rattle.host.specs.Kept.{values_of, values_with, answer_of, is_idle}
+use Rattle.host.proofs.Hosts.{carries-goes_on, follows, idles, kept_in, known, learned-goes_on, operating-goes_on, operating_alone, values_of-goes_on}
 use Rattle.host.proofs.host_core.HostCore.submit.Goals as goal
 
 pub returns : goal.returns
 returns c c' h m leads =
     let s = c.self.inside in
     let tries = c.args.tries in
-    let submitted = Submitting c.args.command in
-    let Known : Kept → Type 0 = λ v. LeadsTo c' h m v in
-    let known = subst Known (sym c.self.view_is) leads in
-    let idle = idles c.args.self.now c.requires.idle in
-    let kept = beats_kept c' h m (goes_on c' m submitted tries) s.readings s.beat (beats-goes_on c' m submitted tries) known.readings known.beat in
-    follows c' h (goes_on c' m submitted tries) _ (record { learner = c.place.new.self; prefix = s.prefix.items; said = c.of-self-inside.result; beat = s.beat; readings = s.readings; marking = s.marking; look = s.look }) None
-    (c.place.ensures.leads c' h (values_with s.learner.said m) known.learner)
-    (ap (λ (value : List ℕ). log.goes_on c' (values_of m) (operation.Placing value) tries) c.encode.ensures.spelling ∙ values_of-goes_on c' m submitted tries)
-    (known.prefix ∙ sym (learned-goes_on c' m submitted tries))
+    let operation_is = Submitting c.args.command in
+    let led = known c' h m s _ c.self.view_is leads in
+    let stays = operating-goes_on c' m operation_is tries in
+    let idle = idles (kept_in s) (ap is_idle c.self.view_is ∙ c.requires.idle) in
+    follows c' h (goes_on c' m operation_is tries) _ (record { learner = c.place.new.self; prefix = s.prefix.items; said = c.of-self-inside.result; beside = s.beside; readings = s.readings }) None
+    (c.place.ensures.leads c' h (values_with s.learner.said m) led.learner)
+    (ap (λ (value : List ℕ). log.goes_on c' (values_of m) (operation.Placing value) tries) c.encode.ensures.spelling ∙ values_of-goes_on c' m operation_is tries)
+    (led.prefix ∙ sym (learned-goes_on c' m operation_is tries))
     (c.of-self-inside.ensures ∙ ap (λ (o : Option LogOutcome). answer_of o None) c.said.ensures.said)
-    (carries-goes_on None c' m submitted tries)
-    kept.0 kept.1
-    (none_apart c' h m (goes_on c' m submitted tries) s.marking s.look (ap (λ (v : Kept). v.marking) c.self.view_is ∙ idle.marking) (ap (λ (v : Kept). v.look) c.self.view_is ∙ idle.look) (apart-goes_on c' m submitted tries) known.marking known.looking)
+    (carries-goes_on None c' m operation_is tries)
+    (led.readings ∙ sym stays.readings)
+    (operating_alone c' h (goes_on c' m operation_is tries) s.beside idle.alone stays.doing)
