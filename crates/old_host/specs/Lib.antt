@@ -1,3 +1,0 @@
-pub mod Agrees
-pub mod Entry
-pub mod Old
