@@ -168,7 +168,7 @@ fn is_block_device<F: OpenFile>(file: &F) -> bool {
 fn read_settled<F: FileExt>(file: &F, into: &mut [u8], at: u64) -> bool {
     let mut place = at;
     for part in into.chunks_mut(READ_LENGTH) {
-        if !read_twice(file, part, place) {
+        if !read_until_two_agree(file, part, place) {
             return false;
         }
         place = place.saturating_add(READ_LENGTH as u64);
@@ -176,7 +176,7 @@ fn read_settled<F: FileExt>(file: &F, into: &mut [u8], at: u64) -> bool {
     true
 }
 
-fn read_twice<F: FileExt>(file: &F, into: &mut [u8], at: u64) -> bool
+fn read_until_two_agree<F: FileExt>(file: &F, into: &mut [u8], at: u64) -> bool
     requires { length into.old ≤ READ_LENGTH }
 {
     let long = into.len();

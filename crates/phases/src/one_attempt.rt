@@ -243,7 +243,7 @@ impl<L: Layout> Attempt<L> {
         ensures follows { (bytes : List ℕ) → ReadsGist L.version L.spelled self.old.of.host self.old.best bytes gist.now →
             Takes (answers.Told (decoded_row L.version bytes)) self.old self.new }
     {
-        if let Some(mbal) = self.faster(gist) {
+        if let Some(mbal) = self.outrun_by(gist) {
             self.end = Some(End::Outrun(mbal));
             return;
         }
@@ -254,7 +254,7 @@ impl<L: Layout> Attempt<L> {
     }
 
     // Another host's ballot in the row, if it is greater than the one that was taken.
-    fn faster(&self, gist: &Gist<L::Value>) -> Option<u64>
+    fn outrun_by(&self, gist: &Gist<L::Value>) -> Option<u64>
         ensures { (bytes : List ℕ) (reads : ReadsGist L.version L.spelled self.now.of.host self.now.best bytes gist.now) → result ≡ outruns self.now.phase self.now reads.seen }
     {
         if self.phase == Phase::Opening {

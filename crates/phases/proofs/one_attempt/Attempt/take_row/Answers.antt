@@ -15,7 +15,7 @@ returns-in-Some-clause-follows g c bytes reads f order is =
     let n = c.args.self.now in
     subst (λ (o : Option (List DecodedBlock)). Follows (more f n.disk (Told o)) (record (notes_in g.L.Layout.version g.L.Layout.spelled c.self.inside) { end = Some (end.Outrun c.in-Some.mbal) })) (sym reads.said)
     (subst (λ (m : Notes). Follows (more f n.disk (Told (Some reads.seen))) (record m { end = Some (end.Outrun c.in-Some.mbal) })) (sym c.self.view_is)
-    (row_ends n.phase f n (visiting f n c.requires.going is) order c.requires.stage reads.seen c.in-Some.mbal (sym (c.faster.ensures bytes reads) ∙ c.in-Some.is)))
+    (row_ends n.phase f n (visiting f n c.requires.going is) order c.requires.stage reads.seen c.in-Some.mbal (sym (c.outrun_by.ensures bytes reads) ∙ c.in-Some.is)))
 
 pub returns-clause-follows : goal.returns-clause-follows
 returns-clause-follows g c bytes reads f order is =
@@ -26,7 +26,7 @@ returns-clause-follows g c bytes reads f order is =
     let shows = subst (λ (x : Notes). IsSeenAs x.of.version g.L.Layout.spelled (seen_at reads.seen x.of.host) cell) same (subst (λ (k : ℕ). IsSeenAs g.L.Layout.version g.L.Layout.spelled (seen_at reads.seen k) cell) (ap (λ (x : Notes). x.of.host) (sym same)) reads.so.own) in
     let inside : m.disk < length m.visits = omega arith in
     let room = subst (λ (x : Notes). x.disk < length x.visits) same inside in
-    let none = sym (c.faster.ensures bytes reads) ∙ c.in_default.is in
+    let none = sym (c.outrun_by.ensures bytes reads) ∙ c.in_default.is in
     let at : m.disk ≡ c.from.result = omega arith in
     let f' = more f n.disk (Told (Some reads.seen)) in
     subst (λ (o : Option (List DecodedBlock)). Follows (more f n.disk (Told o)) c.go_on.new.self) (sym reads.said)

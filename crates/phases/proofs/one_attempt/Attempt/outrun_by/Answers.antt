@@ -5,7 +5,7 @@ use Rattle.phases.specs.Inside.{notes_in}
 use Rattle.phases.specs.Moves.{outruns}
 use Rattle.phases.specs.Notes.{Notes}
 use Rattle.phases.proofs.Taking.{outruns_some, outruns_none}
-use Rattle.phases.proofs.one_attempt.Attempt.faster.Goals as goal
+use Rattle.phases.proofs.one_attempt.Attempt.outrun_by.Goals as goal
 
 pub returns-then-self-others : goal.returns-then-self-others
 returns-then-self-others g c bytes reads =
