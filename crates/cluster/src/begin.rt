@@ -75,7 +75,7 @@ fn entry_of(host: HostNumber, task: &Task) -> Entry
     }
 }
 
-// The command that it submits.
+// The command that a task submits.
 fn command_of(task: &Task) -> Option<Command>
     ensures { result ≡ submitted_by task.now }
 {
