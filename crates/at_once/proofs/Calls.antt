@@ -2,6 +2,7 @@
 use Rattle.std.specs.Prelude.{replicate}
 use Rattle.std.proofs.Common.{ℕ, List, [], ◌∷◌, ◌++◌, inl, inr, refl, sym, subst}
 use Rattle.disk.specs.Disk.{DiskState, Call, Write, Sync, Answer, Done, Step}
+use Rattle.torn_block.specs.Layout.{cluster_version}
 use Rattle.torn_block.specs.declared.block.TheConstants.{OPEN_GATE}
 use Rattle.paxos_block.specs.declared.header.Header.{Header}
 use Rattle.paxos_block.specs.Places.{image_length}
@@ -53,7 +54,7 @@ module _ {D : Type 0} (gives : D → Call → Answer → D → Type 0) where
   gave_laying header old new is = (
     is.attached,
     is.attaches,
-    alone_then gives (zeroing header.disk is.clears) (behind header is.boot) is.attached is.zeroed new (gave_zeros header.disk is.boot 0 (image_length header.slots) is.attached is.zeroed is.clears)
+    alone_then gives (zeroing header.disk is.clears) (behind header is.boot) is.attached is.zeroed new (gave_zeros header.disk is.boot 0 (image_length cluster_version header.slots) is.attached is.zeroed is.clears)
         (is.blank, is.syncs_zeros, (is.closed, is.writes, (is.ready, is.syncs_header, (is.opened, is.opens, (new, is.syncs_gate, refl))))),
   )
 
@@ -93,7 +94,7 @@ module _ {D : Type 0} (gives : D → Call → Answer → D → Type 0) where
         ready = ready;
         opened = opened;
         attaches = attaches;
-        clears = image_zeros header.disk is.boot 0 (image_length header.slots) is.attached is.zeroed is.clears attached zeroed clears;
+        clears = image_zeros header.disk is.boot 0 (image_length cluster_version header.slots) is.attached is.zeroed is.clears attached zeroed clears;
         syncs_zeros = syncs_zeros;
         writes = writes;
         syncs_header = syncs_header;

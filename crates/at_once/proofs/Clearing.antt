@@ -6,11 +6,11 @@ use Rattle.disk.specs.Disk.{DiskState, Call, Attach, Write, Sync, Answer, Booted
 use Rattle.disk.specs.Simulated.{fresh_disk}
 use Rattle.disk.proofs.CrashLemmas.{length-put}
 use Rattle.disk.proofs.StepLemmas.{step_keeps}
+use Rattle.torn_block.specs.Layout.{cluster_version}
 use Rattle.torn_block.specs.declared.layout.TheConstants.{HEADER_LENGTH}
 use Rattle.torn_block.specs.declared.block.TheConstants.{OPEN_GATE}
 use Rattle.paxos_block.specs.declared.header.Header.{Header}
 use Rattle.paxos_block.specs.Headers.{header_saying}
-use Rattle.paxos_block.specs.layouts.Headers.{header_saying as header_by}
 use Rattle.paxos_block.specs.Places.{image_length}
 use Rattle.migration.proofs.Lengths.{length-header}
 use Rattle.dlm_images.specs.Layout.{WritesZeros, none, more, IsLaidOut, closed_header}
@@ -129,7 +129,7 @@ module _ {D : Type 0} (gives : D → Call → Answer → D → Type 0) (state : 
       }
 
   length-closed : (header : Header) → length (closed_header header) ≡ HEADER_LENGTH
-  length-closed header = omega (arith, length-drop 1 (header_saying header), length-header header)
+  length-closed header = omega (arith, length-drop 1 (header_saying cluster_version header), length-header header)
 
   bytes_laid : (header : Header) (old new : D) → (is : IsLaidOut gives old header new) → (state new).bytes ≡ last (state is.zeroed).bytes (closed_header header) (length-closed header)
   bytes_laid header old new is =
@@ -141,19 +141,19 @@ module _ {D : Type 0} (gives : D → Call → Answer → D → Type 0) (state : 
       ∙ ap (λ (d : DiskState). put_at (put_at d.bytes 0 spelled) 0 (OPEN_GATE ∷ [])) (after_sync is.zeroed is.blank is.boot is.syncs_zeros)
 
   -- none of its bytes is unsynced, as far as it was made zeros
-  flags_laid : (header : Header) (old new : D) → (state old).boot ≡ 1 → IsLaidOut gives old header new → (n : ℕ) → n ≤ image_length header.slots → take n (state new).unsynced ≡ replicate n false
+  flags_laid : (header : Header) (old new : D) → (state old).boot ≡ 1 → IsLaidOut gives old header new → (n : ℕ) → n ≤ image_length cluster_version header.slots → take n (state new).unsynced ≡ replicate n false
   flags_laid header old new one is n within =
       let zeros = (state is.zeroed).bytes in
       let spelled = closed_header header in
-      let so = zeros_written is.boot 0 (image_length header.slots) is.attached is.zeroed is.clears refl (fine_attached old is.attached is.boot one is.attaches) in
-      let reach = long_zeros (image_length header.slots) zeros so.1 in
+      let so = zeros_written is.boot 0 (image_length cluster_version header.slots) is.attached is.zeroed is.clears refl (fine_attached old is.attached is.boot one is.attaches) in
+      let reach = long_zeros (image_length cluster_version header.slots) zeros so.1 in
       let sync = after_sync is.opened new is.boot is.syncs_gate in
       let bytes : (state is.opened).bytes ≡ last zeros spelled (length-closed header) = sym (ap (λ (d : DiskState). d.bytes) sync) ∙ bytes_laid header old new is in
       let size : length (state is.opened).bytes ≡ length zeros = ap length bytes ∙ as_long zeros spelled (length-closed header) (omega (arith, reach)) in
       flags_synced n (state is.opened) (state new) sync (omega (arith, size, reach, within))
 
-  gated : (header : Header) → header_saying header ≡ OPEN_GATE ∷ drop 1 (header_saying header)
-  unfolding header_by
+  gated : (header : Header) → header_saying cluster_version header ≡ OPEN_GATE ∷ drop 1 (header_saying cluster_version header)
+  unfolding header_saying
   gated header = refl
 
   laid_out_header : (header : Header) (old new : D) → (state old).boot ≡ 1 → IsLaidOut gives old header new → SaysHeader header (state new)
@@ -161,14 +161,14 @@ module _ {D : Type 0} (gives : D → Call → Answer → D → Type 0) (state : 
       let rest = drop (0 + length (closed_header header)) (state is.zeroed).bytes in (
         ap (take HEADER_LENGTH) (bytes_laid header old new is)
             ∙ ap (λ (l : List ℕ). take HEADER_LENGTH (l ++ rest)) (sym (gated header))
-            ∙ take_at (header_saying header) rest HEADER_LENGTH (length-header header),
+            ∙ take_at (header_saying cluster_version header) rest HEADER_LENGTH (length-header header),
         flags_laid header old new one is HEADER_LENGTH (omega arith),
       )
 
   laid_out : (header : Header) (old new : D) → (state old).boot ≡ 1 → IsLaidOut gives old header new → HoldsNothing header.slots (state new)
   unfolding fresh_disk
   laid_out header old new one is =
-      let n = image_length header.slots in
+      let n = image_length cluster_version header.slots in
       let so = zeros_written is.boot 0 n is.attached is.zeroed is.clears refl (fine_attached old is.attached is.boot one is.attaches) in
       let zeros = (state is.zeroed).bytes in
       let spelled = closed_header header in

@@ -7,6 +7,7 @@ use Rattle.std.proofs.lemmas.List.{take-map}
 use Rattle.disk.specs.declared.fault.DiskFault.TheVariants.{Reset, Failed, Gone}
 use Rattle.disk.specs.Disk.{DiskState, Call, Attach, Read, Write, Sync, Answer, Booted, Told, Done, Fault, Step, Crashes, lost}
 use Rattle.disk.proofs.StepLemmas.{shape_fresh}
+use Rattle.torn_block.specs.Layout.{cluster_version}
 use Rattle.paxos_block.specs.Places.{IsImage, image_length}
 use Rattle.lock_command.specs.declared.command.Command.{Command}
 use Rattle.slot_log.specs.Shape.{Shape}
@@ -207,11 +208,11 @@ module _ (c : Shape) (h : ℕ) where
       ∙ bare_host (take i ys) Stopped
 
 -- an image whose used part is what a list leaves serves what is done to it
-begun_used : (c : Shape) (begun : List Filled) (images : ℕ → DiskState) (log : List Filled) → IsAtOnceFrom c begun images log → ((k : ℕ) → IsImage c.slots ((world c begun).disk k)) → (k : ℕ) → IsUsedOf c k ((world c begun).disk k) (on_disk k log)
+begun_used : (c : Shape) (begun : List Filled) (images : ℕ → DiskState) (log : List Filled) → IsAtOnceFrom c begun images log → ((k : ℕ) → IsImage cluster_version c.slots ((world c begun).disk k)) → (k : ℕ) → IsUsedOf c k ((world c begun).disk k) (on_disk k log)
 begun_used c begun images log a are k = record { image = images k; there = there_begun c.slots (images k) ((world c begun).disk k) (a.held k) (are k); is = a.held k; serves = a.disks k }
 
-opening_image : (c : Shape) → IsImage c.slots (opening_disk c)
-opening_image c = let shape = shape_fresh (image_length c.slots) in record { whole = shape.0; long = shape.1 }
+opening_image : (c : Shape) → IsImage cluster_version c.slots (opening_disk c)
+opening_image c = let shape = shape_fresh (image_length cluster_version c.slots) in record { whole = shape.0; long = shape.1 }
 
 pub at_once_makes_a_run : (c : Shape) (images : ℕ → DiskState) (log : List Filled) → IsAtOnce c images log → IsRunOf c log
 at_once_makes_a_run c images log a =
@@ -221,10 +222,10 @@ at_once_makes_a_run c images log a =
 
 -- AFTER A MIGRATION
 
-begun_image : (c : Shape) (commands : List Command) → CanMigrate c commands → (k : ℕ) → IsImage c.slots ((world c (Migrated c.disks commands ∷ [])).disk k)
+begun_image : (c : Shape) (commands : List Command) → CanMigrate c commands → (k : ℕ) → IsImage cluster_version c.slots ((world c (Migrated c.disks commands ∷ [])).disk k)
 begun_image c commands can k = elim (cases_Bool (is_on k (Migrated c.disks commands))) [
-  | inl on ↦ subst (IsImage c.slots) (sym (disk_here c [] (Migrated c.disks commands) k on)) (image c commands can)
-  | inr off ↦ subst (IsImage c.slots) (sym (disk_there c [] (Migrated c.disks commands) k off)) (opening_image c)
+  | inl on ↦ subst (IsImage cluster_version c.slots) (sym (disk_here c [] (Migrated c.disks commands) k on)) (image c commands can)
+  | inr off ↦ subst (IsImage cluster_version c.slots) (sym (disk_there c [] (Migrated c.disks commands) k off)) (opening_image c)
 ]
 
 pub after_migration_makes_a_run : (c : Shape) (commands : List Command) (images : ℕ → DiskState) (log : List Filled) → CanMigrate c commands → IsAtOnceAfter c commands images log → IsRunOf c (Migrated c.disks commands ∷ log)

@@ -7,6 +7,7 @@ use Rattle.disk.specs.Disk.{DiskState, Call, Attach, Read, Write, Sync, Answer, 
 use Rattle.disk.specs.Simulated.{fresh_disk}
 use Rattle.disk.specs.Cut.{cut, HasFirst, IsInFirst}
 use Rattle.disk.proofs.CutLemmas.{cut_steps, first_stay}
+use Rattle.torn_block.specs.Layout.{cluster_version}
 use Rattle.torn_block.specs.declared.layout.TheConstants.{HEADER_LENGTH}
 use Rattle.paxos_block.specs.Places.{IsImage, image_length}
 use Rattle.world.specs.World.{Tears}
@@ -136,8 +137,8 @@ headless_synced n disk reaches long i =
 -- the call reads and writes in what hosts use
 abbrev pub Lies : ℕ → Call → Type 0
 Lies slots Attach = Unit {0}
-Lies slots (Read boot at len) = (HEADER_LENGTH ≤ at) × (at + len ≤ image_length slots)
-Lies slots (Write boot at from) = (HEADER_LENGTH ≤ at) × (at + length from ≤ image_length slots)
+Lies slots (Read boot at len) = (HEADER_LENGTH ≤ at) × (at + len ≤ image_length cluster_version slots)
+Lies slots (Write boot at from) = (HEADER_LENGTH ≤ at) × (at + length from ≤ image_length cluster_version slots)
 Lies slots (Sync boot) = Unit {0}
 
 -- the same with the length as a variable
@@ -219,7 +220,7 @@ module _ (n : ℕ) (reaches : HEADER_LENGTH < n) where
 
 module _ (slots : ℕ) where
   abbrev n : ℕ
-  n = image_length slots
+  n = image_length cluster_version slots
 
   abbrev pub IsThere : DiskState → Type 0
   IsThere disk = HasFirst n disk
@@ -272,7 +273,7 @@ module _ (slots : ℕ) where
   pub there_crashed : (old new : DiskState) → IsThere old → Crashes old new → IsThere new
   there_crashed old new has s = crashed_long n long_enough old new has s
 
-  pub there_begun : (disk shows : DiskState) → used slots disk ≡ shows → IsImage slots shows → IsThere disk
+  pub there_begun : (disk shows : DiskState) → used slots disk ≡ shows → IsImage cluster_version slots shows → IsThere disk
   there_begun disk shows is image =
       let bytes : length (headed HEADER_LENGTH 0 (take n disk.bytes)) ≡ n = ap (λ (d : DiskState). length d.bytes) is ∙ image.long in
       let flags : length (headed HEADER_LENGTH false (take n disk.unsynced)) ≡ n = ap (λ (d : DiskState). length d.unsynced) is ∙ image.whole ∙ image.long in
@@ -292,7 +293,7 @@ module _ (slots : ℕ) where
 pub laid_out_holds_nothing : LaidOutHoldsNothing
 unfolding fresh_disk
 laid_out_holds_nothing slots header more is i =
-    let n = image_length slots in
+    let n = image_length cluster_version slots in
     let zeros = n - HEADER_LENGTH + more in
     let bytes = header ++ replicate zeros 0 in
     let long : length bytes ≡ HEADER_LENGTH + zeros = (let a = length-append header (replicate zeros 0) in let b = length-replicate {A = ℕ} zeros 0 in omega (arith, a, b, is)) in

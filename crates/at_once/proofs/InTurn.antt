@@ -6,6 +6,7 @@ use Rattle.std.proofs.lemmas.List.{length-replicate}
 use Rattle.std.proofs.lemmas.List.Elements.{filter-append}
 use Rattle.disk.specs.Disk.{DiskState}
 use Rattle.disk.specs.Simulated.{SimState, fresh_disk}
+use Rattle.torn_block.specs.Layout.{cluster_version}
 use Rattle.paxos_block.specs.Places.{image_length}
 use Rattle.slot_log.specs.Shape.{Shape}
 use Rattle.slot_log.specs.declared.outcome.Refusal.{Refusal}
@@ -221,7 +222,7 @@ submitted_apart c first second tries disks between left (Ok x) (Ok y) differ bla
 -- disks of zeros hold nothing, and are as large as an image
 module _ (c : Shape) where
   abbrev zeros : SimState
-  zeros = record { disk = fresh_disk (image_length c.slots); failing = None; failures = 0 }
+  zeros = record { disk = fresh_disk (image_length cluster_version c.slots); failing = None; failures = 0 }
 
   all_same : (n k : ℕ) (d : SimState) → slice_get (replicate n zeros) k ≡ Some d → d ≡ zeros
   all_same zero k d is = absurd (cc)
@@ -231,9 +232,9 @@ module _ (c : Shape) where
   pub zeros_blank : (n k : ℕ) (d : SimState) → slice_get (replicate n zeros) k ≡ Some d → HoldsNothing c.slots d.disk
   zeros_blank n k d is = subst (λ (s : SimState). HoldsNothing c.slots s.disk) (sym (all_same n k d is)) (zeros_hold_nothing c.slots)
 
-  long : length (fresh_disk (image_length c.slots)).bytes ≡ image_length c.slots
+  long : length (fresh_disk (image_length cluster_version c.slots)).bytes ≡ image_length cluster_version c.slots
   unfolding fresh_disk
-  long = length-replicate (image_length c.slots) 0
+  long = length-replicate (image_length cluster_version c.slots) 0
 
-  pub zeros_large : (n k : ℕ) (d : SimState) → slice_get (replicate n zeros) k ≡ Some d → image_length c.slots ≤ length d.disk.bytes
-  zeros_large n k d is = subst (λ (s : SimState). image_length c.slots ≤ length s.disk.bytes) (sym (all_same n k d is)) (omega (arith, long))
+  pub zeros_large : (n k : ℕ) (d : SimState) → slice_get (replicate n zeros) k ≡ Some d → image_length cluster_version c.slots ≤ length d.disk.bytes
+  zeros_large n k d is = subst (λ (s : SimState). image_length cluster_version c.slots ≤ length s.disk.bytes) (sym (all_same n k d is)) (omega (arith, long))

@@ -81,21 +81,21 @@ ReadLies slots (Read boot at len) = Lies slots (Read boot at len)
 ReadLies slots (Write boot at from) = Unit {0}
 ReadLies slots (Sync boot) = Unit {0}
 
-vote_lies : (slots slot host : ℕ) (call : Call) → slot < slots → host < HOSTS → IsWithin (VoteOf slot host) call → ReadLies slots call → Lies slots call
+vote_lies : (slots slot host : ℕ) (call : Call) → slot < slots → host < HOSTS → IsWithin cluster_version (VoteOf slot host) call → ReadLies slots call → Lies slots call
 unfolding ReadLies
 vote_lies slots slot host Attach fits below within reads = tt
 vote_lies slots slot host (Read boot at len) fits below within reads = reads
 vote_lies slots slot host (Write boot at from) fits below within reads = (let low = within.0 in omega (arith, low), let high = within.1 in omega (arith, high, fits, below))
 vote_lies slots slot host (Sync boot) fits below within reads = tt
 
-beat_lies : (slots host : ℕ) (call : Call) → host < HOSTS → IsWithin (BeatOf host) call → ReadLies slots call → Lies slots call
+beat_lies : (slots host : ℕ) (call : Call) → host < HOSTS → IsWithin cluster_version (BeatOf host) call → ReadLies slots call → Lies slots call
 unfolding ReadLies
 beat_lies slots host Attach below within reads = tt
 beat_lies slots host (Read boot at len) below within reads = reads
 beat_lies slots host (Write boot at from) below within reads = (let low = within.0 in omega (arith, low), let high = within.1 in omega (arith, high, below))
 beat_lies slots host (Sync boot) below within reads = tt
 
-row_lies : (slots slot : ℕ) → slot < slots → (HEADER_LENGTH ≤ row_place slot) × (row_place slot + ROW_LENGTH ≤ image_length slots)
+row_lies : (slots slot : ℕ) → slot < slots → (HEADER_LENGTH ≤ row_place cluster_version slot) × (row_place cluster_version slot + ROW_LENGTH ≤ image_length cluster_version slots)
 row_lies slots slot fits = (omega arith, omega (arith, fits))
 
 -- what an attempt reads
@@ -152,16 +152,16 @@ module _ (slots : ℕ) (s : beat.Setup) where
 look_lies : (slots : ℕ) (s : look.Setup) (a : List Heard) → s.slot < slots → Lies slots (look.call_on s a)
 look_lies slots s a fits = by (nat_lt (length a) 1)
   where
-    by : (b : Bool) → Lies slots (if b then Attach else Read (boot_of a) (row_place s.slot) ROW_LENGTH)
+    by : (b : Bool) → Lies slots (if b then Attach else Read (boot_of a) (row_place cluster_version s.slot) ROW_LENGTH)
     by true = tt
     by false = row_lies slots s.slot fits
 
 -- THE CALL THAT IS DUE
 
-own_long : (s : mark.Setup) (a : List Heard) → s.host < HOSTS → TellsVotes a → IsLong (mark.own_block s a).says.inp
+own_long : (s : mark.Setup) (a : List Heard) → s.host < HOSTS → TellsVotes cluster_version a → IsLong cluster_version (mark.own_block s a).says.inp
 own_long s a below votes = by (row_in Opening a) refl
   where
-    by : (o : Option (List DecodedBlock)) → row_in Opening a ≡ o → IsLong (seen_block o s.host).says.inp
+    by : (o : Option (List DecodedBlock)) → row_in Opening a ≡ o → IsLong cluster_version (seen_block o s.host).says.inp
     by None is = tt
     by (Some row) is = (votes_told cluster_version Opening a row votes is s.host below).long
 

@@ -5,10 +5,11 @@ use Rattle.std.proofs.Math.Seq.{take-length}
 use Rattle.std.proofs.lemmas.List.{drop_at}
 use Rattle.disk.specs.Disk.{DiskState, put_at}
 use Rattle.disk.specs.Simulated.{fresh_disk}
+use Rattle.torn_block.specs.Layout.{cluster_version}
 use Rattle.torn_block.specs.declared.layout.TheConstants.{HEADER_LENGTH, ROW_LENGTH}
 use Rattle.paxos_block.specs.Headers.{header_saying}
 use Rattle.paxos_block.specs.Places.{row_place, image_length}
-use Rattle.paxos_block.specs.layouts.Saying.{zeros}
+use Rattle.paxos_block.specs.Saying.{zeros}
 use Rattle.paxos_block.proofs.SayingLemmas.{zeros_joined, length-zeros}
 use Rattle.migration.specs.Fits.{Fits}
 use Rattle.migration.specs.Image.{Setup, header_of, rows_for, image_of}
@@ -24,7 +25,7 @@ use Rattle.at_once.proofs.Headless.{take_same, same_headed}
 
 module _ (s : Setup) (d : ℕ) (commands : List Command) (disk : DiskState) (fits : Fits s) (log : s.log ≡ map spelling commands) (is : IsMigrated s d disk) (boot : disk.boot ≡ 1) (there : disk.gone ≡ false) where
   abbrev n : ℕ
-  n = image_length s.slots
+  n = image_length cluster_version s.slots
 
   abbrev behind : List ℕ
   behind = rows_for s.log ++ zeros (ROW_LENGTH * (s.slots - length s.log))
@@ -36,22 +37,22 @@ module _ (s : Setup) (d : ℕ) (commands : List Command) (disk : DiskState) (fit
   bytes_so : headed HEADER_LENGTH 0 (take n (image_of s d)) ≡ with_rows s.slots s.log fits.room.log fits.values
   unfolding headed zeros
   bytes_so =
-      let gap = row_place 0 - HEADER_LENGTH in
+      let gap = row_place cluster_version 0 - HEADER_LENGTH in
       ap (λ (k : ℕ). headed HEADER_LENGTH 0 (take k (image_of s d))) (sym long)
       ∙ ap (headed HEADER_LENGTH 0) (take-length (image_of s d))
-      ∙ ap (λ (l : List ℕ). zeros HEADER_LENGTH ++ l) (drop_at (header_saying (header_of s d)) (zeros gap ++ behind) HEADER_LENGTH (length-header (header_of s d)))
+      ∙ ap (λ (l : List ℕ). zeros HEADER_LENGTH ++ l) (drop_at (header_saying cluster_version (header_of s d)) (zeros gap ++ behind) HEADER_LENGTH (length-header (header_of s d)))
       ∙ sym (append_assoc (zeros HEADER_LENGTH) (zeros gap) behind)
       ∙ ap (λ (l : List ℕ). l ++ behind) (sym (zeros_joined HEADER_LENGTH gap))
       ∙ sym (part_by_part s.slots s.log fits.room.log fits.values)
 
   rows_so : with_rows s.slots s.log fits.room.log fits.values ≡ (migrated_to (fresh_disk n) commands).bytes
   unfolding fresh_disk zeros
-  rows_so = ap (λ (l : List (List ℕ)). put_at (zeros n) (row_place 0) (rows_for l)) log
+  rows_so = ap (λ (l : List (List ℕ)). put_at (zeros n) (row_place cluster_version 0) (rows_for l)) log
 
   long_rows : length (migrated_to (fresh_disk n) commands).bytes ≡ n
   long_rows =
       ap length (sym rows_so ∙ part_by_part s.slots s.log fits.room.log fits.values)
-      ∙ omega (arith, length-append (zeros (row_place 0)) behind, length-append (rows_for s.log) (zeros (ROW_LENGTH * (s.slots - length s.log))), length-zeros (row_place 0), length-zeros (ROW_LENGTH * (s.slots - length s.log)), length-rows s.log fits.values, fits.room.log)
+      ∙ omega (arith, length-append (zeros (row_place cluster_version 0)) behind, length-append (rows_for s.log) (zeros (ROW_LENGTH * (s.slots - length s.log))), length-zeros (row_place cluster_version 0), length-zeros (ROW_LENGTH * (s.slots - length s.log)), length-rows s.log fits.values, fits.room.log)
 
   flags_so : headed HEADER_LENGTH false (take n disk.unsynced) ≡ (migrated_to (fresh_disk n) commands).unsynced
   flags_so =

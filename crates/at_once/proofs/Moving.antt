@@ -10,6 +10,7 @@ use Rattle.disk.specs.Crash.{MayLeave}
 use Rattle.disk.specs.Cut.{cut, HasFirst, IsInFirst}
 use Rattle.disk.specs.Simulated.{fresh_disk, refusal_of, refusal_under}
 use Rattle.disk.proofs.CutLemmas.{cut_steps, first_stay, first_of_fresh}
+use Rattle.torn_block.specs.Layout.{cluster_version}
 use Rattle.paxos_block.specs.Headers.{IsFormatted}
 use Rattle.paxos_block.specs.Places.{image_length}
 use Rattle.migration.specs.Events.{Step as StepEvent, answered_by, stepped, after_any, happens, happen, run}
@@ -112,7 +113,7 @@ cut_may n old new has power =
 
 module _ (s : Setup) where
   abbrev n : ℕ
-  n = image_length s.slots
+  n = image_length cluster_version s.slots
 
   abbrev IsInside : Kind → Type 0
   IsInside Attaching = Unit {0}
@@ -186,12 +187,12 @@ record Follows {D : Type 0} (state : D → DiskState) (s : Setup) (answers : Lis
   inside : AreInside s w.progress.rest
   fine : (k : ℕ) → IsFine (w.disk k)
   as_many : length now ≡ s.disks
-  places : (k : ℕ) (x : D) → slice_get now k ≡ Some x → (cut (image_length s.slots) (state x) ≡ w.disk k) × HasFirst (image_length s.slots) (state x)
+  places : (k : ℕ) (x : D) → slice_get now k ≡ Some x → (cut (image_length cluster_version s.slots) (state x) ≡ w.disk k) × HasFirst (image_length cluster_version s.slots) (state x)
   well : AllWell answers → w ≡ run s (replicate (length answers) StepEvent)
 
 module _ {D : Type 0} (gives : D → Call → Answer → D → Type 0) (state : D → DiskState) (steps : MakesSteps gives state) (s : Setup) (fits : Fits s) where
   abbrev size : ℕ
-  size = image_length s.slots
+  size = image_length cluster_version s.slots
 
   follows_first : (disks : List D) → AreFresh state s disks → Follows state s [] disks
   follows_first disks fresh = record {

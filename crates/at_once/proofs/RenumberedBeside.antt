@@ -4,10 +4,10 @@ use Rattle.std.specs.List.{range_with_len}
 use Rattle.std.proofs.Common.{ℕ, ◌≡◌, ◌==◌, Bool, true, false, List, Option, Some, None, map, length, refl, ap, ◌∙◌}
 use Rattle.std.proofs.lemmas.List.{length-map}
 use Rattle.disk.specs.Disk as device
-use Rattle.torn_block.specs.Layout.{cluster_version}
+use Rattle.torn_block.specs.Layout.{cluster_version, area_place}
 use Rattle.torn_block.specs.declared.layout.TheConstants.{LAST_SEQUENCE, ROW_LENGTH}
 use Rattle.torn_block.specs.Stage.{call_of}
-use Rattle.paxos_block.specs.Places.{place_of, VoteOf, BeatOf, row_place, area_place}
+use Rattle.paxos_block.specs.Places.{place_of, VoteOf, BeatOf, row_place}
 use Rattle.paxos_block.specs.Saying.{body_saying}
 use Rattle.paxos_block.specs.Row.{DecodedBlock}
 use Rattle.paxos_block.specs.Votes.{marked_in}
@@ -60,9 +60,9 @@ module _ (s : beat.Setup) (losses : ℕ → ℕ) (f : beat_answers.Answers) wher
   calling : (d : ℕ) (kind : beat.Kind) → beat.call_by s (g d) kind ≡ call_later (losses d) (beat.call_by s (f d) kind)
   calling d beat.Attaching = refl
   calling d beat.Syncing = λ i. device.Sync (booted d i)
-  calling d beat.Reading = λ i. device.Read (booted d i) area_place ROW_LENGTH
+  calling d beat.Reading = λ i. device.Read (booted d i) (area_place cluster_version) ROW_LENGTH
   calling d (beat.Putting p call) =
-      (λ i. call_of call (record { version = cluster_version; place = place_of (BeatOf s.host); block = own_block_in s.host (area d i); body = beat_body }) (booted d i))
+      (λ i. call_of call (record { version = cluster_version; place = place_of cluster_version (BeatOf s.host); block = own_block_in s.host (area d i); body = beat_body }) (booted d i))
       ∙ call_of_later (losses d) call (beat.write_on s (f d)) (boot_of (f d))
 
   calling_so : (d : ℕ) (o : Option beat.Kind) → option_map (beat.call_by s (g d)) o ≡ option_map (call_later (losses d)) (option_map (beat.call_by s (f d)) o)
@@ -119,9 +119,9 @@ module _ (s : mark.Setup) (losses : ℕ → ℕ) (f : attempt_answers.Answers) w
   making : (d : ℕ) (kind : attempt.Kind) → mark.call_by s (m d) kind ≡ call_later (losses d) (mark.call_by s (f d) kind)
   making d attempt.Attaching = refl
   making d attempt.Syncing = λ i. device.Sync (boots d i)
-  making d attempt.Reading = λ i. device.Read (boots d i) (row_place s.slot) ROW_LENGTH
+  making d attempt.Reading = λ i. device.Read (boots d i) (row_place cluster_version s.slot) ROW_LENGTH
   making d (attempt.Putting p call) =
-      (λ i. call_of call (record { version = cluster_version; place = place_of (VoteOf s.slot s.host); block = (own d i).bytes; body = body_saying (mark.with_mark (own d i).says) }) (boots d i))
+      (λ i. call_of call (record { version = cluster_version; place = place_of cluster_version (VoteOf s.slot s.host); block = (own d i).bytes; body = body_saying cluster_version (mark.with_mark (own d i).says) }) (boots d i))
       ∙ call_of_later (losses d) call (mark.write_on s (f d)) (boot_of (f d))
 
   making_so : (d : ℕ) (o : Option attempt.Kind) → option_map (mark.call_by s (m d)) o ≡ option_map (call_later (losses d)) (option_map (mark.call_by s (f d)) o)
@@ -154,7 +154,7 @@ module _ (s : look.Setup) (losses : ℕ → ℕ) (f : attempt_answers.Answers) w
   row d = told_at (losses d) (f d) 1
 
   told_there : (d : ℕ) → look.mark_of (r d) ≡ look.mark_of (f d)
-  told_there d = ap (λ (o : Option (List DecodedBlock)). option_and_then marked_in o) (row d)
+  told_there d = ap (λ (o : Option (List DecodedBlock)). option_and_then (marked_in cluster_version) o) (row d)
 
   none_shown : (d : ℕ) → look.shows_no_mark (r d) ≡ look.shows_no_mark (f d)
   none_shown d = λ i. is_some (row d i) && is_none (told_there d i)
@@ -187,13 +187,13 @@ module _ (s : look.Setup) (losses : ℕ → ℕ) (f : attempt_answers.Answers) w
   bootings : (d : ℕ) → boot_of (r d) ≡ later (losses d) (boot_of (f d))
   bootings d = boot_later (losses d) (f d)
 
-  asking_by : (d : ℕ) (b : Bool) → (if b then device.Attach else device.Read (boot_of (r d)) (row_place s.slot) ROW_LENGTH) ≡ call_later (losses d) (if b then device.Attach else device.Read (boot_of (f d)) (row_place s.slot) ROW_LENGTH)
+  asking_by : (d : ℕ) (b : Bool) → (if b then device.Attach else device.Read (boot_of (r d)) (row_place cluster_version s.slot) ROW_LENGTH) ≡ call_later (losses d) (if b then device.Attach else device.Read (boot_of (f d)) (row_place cluster_version s.slot) ROW_LENGTH)
   asking_by d true = refl
-  asking_by d false = λ i. device.Read (bootings d i) (row_place s.slot) ROW_LENGTH
+  asking_by d false = λ i. device.Read (bootings d i) (row_place cluster_version s.slot) ROW_LENGTH
 
   asking_call : (d : ℕ) → look.call_on s (r d) ≡ call_later (losses d) (look.call_on s (f d))
   asking_call d =
-      (λ i. if nat_lt (many d i) 1 then device.Attach else device.Read (boot_of (r d)) (row_place s.slot) ROW_LENGTH)
+      (λ i. if nat_lt (many d i) 1 then device.Attach else device.Read (boot_of (r d)) (row_place cluster_version s.slot) ROW_LENGTH)
       ∙ asking_by d (nat_lt (length (f d)) 1)
 
   by_look : (st : look.Status) → look.next_in s r st ≡ due_later losses (look.next_in s f st)

@@ -4,6 +4,7 @@ use Rattle.std.proofs.Common.{ℕ, ◌≡◌, Bool, true, false, true≢false, O
 use Rattle.std.proofs.lemmas.List.{map-append}
 use Rattle.disk.specs.Disk as device
 use Rattle.disk.specs.Disk.{Answer}
+use Rattle.torn_block.specs.Layout.{cluster_version}
 use Rattle.paxos_block.specs.Row.{decoded_row}
 use Rattle.heartbeat.specs.Beat.{area_said}
 use Rattle.attempt.specs.Heard.{Answered, on, heard_by}
@@ -168,13 +169,13 @@ module _ (losses : ℕ → ℕ) where
       hears_so None = refl
       hears_so (Some (Attempts t)) =
           let x : attempt_answers.Answered = record { disk = d; heard = heard_as answer } in
-          (λ i. goes_by c l (record { operation = t.operation; tries = t.tries; heard = more_later decoded_row t.heard d answer i }) (setup_of c h m t.operation))
+          (λ i. goes_by c l (record { operation = t.operation; tries = t.tries; heard = more_later (decoded_row cluster_version) t.heard d answer i }) (setup_of c h m t.operation))
           ∙ going (with_heard t x) (setup_of c h m t.operation)
       hears_so (Some (Looks t)) =
           let x : attempt_answers.Answered = record { disk = d; heard = heard_as answer } in
           let all = t.heard ++ x ∷ [] in
           let s = look_of c m t.first in
-          (λ i. look_by c l (record { first = t.first; heard = more_later decoded_row t.heard d answer i }) (look.status s (on (more_later decoded_row t.heard d answer i))))
+          (λ i. look_by c l (record { first = t.first; heard = more_later (decoded_row cluster_version) t.heard d answer i }) (look.status s (on (more_later (decoded_row cluster_version) t.heard d answer i))))
           ∙ (λ i. look_by c l (looking_later (looking_with t x)) (look.status s (on_later losses all i)))
           ∙ (λ i. look_by c l (looking_later (looking_with t x)) (look_status_later s losses (on all) i))
           ∙ looks_so (looking_with t x) (look.status s (on all))
@@ -189,7 +190,7 @@ module _ (losses : ℕ → ℕ) where
           let x : attempt_answers.Answered = record { disk = d; heard = heard_as answer } in
           let all = t.heard ++ x ∷ [] in
           let s = marking_of c h m t.slot in
-          (λ i. marking_by l (record { slot = t.slot; heard = more_later decoded_row t.heard d answer i }) (mark.status s (on (more_later decoded_row t.heard d answer i))))
+          (λ i. marking_by l (record { slot = t.slot; heard = more_later (decoded_row cluster_version) t.heard d answer i }) (mark.status s (on (more_later (decoded_row cluster_version) t.heard d answer i))))
           ∙ (λ i. marking_by l (marking_later (marking_with t x)) (mark.status s (on_later losses all i)))
           ∙ (λ i. marking_by l (marking_later (marking_with t x)) (mark_status_later s losses (on all) i))
           ∙ marks_so (marking_with t x) (mark.status s (on all))

@@ -11,9 +11,9 @@ use Rattle.torn_block.specs.declared.write_steps.WriteCall.{WriteCall}
 use Rattle.torn_block.specs.declared.write_steps.WriteCall.TheVariants.{CloseGate, SyncClosed, PutBody, SyncBody, OpenGate, SyncOpened}
 use Rattle.torn_block.specs.Stage.{Write128, call_of}
 use Rattle.paxos_block.specs.declared.ballot.TheConstants.{LAST_BALLOT}
-use Rattle.paxos_block.specs.layouts.Places.{place_of, VoteOf, row_place}
-use Rattle.paxos_block.specs.layouts.Saying.{body_saying}
-use Rattle.paxos_block.specs.layouts.Votes.{greatest, ballot_above}
+use Rattle.paxos_block.specs.Places.{place_of, VoteOf, row_place}
+use Rattle.paxos_block.specs.Saying.{body_saying}
+use Rattle.paxos_block.specs.Votes.{greatest, ballot_above}
 use Rattle.attempt.specs.Calls.{Phase, Opening, One, Two, Kind, Attaching, Syncing, Reading, Putting, start, goal, seventeen}
 use Rattle.attempt.specs.Heard.{Heard, Booted, Done, Told, Fault, Answered, Answers, on, is_bad, all_good, told, boot_of}
 use Rattle.attempt.specs.Answers as attempt

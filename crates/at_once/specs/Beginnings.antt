@@ -3,6 +3,7 @@ use Rattle.std.specs.Prelude.{◌≡◌, ◌<◌, ◌⊎◌, ℕ, false, All, Li
 use Rattle.disk.specs.Disk.{DiskState, Call, Attach, Write, Sync, Answer, Booted, Done, Step}
 use Rattle.disk.specs.Cut.{cut}
 use Rattle.disk.specs.Simulated.{fresh_disk}
+use Rattle.torn_block.specs.Layout.{cluster_version}
 use Rattle.torn_block.specs.declared.block.TheConstants.{OPEN_GATE}
 use Rattle.torn_block.specs.declared.layout.TheConstants.{HEADER_LENGTH, VALUE_LENGTH}
 use Rattle.paxos_block.specs.declared.header.Header.{Header}
@@ -32,7 +33,7 @@ LaidOutIsBlank {D = D} gives state = MakesSteps gives state →
 
 -- the first bytes of a disk are the header that says this, and none of them is unsynced
 abbrev pub SaysHeader : Header → DiskState → Type 0
-SaysHeader header disk = (take HEADER_LENGTH disk.bytes ≡ header_saying header) × (take HEADER_LENGTH disk.unsynced ≡ replicate HEADER_LENGTH false)
+SaysHeader header disk = (take HEADER_LENGTH disk.bytes ≡ header_saying cluster_version header) × (take HEADER_LENGTH disk.unsynced ≡ replicate HEADER_LENGTH false)
 
 -- It begins with its header.
 abbrev pub LaidOutSaysHeader : {D : Type 0} → (D → Call → Answer → D → Type 0) → (D → DiskState) → Type 0
@@ -53,7 +54,7 @@ ClearedIsFresh {D = D} gives state = MakesSteps gives state →
 -- There are as many disks as the set has, and each is fresh as far as an image is long.
 pub record AreFresh {D : Type 0} (state : D → DiskState) (s : Setup) (disks : List D) : Type 0 where
   pub as_many : length disks ≡ s.disks
-  pub each : (k : ℕ) (disk : D) → slice_get disks k ≡ Some disk → IsFresh (image_length s.slots) (state disk)
+  pub each : (k : ℕ) (disk : D) → slice_get disks k ≡ Some disk → IsFresh (image_length cluster_version s.slots) (state disk)
 
 -- of each of these disks, the first n positions
 abbrev pub firsts : {D : Type 0} → ℕ → (D → DiskState) → List D → ℕ → DiskState
@@ -64,7 +65,7 @@ firsts n state disks k = cut n (slice_index_or (map state disks) k (fresh_disk 0
 abbrev pub MakesAllOrNothing : {D : Type 0} → (D → Call → Answer → D → Type 0) → (D → DiskState) → Type 0
 MakesAllOrNothing {D = D} gives state = MakesSteps gives state →
     (s : Setup) (old new : List D) (answers : List Answer) → Fits s → AreFresh state s old → Makes gives s old answers new →
-    IsAllOrNothing s (firsts (image_length s.slots) state new)
+    IsAllOrNothing s (firsts (image_length cluster_version s.slots) state new)
 
 -- Each of these disks lost power, and is that image now.
 pub record HaveLostPower {D : Type 0} (state : D → DiskState) (disks : List D) (images : List DiskState) : Type 0 where
@@ -75,7 +76,8 @@ pub record HaveLostPower {D : Type 0} (state : D → DiskState) (disks : List D)
 abbrev pub PowerLeavesAllOrNothing : {D : Type 0} → (D → Call → Answer → D → Type 0) → (D → DiskState) → Type 0
 PowerLeavesAllOrNothing {D = D} gives state = MakesSteps gives state →
     (s : Setup) (old new : List D) (answers : List Answer) → Fits s → AreFresh state s old → Makes gives s old answers new →
-    (images : List DiskState) → HaveLostPower state new images → IsAllOrNothing s (firsts (image_length s.slots) (λ image. image) images)
+    (images : List DiskState) → HaveLostPower state new images →
+    IsAllOrNothing s (firsts (image_length cluster_version s.slots) (λ image. image) images)
 
 -- each value of its log is as long as a value is
 abbrev pub HasValues : Setup → Type 0
@@ -85,7 +87,7 @@ HasValues s = All (λ value. length value ≡ VALUE_LENGTH) s.log
 abbrev pub MovedIsWhole : {D : Type 0} → (D → Call → Answer → D → Type 0) → (D → DiskState) → Type 0
 MovedIsWhole {D = D} gives state = MakesSteps gives state →
     (s : Setup) (old new : List D) → HasValues s → AreFresh state s old → HasMoved gives s old new Migrated →
-    (k : ℕ) → k < s.disks → IsMigrated s k (firsts (image_length s.slots) state new k)
+    (k : ℕ) → k < s.disks → IsMigrated s k (firsts (image_length cluster_version s.slots) state new k)
 
 -- So each disk holds the commands whose spellings were moved.
 abbrev pub MovedHoldsLog : {D : Type 0} → (D → Call → Answer → D → Type 0) → (D → DiskState) → Type 0
@@ -147,7 +149,8 @@ AreFreshImages s images = AreFresh (λ image. image) s images
 abbrev pub FilesMakeAllOrNothing : {D : Type 0} → (D → Call → Answer → D → Type 0) → Type 0
 FilesMakeAllOrNothing {D = D} gives = (s : Setup) (old new : List D) (answers : List Answer) (is : Makes gives s old answers new) →
     Gave gives old (moving is) new ×
-    ((images left : List DiskState) → Fits s → AreFreshImages s images → Gave Step images (moving is) left → IsAllOrNothing s (firsts (image_length s.slots) (λ image. image) left))
+    ((images left : List DiskState) → Fits s → AreFreshImages s images → Gave Step images (moving is) left →
+    IsAllOrNothing s (firsts (image_length cluster_version s.slots) (λ image. image) left))
 
 -- what the images are where the migration was stopped: between two calls, or within the next one, whatever came of that
 abbrev pub StopsWithin : Setup → List Answer → (left stopped : List DiskState) → Type 0
@@ -157,14 +160,15 @@ StopsWithin s answers left stopped = (stopped ≡ left) ⊎ ((x : Made) × (next
 abbrev pub StoppedFilesAreAllOrNothing : {D : Type 0} → (D → Call → Answer → D → Type 0) → Type 0
 StoppedFilesAreAllOrNothing {D = D} gives = (s : Setup) (old new : List D) (answers : List Answer) (is : Makes gives s old answers new) →
     (images left stopped : List DiskState) → Fits s → AreFreshImages s images → Gave Step images (moving is) left → StopsWithin s answers left stopped →
-    IsAllOrNothing s (firsts (image_length s.slots) (λ image. image) stopped) ×
-    ((dark : List DiskState) → HaveLostPower (λ image. image) stopped dark → IsAllOrNothing s (firsts (image_length s.slots) (λ image. image) dark))
+    IsAllOrNothing s (firsts (image_length cluster_version s.slots) (λ image. image) stopped) ×
+    ((dark : List DiskState) → HaveLostPower (λ image. image) stopped dark →
+    IsAllOrNothing s (firsts (image_length cluster_version s.slots) (λ image. image) dark))
 
 -- Where it ended well, each of these images is complete, and synced.
 abbrev pub MovedFilesAreWhole : {D : Type 0} → (D → Call → Answer → D → Type 0) → Type 0
 MovedFilesAreWhole {D = D} gives = (s : Setup) (old new : List D) (is : HasMoved gives s old new Migrated) →
     (images left : List DiskState) → HasValues s → AreFreshImages s images → Gave Step images (moving is.makes) left →
-    (k : ℕ) → k < s.disks → IsMigrated s k (firsts (image_length s.slots) (λ image. image) left k)
+    (k : ℕ) → k < s.disks → IsMigrated s k (firsts (image_length cluster_version s.slots) (λ image. image) left k)
 
 -- So it holds the commands whose spellings were moved.
 abbrev pub MovedFilesHoldLog : {D : Type 0} → (D → Call → Answer → D → Type 0) → Type 0

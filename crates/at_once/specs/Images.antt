@@ -3,6 +3,7 @@ use Rattle.std.specs.Prelude.{◌≡◌, ◌+◌, ◌-◌, ℕ, false, List, ◌
 use Rattle.disk.specs.Disk.{DiskState}
 use Rattle.disk.specs.Cut.{cut}
 use Rattle.disk.specs.Simulated.{fresh_disk}
+use Rattle.torn_block.specs.Layout.{cluster_version}
 use Rattle.torn_block.specs.declared.layout.TheConstants.{HEADER_LENGTH}
 use Rattle.paxos_block.specs.Places.{image_length}
 use Rattle.migration.specs.Fits.{Fits}
@@ -23,15 +24,15 @@ headless disk =
 
 -- of an image of so many slots, what hosts use
 abbrev pub used : ℕ → DiskState → DiskState
-used slots disk = headless (cut (image_length slots) disk)
+used slots disk = headless (cut (image_length cluster_version slots) disk)
 
 -- There all is zero and synced, as it is behind the header of an image that was formatted, or of a device longer than that.
 abbrev pub HoldsNothing : ℕ → DiskState → Type 0
-HoldsNothing slots disk = used slots disk ≡ fresh_disk (image_length slots)
+HoldsNothing slots disk = used slots disk ≡ fresh_disk (image_length cluster_version slots)
 
 -- There is what a migration of these commands leaves in the world.
 abbrev pub HoldsLog : ℕ → List Command → DiskState → Type 0
-HoldsLog slots commands disk = used slots disk ≡ migrated_to (fresh_disk (image_length slots)) commands
+HoldsLog slots commands disk = used slots disk ≡ migrated_to (fresh_disk (image_length cluster_version slots)) commands
 
 -- So it is on each disk that is a complete image of such a migration, attached as it was made.
 abbrev pub MigratedHoldsLog : Type 0
@@ -42,7 +43,7 @@ MigratedHoldsLog =
 -- an image with this header, zeros behind it, and more behind those
 abbrev pub laid_out : ℕ → List ℕ → ℕ → DiskState
 laid_out slots header more =
-    let bytes = header ++ replicate (image_length slots - HEADER_LENGTH + more) 0 in
+    let bytes = header ++ replicate (image_length cluster_version slots - HEADER_LENGTH + more) 0 in
     record { bytes = bytes; unsynced = replicate (length bytes) false; boot = 1; gone = false }
 
 abbrev pub LaidOutHoldsNothing : Type 0

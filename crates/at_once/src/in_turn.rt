@@ -1,6 +1,7 @@
 ghost use Rattle.std.specs.Prelude.{◌≡◌, ◌≢◌, ◌≤◌, ℕ, true, Some, None, IfOk, length, replicate, slice_get};
 ghost use Rattle.disk.specs.Simulated.{SimState, fresh_disk};
 ghost use Rattle.lock_command.specs.Command.{is_submittable};
+ghost use Rattle.torn_block.specs.Layout.{cluster_version};
 ghost use Rattle.paxos_block.specs.Places.{image_length};
 ghost use Rattle.at_once.specs.InTurn.{HasSubmitted};
 
@@ -61,11 +62,12 @@ fn submit_alone(
     requires tries { 1 ≤ tries }
     requires asked { is_submittable command ≡ true }
     requires as_many { length disks.items ≡ config.disks }
-    requires large { (k : ℕ) (d : SimState) → slice_get disks.items k ≡ Some d → image_length config.slots ≤ length d.disk.bytes }
+    requires large { (k : ℕ) (d : SimState) → slice_get disks.items k ≡ Some d →
+        image_length cluster_version config.slots ≤ length d.disk.bytes }
     ensures submitted { IfOk result (λ turn. HasSubmitted config command tries disks.items turn.done turn.disks.items) }
     ensures as_many { IfOk result (λ turn. length turn.disks.items ≡ config.disks) }
     ensures large { IfOk result (λ turn. (k : ℕ) (d : SimState) → slice_get turn.disks.items k ≡ Some d →
-        image_length config.slots ≤ length d.disk.bytes) }
+        image_length cluster_version config.slots ≤ length d.disk.bytes) }
 {
     // Called for its contract only: the host's number is in its range.
     let _number = command.host.get();
@@ -77,7 +79,8 @@ fn submit_alone(
 
 /// As many disks as the log has, each with an image of zeros.
 fn fresh_disks(alloc: Global, config: Config) -> Result<Vec<SimDisk>, NoMemory>
-    ensures { IfOk result (λ disks. disks.items ≡ replicate config.disks (record { disk = fresh_disk (image_length config.slots); failing = None; failures = 0 })) }
+    ensures { IfOk result (λ disks. disks.items ≡
+        replicate config.disks (record { disk = fresh_disk (image_length cluster_version config.slots); failing = None; failures = 0 })) }
 {
     let count = usize::from(config.disks());
     let mut disks = Vec::with_capacity(alloc, count)?;

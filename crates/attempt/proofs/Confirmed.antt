@@ -7,11 +7,10 @@ use Rattle.torn_block.specs.Layout.{Version, hosts_in, row_length}
 use Rattle.torn_block.specs.declared.write_steps.WriteCall.{WriteCall}
 use Rattle.torn_block.specs.declared.write_steps.WriteCall.TheVariants.{CloseGate, SyncClosed, PutBody, SyncBody, OpenGate, SyncOpened}
 use Rattle.torn_block.specs.Stage.{Write128, call_of}
-use Rattle.paxos_block.specs.layouts.Saying.{Said}
-use Rattle.paxos_block.specs.layouts.Places.{place_of, VoteOf, row_place}
-use Rattle.paxos_block.specs.layouts.Row.{DecodedBlock}
-use Rattle.paxos_block.specs.layouts.Saying.{body_saying}
-use Rattle.paxos_block.specs.layouts.Votes.{says_in, highest_mbal_of_others}
+use Rattle.paxos_block.specs.Saying.{Said, body_saying}
+use Rattle.paxos_block.specs.Places.{place_of, VoteOf, row_place}
+use Rattle.paxos_block.specs.Row.{DecodedBlock}
+use Rattle.paxos_block.specs.Votes.{says_in, highest_mbal_of_others}
 use Rattle.paxos_block.proofs.VoteLemmas.{greatest_is_greatest}
 use Rattle.attempt.specs.Calls.{Phase, Opening, One, Two, start, goal, Kind, Reading, Putting, seventeen}
 use Rattle.attempt.specs.Answers.{Heard, Done, Told, Answered, Answers, on, is_bad, all_good, told, row_in, later_row, last_row, seen_block, boot_of}

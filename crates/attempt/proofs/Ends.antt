@@ -3,8 +3,8 @@ use Rattle.std.specs.Prelude.{nat_lt, if◌then◌else◌}
 use Rattle.std.proofs.Common.{ℕ, zero, suc, ◌*◌, ◌<◌, ◌≤◌, ◌≡◌, ◌≢◌, ◌==◌, inl, inr, true, false, Option, Some, None, List, length, is_some, refl, sym, subst, ap, ◌∙◌, arith}
 use Rattle.std.proofs.lemmas.Bool.{cases_lt, both_ways, lt-ltb, ltb-true}
 use Rattle.torn_block.specs.Layout.{Version, hosts_in}
-use Rattle.paxos_block.specs.layouts.Row.{DecodedBlock}
-use Rattle.paxos_block.specs.layouts.Votes.{says_in, greatest, highest_mbal, highest_mbal_of_others}
+use Rattle.paxos_block.specs.Row.{DecodedBlock}
+use Rattle.paxos_block.specs.Votes.{says_in, greatest, highest_mbal, highest_mbal_of_others}
 use Rattle.paxos_block.proofs.VoteLemmas.{above, greatest_is_greatest}
 use Rattle.attempt.specs.Calls.{Phase, Opening, One, Two, start, goal}
 use Rattle.attempt.specs.Answers.{Heard, Answered, Answers, on, row_in}

@@ -3,7 +3,7 @@ use Rattle.std.specs.Prelude.{option_and_then, slice_get}
 use Rattle.std.specs.List.{list_any}
 use Rattle.std.proofs.Common.{ℕ, zero, suc, pred, ◌+◌, ◌<◌, ◌≤◌, ◌≡◌, ◌≢◌, ◌==◌, ◌&&◌, ◌||◌, not, inl, inr, Bool, true, false, Option, Some, None, List, [], ◌∷◌, ◌++◌, length, refl, sym, ap, ◌∙◌, arith, length-append}
 use Rattle.std.proofs.lemmas.Bool.{and_right, eqb-true, eqb-false, cases_lt}
-use Rattle.paxos_block.specs.layouts.Row.{DecodedBlock}
+use Rattle.paxos_block.specs.Row.{DecodedBlock}
 use Rattle.attempt.specs.Calls.{Phase, Opening, One, Two, goal}
 use Rattle.attempt.specs.Heard as hearing
 use Rattle.attempt.specs.Answers.{Heard, Booted, Done, Told, Fault, is_bad, all_good, told, row_in, later_row, last_row, boot_of}

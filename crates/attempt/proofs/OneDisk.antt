@@ -3,7 +3,7 @@ use Rattle.std.specs.Prelude.{slice_get}
 use Rattle.std.proofs.Common.{not, ℕ, pred, ◌+◌, ◌<◌, ◌≤◌, ◌≡◌, inl, inr, true, false, Some, None, List, [], ◌∷◌, ◌++◌, length, is_some, refl, sym, subst, ap, ◌∙◌, arith}
 use Rattle.std.proofs.lemmas.Bool.{cases_lt, and_parts, and_from, both_ways, not-true, true_from_ne_false}
 use Rattle.torn_block.specs.Layout.{row_length}
-use Rattle.paxos_block.specs.layouts.Places.{row_place}
+use Rattle.paxos_block.specs.Places.{row_place}
 use Rattle.attempt.specs.Calls.{Phase, Opening, One, Two, goal, Kind, Attaching, Reading, seventeen}
 use Rattle.attempt.specs.Answers.{Heard, Booted, Answers, is_bad, all_good, row_in, boot_of, told}
 use Rattle.attempt.specs.Setup.{Setup}

@@ -7,8 +7,8 @@ use Rattle.torn_block.specs.declared.layout.TheConstants.{LAST_SEQUENCE}
 use Rattle.torn_block.specs.declared.write_steps.WriteCall.{WriteCall}
 use Rattle.torn_block.specs.declared.write_steps.WriteCall.TheVariants.{CloseGate, SyncClosed, PutBody, SyncBody, OpenGate, SyncOpened}
 use Rattle.torn_block.specs.Stage.{Write128, call_of}
-use Rattle.paxos_block.specs.layouts.Row.{DecodedBlock}
-use Rattle.paxos_block.specs.layouts.Votes.{says_in}
+use Rattle.paxos_block.specs.Row.{DecodedBlock}
+use Rattle.paxos_block.specs.Votes.{says_in}
 use Rattle.attempt.specs.Calls.{Phase, Opening, start, goal, Kind, Attaching, Syncing, Reading, Putting, seventeen}
 use Rattle.attempt.specs.Answers.{Heard, Booted, Done, Told, Fault, Answered, Answers, on, all_good, told, later_row, last_row, seen_block}
 use Rattle.attempt.specs.Setup.{Setup}

@@ -3,10 +3,9 @@ use Rattle.std.specs.Prelude.{nat_lt, if◌then◌else◌}
 use Rattle.std.proofs.Common.{ℕ, zero, suc, ◌<◌, ◌≤◌, ◌≡◌, ◌≢◌, ◌⊎◌, inl, inr, Bool, true, false, Option, Some, None, List, refl, sym, subst, ap, ◌∙◌, arith}
 use Rattle.std.proofs.lemmas.Bool.{cases_eq, ltb-false, ltb-true}
 use Rattle.torn_block.specs.Layout.{Version, hosts_in}
-use Rattle.paxos_block.specs.layouts.Saying.{Said}
-use Rattle.paxos_block.specs.layouts.Row.{DecodedBlock, blank}
-use Rattle.paxos_block.specs.layouts.Saying.{IsVoteOf}
-use Rattle.paxos_block.specs.layouts.Votes.{says_in, later_of, latest_below}
+use Rattle.paxos_block.specs.Saying.{Said, IsVoteOf}
+use Rattle.paxos_block.specs.Row.{DecodedBlock, blank}
+use Rattle.paxos_block.specs.Votes.{says_in, later_of, latest_below}
 use Rattle.attempt.specs.Calls.{Opening, One}
 use Rattle.attempt.specs.Answers.{Answers, row_in}
 use Rattle.attempt.specs.Setup.{Setup}

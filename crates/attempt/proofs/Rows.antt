@@ -1,9 +1,9 @@
 -- The rows that an attempt has read, with one answer more: what follows from them stays, or takes the new row in.
 use Rattle.std.proofs.Common.{ℕ, zero, suc, ◌+◌, ◌<◌, ◌≤◌, ◌≡◌, ◌≢◌, max, inl, inr, Option, Some, None, List, [], ◌∷◌, ◌++◌, length, is_some, refl, sym, ap, ap₂, ◌∙◌, arith}
 use Rattle.std.proofs.lemmas.Bool.{cases_eq}
-use Rattle.paxos_block.specs.layouts.Saying.{Said}
-use Rattle.paxos_block.specs.layouts.Row.{DecodedBlock}
-use Rattle.paxos_block.specs.layouts.Votes.{says_in, greatest, highest_mbal, highest_mbal_of_others, later_of, latest_in, marked_in, ballot_above}
+use Rattle.paxos_block.specs.Saying.{Said}
+use Rattle.paxos_block.specs.Row.{DecodedBlock}
+use Rattle.paxos_block.specs.Votes.{says_in, greatest, highest_mbal, highest_mbal_of_others, later_of, latest_in, marked_in, ballot_above}
 use Rattle.paxos_block.proofs.VoteLemmas.{greatest_same}
 use Rattle.attempt.specs.Calls.{Phase, Opening, One, goal}
 use Rattle.attempt.specs.Answers.{Heard, Told, Answers, told, row_in, more}

@@ -7,16 +7,14 @@ use Rattle.std.proofs.Common.{length-drop}
 use Rattle.torn_block.specs.declared.layout.TheConstants.{HEADING_LENGTH}
 use Rattle.torn_block.specs.Layout.{Version, hosts_in, copy_length, body_length, block_length, row_length, value_length, padding}
 use Rattle.torn_block.specs.declared.block.Half.TheVariants.{First, Second}
-use Rattle.torn_block.specs.layouts.Block.{is_open, sequence_of, body_of, copy_of, choice, value_at, value_of}
-use Rattle.torn_block.specs.layouts.Damage.{block_of}
+use Rattle.torn_block.specs.Block.{is_open, sequence_of, body_of, copy_of, choice, value_at, value_of, number_bytes}
+use Rattle.torn_block.specs.Damage.{block_of}
 use Rattle.torn_block.proofs.DamageLaws.{length-body_of}
-use Rattle.paxos_block.specs.layouts.Saying.{Said}
-use Rattle.paxos_block.specs.layouts.Ballot.{IsBallotOf}
-use Rattle.paxos_block.specs.layouts.Row.{IsSaid, DecodedBlock, seen_in, seen_at, decoded_row}
-use Rattle.paxos_block.specs.layouts.Saying.{zeros, MaySay, heading, value_bytes, body_saying}
-use Rattle.paxos_block.specs.layouts.Votes.{says_in, later_of, latest_below}
+use Rattle.paxos_block.specs.Saying.{Said, zeros, MaySay, heading, value_bytes, body_saying}
+use Rattle.paxos_block.specs.Ballot.{IsBallotOf}
+use Rattle.paxos_block.specs.Row.{IsSaid, DecodedBlock, seen_in, seen_at, decoded_row}
+use Rattle.paxos_block.specs.Votes.{says_in, later_of, latest_below}
 use Rattle.paxos_block.proofs.RowLemmas.{length-block_of, said_sees, said_is_said}
-use Rattle.torn_block.specs.layouts.Block.{number_bytes}
 use Rattle.paxos_block.proofs.SayingLemmas.{length-number, length-zeros, body_parts}
 use Rattle.paxos_block.proofs.VoteLemmas.{above, is_ballot, greatest_is_greatest, vote_at, vote_in, later_vote, may_promise, may_vote}
 use Rattle.attempt.specs.Calls.{Phase, Opening, One, Two, start, goal}
@@ -27,7 +25,7 @@ use Rattle.attempt.specs.NextCall.{some_value, says_for}
 use Rattle.attempt.specs.Standing.{HasBallot, IsIn}
 use Rattle.attempt.proofs.Lists.{length_more, get_front, get_last, get_none}
 use Rattle.attempt.proofs.Rows.{AreSameRows, ballot_same, own_same, proposal_same}
-use Rattle.attempt.specs.layouts.Votes.{IsLong, IsVoteBy, ShowsVotes, TellsVotes}
+use Rattle.attempt.specs.Votes.{IsLong, IsVoteBy, ShowsVotes, TellsVotes}
 
 -- A ROW
 

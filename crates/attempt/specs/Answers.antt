@@ -2,7 +2,7 @@
 use Rattle.std.specs.Prelude.{ℕ, pred, List, [], ◌∷◌, slice_get, Option, Some, None, option_and_then}
 use Rattle.disk.specs.Disk as device
 use Rattle.torn_block.specs.Layout.{Version, cluster_version}
-use Rattle.paxos_block.specs.layouts.Row.{DecodedBlock, blank_seen, seen_at, decoded_row}
+use Rattle.paxos_block.specs.Row.{DecodedBlock, blank_seen, seen_at, decoded_row}
 use Rattle.attempt.specs.Calls.{Phase, goal}
 use Rattle.attempt.specs.Heard as hearing
 use Rattle.attempt.specs.Heard.{heard_by}

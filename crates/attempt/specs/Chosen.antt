@@ -1,8 +1,8 @@
 -- Of the headline. When a value is chosen, by what one attempt has heard.
 use Rattle.std.specs.Prelude.{◌≡◌, ℕ, Bool, true, false, not, List, nat_lt, Option, Some, None}
 use Rattle.torn_block.specs.Layout.{Version}
-use Rattle.paxos_block.specs.layouts.Row.{DecodedBlock}
-use Rattle.paxos_block.specs.layouts.Votes.{highest_mbal_of_others}
+use Rattle.paxos_block.specs.Row.{DecodedBlock}
+use Rattle.paxos_block.specs.Votes.{highest_mbal_of_others}
 use Rattle.attempt.specs.Calls.{Two}
 use Rattle.attempt.specs.Answers.{Answers, row_in}
 use Rattle.attempt.specs.Setup.{Setup}

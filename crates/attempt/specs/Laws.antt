@@ -1,7 +1,7 @@
 -- What the laws of an attempt speak of: disks that answer well, hosts that leave a slot alone, and being answered.
 use Rattle.std.specs.Prelude.{◌≡◌, ◌≢◌, ◌*◌, ◌<◌, ℕ, Bool, true, false, List, length, Some}
-use Rattle.paxos_block.specs.layouts.Row.{DecodedBlock}
-use Rattle.paxos_block.specs.layouts.Votes.{says_in}
+use Rattle.paxos_block.specs.Row.{DecodedBlock}
+use Rattle.paxos_block.specs.Votes.{says_in}
 use Rattle.attempt.specs.Calls.{Phase, Opening}
 use Rattle.attempt.specs.Answers.{Heard, Answered, Answers, on, all_good, row_in}
 use Rattle.attempt.specs.Setup.{Setup}

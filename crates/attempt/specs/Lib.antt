@@ -14,4 +14,3 @@ pub mod Standing
 pub mod Status
 pub mod Visits
 pub mod Votes
-pub mod layouts

@@ -3,9 +3,8 @@ use Rattle.std.specs.Prelude.{ℕ, false, List, [], length, slice_get, Option, S
 use Rattle.disk.specs.Disk as device
 use Rattle.torn_block.specs.Layout.{row_length}
 use Rattle.torn_block.specs.Stage.{Write128, call_of}
-use Rattle.paxos_block.specs.layouts.Saying.{Said}
-use Rattle.paxos_block.specs.layouts.Places.{place_of, VoteOf, row_place}
-use Rattle.paxos_block.specs.layouts.Saying.{body_saying}
+use Rattle.paxos_block.specs.Saying.{Said, body_saying}
+use Rattle.paxos_block.specs.Places.{place_of, VoteOf, row_place}
 use Rattle.attempt.specs.Calls.{Phase, Opening, One, Two, Kind, Attaching, Syncing, Reading, Putting, seventeen}
 use Rattle.attempt.specs.Answers.{Answers, last_row, seen_block, boot_of}
 use Rattle.attempt.specs.Setup.{Setup}

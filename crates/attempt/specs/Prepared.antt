@@ -5,11 +5,10 @@ use Rattle.torn_block.specs.Layout.{Version, hosts_in, row_length}
 use Rattle.torn_block.specs.declared.write_steps.WriteCall.{WriteCall}
 use Rattle.torn_block.specs.declared.write_steps.WriteCall.TheVariants.{CloseGate, SyncClosed, PutBody, SyncBody, OpenGate, SyncOpened}
 use Rattle.torn_block.specs.Stage.{Write128, call_of}
-use Rattle.paxos_block.specs.layouts.Saying.{Said}
-use Rattle.paxos_block.specs.layouts.Places.{place_of, VoteOf, row_place}
-use Rattle.paxos_block.specs.layouts.Row.{DecodedBlock}
-use Rattle.paxos_block.specs.layouts.Saying.{IsVoteOf, body_saying}
-use Rattle.paxos_block.specs.layouts.Votes.{says_in}
+use Rattle.paxos_block.specs.Saying.{Said, IsVoteOf, body_saying}
+use Rattle.paxos_block.specs.Places.{place_of, VoteOf, row_place}
+use Rattle.paxos_block.specs.Row.{DecodedBlock}
+use Rattle.paxos_block.specs.Votes.{says_in}
 use Rattle.attempt.specs.Calls.{Phase, Opening, One, Two}
 use Rattle.attempt.specs.Answers.{Heard, Done, Told, Answered, Answers, on, row_in}
 use Rattle.attempt.specs.Setup.{Setup}

@@ -2,9 +2,9 @@
 use Rattle.std.specs.Prelude.{ℕ, zero, suc, List, max, Option, Some, None}
 use Rattle.std.specs.Option.{option_or}
 use Rattle.torn_block.specs.Layout.{Version}
-use Rattle.paxos_block.specs.layouts.Saying.{Said}
-use Rattle.paxos_block.specs.layouts.Row.{DecodedBlock, blank}
-use Rattle.paxos_block.specs.layouts.Votes.{says_in, greatest, highest_mbal, highest_mbal_of_others, later_of, latest_in, marked_in, ballot_above}
+use Rattle.paxos_block.specs.Saying.{Said}
+use Rattle.paxos_block.specs.Row.{DecodedBlock, blank}
+use Rattle.paxos_block.specs.Votes.{says_in, greatest, highest_mbal, highest_mbal_of_others, later_of, latest_in, marked_in, ballot_above}
 use Rattle.attempt.specs.Calls.{Phase, Opening, One}
 use Rattle.attempt.specs.Answers.{Answers, row_in}
 use Rattle.attempt.specs.Setup.{Setup}

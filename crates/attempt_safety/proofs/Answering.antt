@@ -7,7 +7,7 @@ use Rattle.std.proofs.lemmas.List.Elements.{All-nil, All-cons}
 use Rattle.torn_block.specs.declared.write_steps.WriteCall.{WriteCall}
 use Rattle.torn_block.specs.declared.write_steps.WriteCall.TheVariants.{CloseGate, SyncClosed, PutBody, SyncBody, OpenGate, SyncOpened}
 use Rattle.paxos_block.specs.Row.{DecodedBlock}
-use Rattle.paxos_block.specs.layouts.Votes.{highest_mbal_of_others}
+use Rattle.paxos_block.specs.Votes.{highest_mbal_of_others}
 use Rattle.attempt.specs.Calls.{Phase, Opening, One, Two, Kind, Attaching, Syncing, Reading, Putting, start, goal}
 use Rattle.attempt.specs.Answers.{Heard, Booted, Done, Told, Fault, Answers, is_bad, all_good, told, more}
 use Rattle.attempt.specs.Setup.{Setup}

@@ -3,7 +3,7 @@ use Rattle.std.proofs.Common.{ℕ, zero, suc, ◌≡◌, ◌<◌, List, [], ◌�
 use Rattle.torn_block.specs.declared.write_steps.WriteCall.TheVariants.{CloseGate}
 use Rattle.paxos_block.specs.Saying.{Said as PBlock}
 use Rattle.paxos_block.specs.Row.{blank}
-use Rattle.paxos_block.specs.layouts.Votes.{greatest}
+use Rattle.paxos_block.specs.Votes.{greatest}
 use Rattle.attempt.specs.Calls.{Phase, Opening, One, Two, Putting, goal}
 use Rattle.attempt.specs.Answers.{Answered, on}
 use Rattle.attempt.specs.Setup.{Setup}

@@ -2,7 +2,7 @@
 use Rattle.std.specs.Prelude.{not}
 use Rattle.std.proofs.Common.{ℕ, ◌<◌, ◌≤◌, ◌≡◌, true, List, ◌∷◌, [], ◌++◌, ap, ◌∙◌, arith}
 use Rattle.std.proofs.lemmas.Bool.{le-ltb, ltb-false}
-use Rattle.paxos_block.specs.layouts.Votes.{highest_mbal_of_others}
+use Rattle.paxos_block.specs.Votes.{highest_mbal_of_others}
 use Rattle.paxos_block.proofs.VoteLemmas.{greatest_is_greatest}
 use Rattle.attempt.specs.Calls.{Two}
 use Rattle.attempt.specs.Answers.{Answered, on, row_in}

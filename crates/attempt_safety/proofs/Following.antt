@@ -5,7 +5,7 @@ use Rattle.std.proofs.Common.{ℕ, ◌+◌, ◌<◌, ◌≤◌, ◌≡◌, inl, 
 use Rattle.std.proofs.lemmas.Bool.{cases_eq, both_ways, lt-ltb, ltb-true}
 use Rattle.std.proofs.lemmas.List.Elements.{All-nil, All-append}
 use Rattle.paxos_block.specs.Row.{DecodedBlock}
-use Rattle.paxos_block.specs.layouts.Votes.{highest_mbal_of_others}
+use Rattle.paxos_block.specs.Votes.{highest_mbal_of_others}
 use Rattle.paxos_block.proofs.VoteLemmas.{greatest_is_greatest}
 use Rattle.attempt.specs.Calls.{Phase, Opening, One, Two, Kind, start, goal}
 use Rattle.attempt.specs.Answers.{Heard, Told, Answered, Answers, on, is_bad, told, row_in, more}

@@ -6,7 +6,7 @@ use Rattle.torn_block.specs.declared.layout.TheConstants.{HOSTS}
 use Rattle.paxos_block.specs.Saying.{Said as PBlock}
 use Rattle.paxos_block.specs.Row.{DecodedBlock}
 use Rattle.torn_block.specs.Layout.{Version, cluster_version, hosts_in}
-use Rattle.paxos_block.specs.layouts.Votes.{says_in, highest_mbal, highest_mbal_of_others, later_of, latest_below, latest_in}
+use Rattle.paxos_block.specs.Votes.{says_in, highest_mbal, highest_mbal_of_others, later_of, latest_below, latest_in}
 use Rattle.paxos_block.proofs.VoteLemmas.{greatest_is_greatest}
 use Rattle.attempt.specs.Calls.{Opening, One}
 use Rattle.attempt.specs.Answers.{Told, Answers, more}

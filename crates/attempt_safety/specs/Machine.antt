@@ -2,7 +2,7 @@
 use Rattle.std.specs.Prelude.{ℕ, List, [], ◌∷◌, slice_index_or}
 use Rattle.paxos_block.specs.Saying.{Said as PBlock}
 use Rattle.paxos_block.specs.Row.{DecodedBlock}
-use Rattle.paxos_block.specs.layouts.Votes.{says_in, greatest}
+use Rattle.paxos_block.specs.Votes.{says_in, greatest}
 use Rattle.attempt.specs.Calls.{Phase, Opening, One, Two}
 use Rattle.attempt.specs.Answers.{Answers, row_in}
 use Rattle.attempt.specs.Setup.{Setup}

@@ -5,11 +5,12 @@ use Rattle.std.specs.List.{range_with_len}
 use Rattle.std.specs.Option.{option_map}
 use Rattle.std.proofs.lemmas.List.{length-set, get_or-set_same, get_or-set_other}
 use Rattle.disk.specs.Disk as device
+use Rattle.torn_block.specs.Layout.{area_place, cluster_version}
 use Rattle.torn_block.specs.declared.block.Block128.{Block128}
 use Rattle.torn_block.specs.Block.{number_in, value_of}
 use Rattle.torn_block.specs.Damage.{block_of}
 use Rattle.torn_block.specs.Plan.{IsReading}
-use Rattle.paxos_block.specs.Places.{place_of, BeatOf, area_place}
+use Rattle.paxos_block.specs.Places.{place_of, BeatOf}
 use Rattle.paxos_block.specs.Row.{number_or_zero}
 use Rattle.attempt.specs.Heard.{told}
 use Rattle.attempt.proofs.Hearing.{history_more}
@@ -44,8 +45,8 @@ counted None = refl
 counted (Some value) = refl
 
 -- the own block in an area that was read is to be written
-pub to_write : (s : Setup) (area : List ℕ) (block : Block128) → IsReading (block_of s.host area) block → IsToWrite (duty s) area block beat_body
-to_write s area block reads = record { due = refl; read = reads; sequence = ap number_or_zero reads.number ∙ counted (value_of (block_of s.host area)); writes = refl }
+pub to_write : (s : Setup) (area : List ℕ) (block : Block128) → IsReading cluster_version (block_of cluster_version s.host area) block → IsToWrite (duty s) area block beat_body
+to_write s area block reads = record { due = refl; read = reads; sequence = ap number_or_zero reads.number ∙ counted (value_of cluster_version (block_of cluster_version s.host area)); writes = refl }
 
 -- the first items of a list, one by one
 first_are : (xs : List (Option (List ℕ))) (a k : ℕ) (g : ℕ → Option (List ℕ)) → k ≤ length xs → ((i : ℕ) → i < k → get_or xs i None ≡ g (a + i)) → take k xs ≡ map g (range_with_len a k)
@@ -58,7 +59,7 @@ first_are (x ∷ xs) a (suc k) g room same =
     λ i. first i ∷ rest i
 
 -- an answer of the kind that the call may get
-fits_it : (call : device.Call) (heard : code_heard.Heard (List ℕ)) → Fits call (calls.heard_of heard) → Fits call (heard_of heard)
+fits_it : (call : device.Call) (heard : code_heard.Heard (List ℕ)) → Fits call (calls.heard_of cluster_version heard) → Fits call (heard_of heard)
 fits_it call (answer.Booted boot) fits = fits_too call (device.Booted boot.number) fits
 fits_it call answer.Done fits = fits_too call device.Done fits
 fits_it call (answer.Told area) fits = fits_too call (device.Told area.now) fits
@@ -111,7 +112,7 @@ module _ (host : ℕ) (r : Round) (kept : List (Option (List ℕ))) where
         }
 
     -- it told the area
-    sound : r.stage ≡ stage.Reading → (area : List ℕ) → (block : Block128) → IsReading (block_of host area) block → (new : Round) → new ≡ rounds.begins r block beat_body → new.disks ≡ r.disks
+    sound : r.stage ≡ stage.Reading → (area : List ℕ) → (block : Block128) → IsReading cluster_version (block_of cluster_version host area) block → (new : Round) → new ≡ rounds.begins r block beat_body → new.disks ≡ r.disks
         → Follows (more f r.disk (Told (Some area))) (notes_in host new (slice_set kept r.disk (Some (counters_in area))))
     sound st area block reads new step disks =
         let x : Heard = Told (Some area) in
@@ -142,19 +143,19 @@ module _ (host : ℕ) (r : Round) (kept : List (Option (List ℕ))) where
           follows = subst (λ (g : Answers). Follows g (notes_in host new read)) (sym (on_more answers answered)) follows;
         }
 
-    pub hears : (x : code_heard.Heard (List ℕ)) → Fits (call_due n).1 (calls.heard_of x) → ((bytes : _) → x ≡ answer.Told bytes → ⊥) → (new : Round) → new ≡ rounds.hears r x → new.disks ≡ r.disks → LeadsTo of (answers ++ answer_of n x ∷ []) (notes_in host new kept)
+    pub hears : (x : code_heard.Heard (List ℕ)) → Fits (call_due n).1 (calls.heard_of cluster_version x) → ((bytes : _) → x ≡ answer.Told bytes → ⊥) → (new : Round) → new ≡ rounds.hears r x → new.disks ≡ r.disks → LeadsTo of (answers ++ answer_of n x ∷ []) (notes_in host new kept)
     hears x fits other new step disks =
         let fits_too = fits_it (call_due n).1 x fits in
         leads (heard_of x) fits_too new kept disks (others (on answers) led.follows going below x fits_too other new step disks)
 
     -- what was read fits
     fits_read : r.stage ≡ stage.Reading → (o : Option (List ℕ)) → Fits (call_due n).1 (Told o)
-    fits_read st o = subst (λ (q : Stage). Fits (rounds.call_at q area_place (place_of (BeatOf host)) r) (Told o)) (sym st) tt
+    fits_read st o = subst (λ (q : Stage). Fits (rounds.call_at q (area_place cluster_version) (place_of cluster_version (BeatOf host)) r) (Told o)) (sym st) tt
 
     pub reads_damage : r.stage ≡ stage.Reading → (new : Round) → new ≡ rounds.drops r → new.disks ≡ r.disks → LeadsTo of (answers ++ record { disk = r.disk; heard = Told None } ∷ []) (notes_in host new kept)
     reads_damage st new step disks = leads (Told None) (fits_read st None) new kept disks (damaged (on answers) led.follows going below new step disks)
 
-    pub reads : r.stage ≡ stage.Reading → (area : List ℕ) → (block : Block128) → IsReading (block_of host area) block → (new : Round) → new ≡ rounds.begins r block beat_body → new.disks ≡ r.disks
+    pub reads : r.stage ≡ stage.Reading → (area : List ℕ) → (block : Block128) → IsReading cluster_version (block_of cluster_version host area) block → (new : Round) → new ≡ rounds.begins r block beat_body → new.disks ≡ r.disks
         → LeadsTo of (answers ++ record { disk = r.disk; heard = Told (Some area) } ∷ []) (notes_in host new (slice_set kept r.disk (Some (counters_in area))))
     reads st area block are new step disks =
         leads (Told (Some area)) (fits_read st (Some area)) new (slice_set kept r.disk (Some (counters_in area))) disks (sound (on answers) led.follows going below st area block are new step disks)

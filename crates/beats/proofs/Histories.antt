@@ -1,6 +1,7 @@
 -- A history of a beat by its last answer: nine calls a disk, and the call that is due.
 use Rattle.std.proofs.Common.{ℕ, ◌*◌, ◌<◌, ◌≤◌, ◌≡◌, Some, List, [], length}
 use Rattle.disk.specs.Disk as device
+use Rattle.torn_block.specs.Layout.{cluster_version}
 use Rattle.paxos_block.specs.Row.{decoded_row}
 use Rattle.attempt.specs.Answers.{heard_as as heard_by_attempts}
 use Rattle.attempt.proofs.Hearing.{fits_by}
@@ -24,7 +25,7 @@ starts s = rounds.starts (duty s) (λ f. Beaten (readings s f)) NoMajority
 
 -- an answer of the kind that a call of an attempt may get is so for a beat too
 pub fits_too : (call : device.Call) (answer : device.Answer) → Fits call (heard_by_attempts answer) → Fits call (heard_as answer)
-fits_too call answer fits = fits_by decoded_row area_said call answer fits
+fits_too call answer fits = fits_by (decoded_row cluster_version) area_said call answer fits
 
 pub bound : (s : Setup) (heard : List Answered) → IsHistory s heard → length heard ≤ 9 * s.disks
 bound s = rounds.bound (duty s) (λ f. Beaten (readings s f)) NoMajority

@@ -1,6 +1,7 @@
 -- Of the headline. What a beat hears of its disks, and what follows from the answers of one disk alone.
 use Rattle.std.specs.Prelude.{ℕ, List, [], slice_get, Option, Some, None, option_and_then, option_map}
 use Rattle.disk.specs.Disk as device
+use Rattle.torn_block.specs.Layout.{cluster_version}
 use Rattle.torn_block.specs.Damage.{block_of}
 use Rattle.attempt.specs.Heard as hearing
 use Rattle.attempt.specs.Heard.{heard_by}
@@ -32,7 +33,7 @@ reading_of a = option_map counters_in (area_in a)
 
 abbrev pub own_block_in : ℕ → Option (List ℕ) → List ℕ
 own_block_in host None = []
-own_block_in host (Some area) = block_of host area
+own_block_in host (Some area) = block_of cluster_version host area
 
 -- the own heartbeat block in it
 abbrev pub own_block : ℕ → List Heard → List ℕ

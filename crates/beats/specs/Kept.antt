@@ -1,7 +1,8 @@
 -- What a beat keeps, and when that is what follows from a list of answers.
 use Rattle.std.specs.Prelude.{◌≡◌, ◌<◌, ◌≤◌, ℕ, List, length, take, slice_index_or, Option, None}
 use Rattle.disk.specs.Disk as device
-use Rattle.paxos_block.specs.Places.{place_of, BeatOf, area_place}
+use Rattle.torn_block.specs.Layout.{area_place, cluster_version}
+use Rattle.paxos_block.specs.Places.{place_of, BeatOf}
 use Rattle.beats.specs.Answers.{Answered, Answers, on, reading_of}
 use Rattle.beats.specs.Calls.{heard_of}
 use Rattle.beats.specs.History.{IsHistory}
@@ -19,7 +20,7 @@ setup_of n = record { host = n.host; disks = n.disks }
 
 -- the call that is due, on the disk that is visited
 abbrev pub call_due : Notes → ℕ × device.Call
-call_due n = (n.disk, rounds.call_at n.round.stage area_place (place_of (BeatOf n.host)) n.round)
+call_due n = (n.disk, rounds.call_at n.round.stage (area_place cluster_version) (place_of cluster_version (BeatOf n.host)) n.round)
 
 -- an answer to it
 abbrev pub answer_of : Notes → code_heard.Heard (List ℕ) → Answered

@@ -2,8 +2,9 @@
 use Rattle.std.specs.Prelude.{ℕ, Bool, true, false, List, map, Option}
 use Rattle.std.specs.List.{range_with_len}
 use Rattle.disk.specs.Disk as device
+use Rattle.torn_block.specs.Layout.{area_place, cluster_version}
 use Rattle.torn_block.specs.Stage.{Write128}
-use Rattle.paxos_block.specs.Places.{place_of, BeatOf, area_place}
+use Rattle.paxos_block.specs.Places.{place_of, BeatOf}
 use Rattle.heartbeat.specs.Beat.{beat_body, counter_of}
 use Rattle.beats.specs.Answers.{Heard, Answers, own_block_in, reading_of}
 use Rattle.rounds.specs.Status as rounds
@@ -18,8 +19,8 @@ pub record Setup : Type 0 where
 abbrev pub duty : Setup → Duty (List ℕ)
 duty s = record {
   disks = s.disks;
-  reads = area_place;
-  place = place_of (BeatOf s.host);
+  reads = area_place cluster_version;
+  place = place_of cluster_version (BeatOf s.host);
   is_due = λ area. true;
   is_so = λ area. false;
   sequence = λ area. counter_of (own_block_in s.host area);

@@ -1,10 +1,10 @@
 ghost use Rattle.std.specs.Prelude.{◌≡◌, ◌<◌, ◌≤◌, ◌+◌, ◌*◌, ◌++◌, ◌∷◌, [], List, Some, None, length};
 ghost use Rattle.std.specs.Option.{option_map};
 ghost use Rattle.disk.specs.Disk as device;
+ghost use Rattle.torn_block.specs.Layout.{area_place, cluster_version};
 ghost use Rattle.torn_block.specs.declared.layout.TheConstants.{HOSTS, DISKS, ROW_LENGTH};
 ghost use Rattle.torn_block.specs.Damage.{block_of};
 ghost use Rattle.torn_block.specs.Plan.{IsReading};
-ghost use Rattle.paxos_block.specs.Places.{area_place};
 ghost use Rattle.attempt.specs.History.{Fits};
 ghost use Rattle.phases.specs.Calls as calls;
 ghost use Rattle.phases.specs.Calls.{call_of_need, IsWithin};
@@ -71,9 +71,9 @@ impl Beat {
         requires { self.now.end ≡ None }
         // The call that the definition names after these answers, with the same boot number and bytes.
         ensures next { (s : Setup) (heard : List Answered) → LeadsTo s heard self.now →
-            next_call s (on heard) ≡ Some (call_of_need result) }
-        ensures due { call_of_need result ≡ call_due self.now }
-        ensures range { IsWithin (area_place + ROW_LENGTH) result.call }
+            next_call s (on heard) ≡ Some (call_of_need cluster_version result) }
+        ensures due { call_of_need cluster_version result ≡ call_due self.now }
+        ensures range { IsWithin cluster_version (area_place cluster_version + ROW_LENGTH) result.call }
         ensures disk { result.disk < self.now.disks }
     {
         self.round
@@ -83,7 +83,7 @@ impl Beat {
     /// Hears the answer to the call that is due.
     pub fn hear(&mut self, heard: &Heard<'_>)
         requires going { self.old.end ≡ None }
-        requires fits { Fits (call_due self.old).1 (calls.heard_of heard.now) }
+        requires fits { Fits (call_due self.old).1 (calls.heard_of cluster_version heard.now) }
         ensures leads { (s : Setup) (answers : List Answered) → LeadsTo s answers self.old →
             LeadsTo s (answers ++ answer_of self.old heard.now ∷ []) self.new }
         ensures bound { (s : Setup) (answers : List Answered) → LeadsTo s answers self.old →
@@ -145,7 +145,7 @@ fn ended(end: Option<rounds::End>) -> Option<End>
 // The host's own block in an area.
 fn own_block(host: u8, area: &[u8; ROW_LENGTH]) -> Block128
     requires { host < HOSTS }
-    ensures { IsReading (block_of host area.now) result }
+    ensures { IsReading cluster_version (block_of cluster_version host area.now) result }
 {
     let place = BLOCK_LENGTH * usize::from(host);
     read_block::<ClusterLayout>(&area[place..place + BLOCK_LENGTH])

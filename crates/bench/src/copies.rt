@@ -1,4 +1,5 @@
 ghost use Rattle.std.specs.Prelude.{◌≡◌, ◌≤◌, ◌<◌, ◌+◌, vec_len};
+ghost use Rattle.torn_block.specs.Layout.{cluster_version};
 ghost use Rattle.torn_block.specs.declared.layout.TheConstants.{COPY_LENGTH, DISKS, ROW_LENGTH, SLOTS};
 ghost use Rattle.paxos_block.specs.Places;
 
@@ -23,7 +24,7 @@ pub struct Copies {
 #[derive(Drop)]
 struct Buffer {
     bytes: Vec<u8>,
-    ghost whole: { vec_len bytes ≡ Places.image_length SLOTS },
+    ghost whole: { vec_len bytes ≡ Places.image_length cluster_version SLOTS },
 }
 
 impl Copies {
@@ -53,14 +54,14 @@ impl Buffer {
 
     /// Copies the row at this place.
     fn read(&self, at: usize, row: &mut [u8; ROW_LENGTH])
-        requires { at + ROW_LENGTH ≤ Places.image_length SLOTS }
+        requires { at + ROW_LENGTH ≤ Places.image_length cluster_version SLOTS }
     {
         row.copy_from_slice(&self.bytes[at..at + ROW_LENGTH]);
     }
 
     /// Puts a copy at this place: all but its first byte, and then that.
     fn write(&mut self, at: usize)
-        requires { at + COPY_LENGTH ≤ Places.image_length SLOTS }
+        requires { at + COPY_LENGTH ≤ Places.image_length cluster_version SLOTS }
     {
         let copy = [BYTE; COPY_LENGTH];
         self.bytes[at + 1..at + COPY_LENGTH].copy_from_slice(&copy[1..]);

@@ -1,4 +1,5 @@
 ghost use Rattle.std.specs.Prelude.{◌≡◌, length};
+ghost use Rattle.torn_block.specs.Layout.{cluster_version};
 ghost use Rattle.torn_block.specs.declared.layout.TheConstants.{SLOTS};
 ghost use Rattle.paxos_block.specs.Places;
 ghost use Rattle.attempt.specs.History.{Fits};
@@ -15,7 +16,7 @@ use torn_block::{ClusterLayout, ROW_LENGTH, SLOTS};
 #[derive(Drop)]
 pub struct Image {
     disk: SimDisk,
-    ghost whole: { length disk.disk.bytes ≡ Places.image_length SLOTS },
+    ghost whole: { length disk.disk.bytes ≡ Places.image_length cluster_version SLOTS },
 }
 
 impl Image {
@@ -28,16 +29,16 @@ impl Image {
 
     /// Makes the call. A read goes to `row`.
     pub fn answer<'a>(&mut self, call: &DeviceCall<'_>, row: &'a mut [u8; ROW_LENGTH]) -> Heard<'a>
-        requires { IsWithin (Places.image_length SLOTS) call.now }
-        ensures { Fits (device_call_of call.now) (heard_of result) }
+        requires { IsWithin cluster_version (Places.image_length cluster_version SLOTS) call.now }
+        ensures { Fits (device_call_of cluster_version call.now) (heard_of cluster_version result) }
     {
         answer_of(&mut self.disk, call, row)
     }
 }
 
 fn give_rooms(disk: &mut SimDisk) -> Result<(), DiskFault>
-    requires { length disk.old.disk.bytes ≡ Places.image_length SLOTS }
-    ensures { length disk.new.disk.bytes ≡ Places.image_length SLOTS }
+    requires { length disk.old.disk.bytes ≡ Places.image_length cluster_version SLOTS }
+    ensures { length disk.new.disk.bytes ≡ Places.image_length cluster_version SLOTS }
 {
     let boot = disk.attach()?;
     for slot in 0..SLOTS {

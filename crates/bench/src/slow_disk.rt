@@ -2,6 +2,7 @@ ghost use Rattle.std.specs.Prelude.{◌≡◌, ◌≤◌, All, IfOk, length, vec
 ghost use Rattle.disk.specs.Cut.{cut};
 ghost use Rattle.disk.specs.Disk.{device_of};
 ghost use Rattle.disk.specs.Simulated.{fresh_disk};
+ghost use Rattle.torn_block.specs.Layout.{cluster_version};
 ghost use Rattle.paxos_block.specs.Places.{image_length};
 
 use cluster::Config;
@@ -66,8 +67,11 @@ pub fn two_slow_disks<R: Clock>(
     config: Config,
 ) -> Result<Vec<SlowDisk<'_, R>>, NoMemory>
     ensures two { IfOk result (λ disks. vec_len disks ≡ 2) }
-    ensures large { IfOk result (λ disks. All (λ d. image_length config.slots ≤ length d.disk.disk.bytes) disks.items) }
-    ensures fresh { IfOk result (λ disks. All (λ d. cut (image_length config.slots) d.disk.disk ≡ fresh_disk (image_length config.slots)) disks.items) }
+    ensures large { IfOk result (λ disks.
+        All (λ d. image_length cluster_version config.slots ≤ length d.disk.disk.bytes) disks.items) }
+    ensures fresh { IfOk result (λ disks.
+        All (λ d. cut (image_length cluster_version config.slots) d.disk.disk ≡
+        fresh_disk (image_length cluster_version config.slots)) disks.items) }
 {
     let first = slow_disk(rt, alloc, config)?;
     let second = slow_disk(rt, alloc, config)?;
@@ -78,8 +82,9 @@ pub fn two_slow_disks<R: Clock>(
 }
 
 fn slow_disk<R: Clock>(rt: &R, alloc: Global, config: Config) -> Result<SlowDisk<'_, R>, NoMemory>
-    ensures large { IfOk result (λ d. image_length config.slots ≤ length d.disk.disk.bytes) }
-    ensures fresh { IfOk result (λ d. cut (image_length config.slots) d.disk.disk ≡ fresh_disk (image_length config.slots)) }
+    ensures large { IfOk result (λ d. image_length cluster_version config.slots ≤ length d.disk.disk.bytes) }
+    ensures fresh { IfOk result (λ d. cut (image_length cluster_version config.slots) d.disk.disk ≡
+        fresh_disk (image_length cluster_version config.slots)) }
 {
     let disk = simulated(alloc, config)?;
     Ok(SlowDisk { disk, rt })
@@ -87,8 +92,9 @@ fn slow_disk<R: Clock>(rt: &R, alloc: Global, config: Config) -> Result<SlowDisk
 
 /// A disk of zeros, as long as an image.
 fn simulated(alloc: Global, config: Config) -> Result<SimDisk, NoMemory>
-    ensures large { IfOk result (λ d. image_length config.slots ≤ length d.disk.bytes) }
-    ensures fresh { IfOk result (λ d. cut (image_length config.slots) d.disk ≡ fresh_disk (image_length config.slots)) }
+    ensures large { IfOk result (λ d. image_length cluster_version config.slots ≤ length d.disk.bytes) }
+    ensures fresh { IfOk result (λ d. cut (image_length cluster_version config.slots) d.disk ≡
+        fresh_disk (image_length cluster_version config.slots)) }
 {
     larger_disks_serve();
     SimDisk::new(alloc, config.image_length())

@@ -1,6 +1,7 @@
 -- The book of a disk that crashed or was lost.
 use Rattle.std.proofs.Common.{◌≡◌, ◌≤◌, ◌<◌, ℕ, IsTrue, Option, None, sym, ap, subst, ◌∙◌}
 use Rattle.disk.specs.Disk.{DiskState}
+use Rattle.torn_block.specs.Layout.{cluster_version}
 use Rattle.paxos_block.specs.Places.{image_length}
 use Rattle.slot_log.specs.Shape.{Shape}
 use Rattle.world.specs.Entry.{Filled, disk_step}
@@ -15,7 +16,7 @@ module _ {D : Type 0} (c : Shape) (old : BookState D) (is : IsBook c old) (close
   as_left = subst (λ (o : Option CallOutcome). IsFollowedBy o old.row (disk_in c old.own) old.disk) closed is.disk
 
   -- and is so with the entry of what befell it
-  pub befell : (new : BookState D) (at : ℕ) (e : Filled) → new.own ≡ adds old.own at e → new.open_call ≡ None → IsTrue new.device.tells → image_length c.slots ≤ new.device.size
+  pub befell : (new : BookState D) (at : ℕ) (e : Filled) → new.own ≡ adds old.own at e → new.open_call ≡ None → IsTrue new.device.tells → image_length cluster_version c.slots ≤ new.device.size
       → new.disk ≡ disk_step old.disk e → IsBook c new
   befell new at e grown shut tells size left = record {
     number = subst (λ (o : Own). o.number < c.disks) (sym grown) is.number;

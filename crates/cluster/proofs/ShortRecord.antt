@@ -5,10 +5,10 @@ use Rattle.std.proofs.Common.{ℕ, zero, suc, ◌+◌, ◌≡◌, ◌≢◌, Boo
 use Rattle.std.proofs.lemmas.Bool.{eqb-true}
 use Rattle.std.proofs.lemmas.Option.{slice_get-map}
 use Rattle.disk.specs.Simulated.{fresh_disk}
-use Rattle.torn_block.specs.layouts.Block.{sequence_of, body_of, number_bytes, tail_with}
-use Rattle.torn_block.specs.layouts.Place.{copy_in}
-use Rattle.paxos_block.specs.layouts.Row.{decoded_row}
-use Rattle.paxos_block.specs.layouts.Saying.{zeros, heading, body_saying, number_at, claim_of, is_said}
+use Rattle.torn_block.specs.Block.{sequence_of, body_of, number_bytes, tail_with}
+use Rattle.torn_block.specs.Place.{copy_in}
+use Rattle.paxos_block.specs.Row.{decoded_row}
+use Rattle.paxos_block.specs.Saying.{zeros, heading, body_saying, number_at, claim_of, is_said}
 use Rattle.lock_command.specs.declared.command.Command.{Command}
 use Rattle.lock_command.specs.Command.{number}
 use Rattle.lock_command.specs.Reading.{lock_at, request_at, mode_of, name_at, enqueue_at, action_at, command_at}

@@ -4,6 +4,7 @@ use Rattle.disk.specs.Disk.{DiskState, Device, Answer, Call, Step}
 use Rattle.disk.specs.Disk as device
 use Rattle.disk.specs.Cut.{cut}
 use Rattle.disk.specs.Steps.{WritesOn}
+use Rattle.torn_block.specs.Layout.{cluster_version}
 use Rattle.paxos_block.specs.Places.{image_length}
 use Rattle.slot_log.specs.Shape.{Shape}
 use Rattle.world.specs.Entry.{disk_after}
@@ -15,7 +16,7 @@ use Rattle.cluster.specs.declared.touched.CallOutcome.TheVariants.{Booted, Done,
 
 -- an image on a disk, which may be larger
 abbrev pub image_on : Shape → DiskState → DiskState
-image_on c disk = cut (image_length c.slots) disk
+image_on c disk = cut (image_length cluster_version c.slots) disk
 
 -- the disk's number and its entries, the disk as its own kind tells it and as every disk does, the image on it, the call that is open, and the row that was read last
 pub record BookState (D : Type 0) : Type 0 where
@@ -50,7 +51,7 @@ IsFollowedBy (Some outcome) row left disk = Follows (answer_in outcome row) left
 pub record IsBook {D : Type 0} (c : Shape) (b : BookState D) : Type 0 where
   pub number : b.own.number < c.disks
   pub tells : IsTrue b.device.tells
-  pub size : image_length c.slots ≤ b.device.size
+  pub size : image_length cluster_version c.slots ≤ b.device.size
   pub disk : IsFollowedBy b.open_call b.row (disk_in c b.own) b.disk
 
 -- with this answer, the seat's next call, which is on disk k, takes the one disk into the other

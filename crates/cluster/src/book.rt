@@ -1,5 +1,6 @@
 ghost use Rattle.std.specs.Prelude.{◌≡◌, ◌↔◌, ◌≤◌, ◌<◌, ◌^◌, [], true, false, IsTrue, None, Some, is_some};
 ghost use Rattle.disk.specs.Cut.{IsInFirst};
+ghost use Rattle.torn_block.specs.Layout.{cluster_version};
 ghost use Rattle.paxos_block.specs.Places.{image_length};
 ghost use Rattle.world.specs.World.{opening_disk};
 ghost use Rattle.cluster_tie.specs.Parts.{own_of};
@@ -30,6 +31,7 @@ pub struct DiskBook<N: ClusterName, D: Disk> {
 impl<N: ClusterName, D: Disk> Model for DiskBook<N, D> {
     ghost use Rattle.std.specs.Prelude.{◌≡◌};
     ghost use Rattle.disk.specs.Cut.{HasFirst};
+    ghost use Rattle.torn_block.specs.Layout.{cluster_version};
     ghost use Rattle.paxos_block.specs.Places.{image_length};
     ghost use Rattle.cluster.specs.Book.{BookState, IsBook, image_on};
 
@@ -39,7 +41,7 @@ impl<N: ClusterName, D: Disk> Model for DiskBook<N, D> {
 
     ghost invariant = { λ b. record {
       number : b.tie.number ≡ b.number;
-      whole : HasFirst (image_length N.shape.slots) (D.state b.disk);
+      whole : HasFirst (image_length cluster_version N.shape.slots) (D.state b.disk);
       so : IsBook N.shape (record { own = b.tie; medium = b.disk; device = D.device b.disk; disk = image_on N.shape (D.state b.disk); open_call = b.open_call; row = b.row });
     } };
 }
@@ -51,7 +53,7 @@ impl<N: ClusterName, D: Disk> DiskBook<N, D> {
         requires tie { tie ≡ own_of number [] }
         requires number { number < N.shape.disks }
         requires tells { IsTrue (D.device disk).tells }
-        requires large { image_length N.shape.slots ≤ (D.device disk).size }
+        requires large { image_length cluster_version N.shape.slots ≤ (D.device disk).size }
         requires fresh { image_on N.shape (D.state disk) ≡ opening_disk N.shape }
         ensures own { result.own ≡ own_of number [] }
         ensures closed { result.open_call ≡ None }
@@ -123,10 +125,10 @@ fn make<N: ClusterName, D: Disk>(
 ) -> CallOutcome
     requires busy { idles (host_in N.shape seat.now) ≡ false }
     requires tells { IsTrue (D.device disk.old).tells }
-    requires large { image_length N.shape.slots ≤ (D.device disk.old).size }
+    requires large { image_length cluster_version N.shape.slots ≤ (D.device disk.old).size }
     ensures made { Makes N.shape seat.now (due_in N.shape seat.now).0 (answer_in result row.new) (D.state disk.old) (D.state disk.new) }
     // It stays within the image.
-    ensures within { IsInFirst (image_length N.shape.slots) (due_in N.shape seat.now).1 }
+    ensures within { IsInFirst (image_length cluster_version N.shape.slots) (due_in N.shape seat.now).1 }
     ensures one { D.gives disk.old (due_in N.shape seat.now).1 (answer_in result row.new) disk.new }
     ensures device { D.device disk.new ≡ D.device disk.old }
 {

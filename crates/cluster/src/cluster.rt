@@ -1,5 +1,6 @@
 ghost use Rattle.std.specs.Prelude.{◌≡◌, ◌⊎◌, ◌≤◌, ◌<◌, false, [], All, IsTrue, IfOk, IfErr, OnOk, Some, None, vec_len, map, replicate};
 ghost use Rattle.disk.specs.Simulated.{fresh_disk};
+ghost use Rattle.torn_block.specs.Layout.{cluster_version};
 ghost use Rattle.paxos_block.specs.Places.{image_length};
 ghost use Rattle.host.specs.Host.{idles};
 ghost use Rattle.world.specs.World.{opening_disk};
@@ -47,7 +48,7 @@ impl<'a, N: ClusterName, D: Disk + Drop> Cluster<'a, N, D> {
     ) -> Result<Cluster<'a, N, D>, NoMemory>
         requires as_many { vec_len disks ≡ N.shape.disks }
         requires tell { All (λ d. IsTrue (D.device d).tells) disks.items }
-        requires large { All (λ d. image_length N.shape.slots ≤ (D.device d).size) disks.items }
+        requires large { All (λ d. image_length cluster_version N.shape.slots ≤ (D.device d).size) disks.items }
         requires fresh { All (λ d. image_on N.shape (D.state d) ≡ opening_disk N.shape) disks.items }
     {
         let Foundation {
@@ -134,7 +135,8 @@ impl<'a, N: ClusterName> Cluster<'a, N, SimDisk> {
 }
 
 fn fresh_disks(alloc: Global, config: Config) -> Result<Vec<SimDisk>, NoMemory>
-    ensures { IfOk result (λ disks. disks.items ≡ replicate config.disks (record { disk = fresh_disk (image_length config.slots); failing = None; failures = 0 })) }
+    ensures { IfOk result (λ disks. disks.items ≡
+        replicate config.disks (record { disk = fresh_disk (image_length cluster_version config.slots); failing = None; failures = 0 })) }
 {
     let count = usize::from(config.disks());
     let mut disks = Vec::with_capacity(alloc, count)?;
@@ -154,7 +156,7 @@ fn books_of<N: ClusterName, D: Disk + Drop>(
     requires as_many { vec_len disks ≡ N.shape.disks }
     requires few { N.shape.disks < 256 }
     requires tell { All (λ d. IsTrue (D.device d).tells) disks.items }
-    requires large { All (λ d. image_length N.shape.slots ≤ (D.device d).size) disks.items }
+    requires large { All (λ d. image_length cluster_version N.shape.slots ≤ (D.device d).size) disks.items }
     requires fresh { All (λ d. image_on N.shape (D.state d) ≡ opening_disk N.shape) disks.items }
     ensures { IfOk result (λ books. vec_len books ≡ N.shape.disks) }
 {

@@ -1,5 +1,6 @@
 ghost use Rattle.std.specs.Prelude.{◌≡◌, ◌-◌, ◌++◌, ◌∷◌, [], Some, None, length};
 ghost use Rattle.world.specs.Plain.{kind_of};
+ghost use Rattle.torn_block.specs.Layout.{cluster_version};
 ghost use Rattle.phases.specs.Calls.{device_call_of};
 ghost use Rattle.cluster_tie.specs.Parts.{adds};
 ghost use Rattle.cluster.specs.Book.{answer_in, disk_in, Makes};
@@ -76,7 +77,7 @@ fn commit_as<E: TiedEntry, N: ClusterName, D: Disk>(
 
 // The kind of a device call.
 fn kind(call: &DeviceCall<'_>) -> CallKind
-    ensures { result ≡ kind_of (device_call_of call.now) }
+    ensures { result ≡ kind_of (device_call_of cluster_version call.now) }
 {
     match call {
         DeviceCall::Attach => CallKind::Attach,

@@ -3,6 +3,7 @@ ghost use Rattle.attempt.specs.History.{Fits};
 ghost use Rattle.lock_table.specs.Apply.{table_after};
 ghost use Rattle.lock_table.specs.Picture.{IsPictureOf};
 ghost use Rattle.beats.specs.Calls.{device_answer};
+ghost use Rattle.torn_block.specs.Layout.{cluster_version};
 ghost use Rattle.paxos_block.specs.Places.{image_length};
 ghost use Rattle.phases.specs.Calls.{call_of_need, heard_of, IsWithin};
 ghost use Rattle.host.specs.Host.{Memory, idles, said_of, learned_of, next_of, hears_from};
@@ -104,9 +105,10 @@ impl<N: ClusterName> HostSeat<N> {
     #[inline(always)]
     pub(crate) fn call(&self) -> Need<'_>
         requires { idles (host_in N.shape self.now) ≡ false }
-        ensures next { next_of N.shape self.now.number (host_in N.shape self.now) ≡ Some (call_of_need result) }
-        ensures due { call_of_need result ≡ due_in N.shape self.now }
-        ensures range { IsWithin (image_length N.shape.slots) result.call }
+        ensures next { next_of N.shape self.now.number (host_in N.shape self.now) ≡
+            Some (call_of_need cluster_version result) }
+        ensures due { call_of_need cluster_version result ≡ due_in N.shape self.now }
+        ensures range { IsWithin cluster_version (image_length cluster_version N.shape.slots) result.call }
         ensures disk { result.disk < N.shape.disks }
     {
         self.core.call()
@@ -122,7 +124,7 @@ pub(crate) fn hear(
     place: usize,
 )
     requires busy { is_idle core.old ≡ false }
-    requires fits { Fits (due_call core.old).1 (heard_of heard.now) }
+    requires fits { Fits (due_call core.old).1 (heard_of cluster_version heard.now) }
     // A beat, a marking and a look bring no receipt.
     requires room { is_nothing core.old.beside ≡ true → vec_len acks.old < vec_capacity acks.old }
     ensures leads { (c : Shape) (h : ℕ) (m : Memory) → LeadsTo c h m core.old →

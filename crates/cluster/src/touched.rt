@@ -3,6 +3,7 @@ ghost use Rattle.disk.specs.Disk.{DiskState, Call, Step};
 ghost use Rattle.attempt.specs.Answers.{heard_as};
 ghost use Rattle.attempt.specs.History.{Fits};
 ghost use Rattle.beats.specs.Calls.{device_answer};
+ghost use Rattle.torn_block.specs.Layout.{cluster_version};
 ghost use Rattle.phases.specs.Calls.{heard_of};
 ghost use Rattle.world.specs.Plain.{fault_in};
 ghost use Rattle.cluster.specs.Book.{answer_in};
@@ -45,8 +46,10 @@ impl CallOutcome {
     // What the host hears.
     pub(crate) fn heard<'a>(&self, row: &'a [u8; ROW_LENGTH]) -> Heard<'a>
         ensures answer { device_answer result ≡ answer_in self.now row.now }
-        ensures same { heard_of result ≡ heard_as (answer_in self.now row.now) }
-        ensures fits { (old new : DiskState) (call : Call) → Step old call (answer_in self.now row.now) new → Fits call (heard_of result) }
+        ensures same { heard_of cluster_version result ≡ heard_as (answer_in self.now row.now) }
+        ensures fits { (old new : DiskState) (call : Call) →
+            Step old call (answer_in self.now row.now) new →
+            Fits call (heard_of cluster_version result) }
     {
         match self {
             CallOutcome::Booted(boot) => Heard::Booted(*boot),

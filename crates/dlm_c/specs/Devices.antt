@@ -1,9 +1,10 @@
 -- Devices that several machines use, as C names them and is told of them.
 use Rattle.std.specs.Prelude.{◌≡◌, ◌≢◌, ◌==◌, ◌≤◌, ◌+◌, ◌-◌, ◌^◌, ◌⊎◌, ℕ, ℤ, List, length}
+use Rattle.torn_block.specs.Layout.{cluster_version}
 use Rattle.torn_block.specs.declared.layout.TheConstants.{BLOCK_LENGTH}
 use Rattle.paxos_block.specs.Headers as image
 use Rattle.paxos_block.specs.Places as images
-use Rattle.paxos_block.specs.layouts.Saying.{flag_of}
+use Rattle.paxos_block.specs.Saying.{flag_of}
 use Rattle.sectors.specs.declared.geometry.Geometry.{Geometry}
 use Rattle.sectors.specs.declared.header.DeviceHeader.{DeviceHeader}
 use Rattle.sectors.specs.declared.place.SectorRange.{SectorRange}
@@ -43,8 +44,8 @@ header_of device disks cluster disk =
 -- the image that such a device shows: its length, and its first bytes
 abbrev pub image_of : DeviceHeader → HeaderBytes
 image_of header = record {
-  size = images.image_length header.geometry.slots;
-  bytes = image.header_saying (header_with header.disks header.geometry.slots header.cluster header.disk);
+  size = images.image_length cluster_version header.geometry.slots;
+  bytes = image.header_saying cluster_version (header_with header.disks header.geometry.slots header.cluster header.disk);
 }
 
 -- There may be such a device, and C is given its first bytes and its length; or there is none, and nothing is changed.

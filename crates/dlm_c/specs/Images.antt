@@ -1,5 +1,6 @@
 -- A folder as C found it, and the host that is opened over it.
 use Rattle.std.specs.Prelude.{◌≡◌, ◌≢◌, ◌≤◌, ◌<◌, ◌==◌, ◌⊎◌, ◌↔◌, ℕ, ℤ, List, min, length, slice_get, Option, Some, None, Result, Ok, Err, if◌then◌else◌}
+use Rattle.torn_block.specs.Layout.{cluster_version}
 use Rattle.torn_block.specs.declared.layout.TheConstants.{DISKS, HEADER_LENGTH}
 use Rattle.disk.specs.declared.fault.ImageFault.{ImageFault}
 use Rattle.disk.specs.declared.fault.ImageFault.TheVariants.{NotFormatted, WrongHeader, Unreadable, OldLayout}
@@ -27,7 +28,7 @@ long_of image = if image.is_device == 1 then min (told_length image.bytes) image
 
 -- it was read, and as those of the image of this number its first bytes are right: they say this header
 abbrev pub IsRead : ℕ → Image → Header → Type 0
-IsRead disk image header = (image.is_read ≡ 1) × IsRight disk (long_of image) image.bytes header
+IsRead disk image header = (image.is_read ≡ 1) × IsRight cluster_version disk (long_of image) image.bytes header
 
 -- it was read, and is right by the layout that images had before
 abbrev pub IsReadAsOld : ℕ → Image → Type 0

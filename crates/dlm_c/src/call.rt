@@ -1,5 +1,6 @@
 ghost use Rattle.std.specs.Prelude.{◌≡◌, ◌<◌, IfSome, None, length};
 ghost use Rattle.disk.specs.Disk.{Write};
+ghost use Rattle.torn_block.specs.Layout.{cluster_version};
 ghost use Rattle.torn_block.specs.declared.layout.TheConstants.{COPY_LENGTH};
 ghost use Rattle.std.specs.Option.{option_map};
 ghost use Rattle.attempt.specs.History.{Fits};
@@ -43,8 +44,9 @@ impl DueCall {
 
     /// The call that is due, unless it writes more bytes than there is room for.
     pub fn of(need: &Need<'_>, written: &mut Written) -> Option<DueCall>
-        ensures told { IfSome result (λ view. TellsDue view written.new.bytes (call_of_need need.now)) }
-        ensures long { result ≡ None → IsTooLong (call_of_need need.now).1 }
+        ensures told { IfSome result (λ view.
+            TellsDue view written.new.bytes (call_of_need cluster_version need.now)) }
+        ensures long { result ≡ None → IsTooLong (call_of_need cluster_version need.now).1 }
     {
         let disk = u32::from(need.disk);
         match &need.call {
@@ -111,8 +113,10 @@ pub struct ToldAnswer {
 impl ToldAnswer {
     /// The answer to this call. What was read is in the row.
     pub fn heard<'a>(&self, call: &DeviceCall<'_>, row: &'a Row) -> Option<Heard<'a>>
-        ensures told { option_map device_answer result ≡ answer_in (device_call_of call.now) self.now row.now.bytes }
-        ensures fits { IfSome result (λ heard. Fits (device_call_of call.now) (heard_of heard)) }
+        ensures told { option_map device_answer result ≡
+            answer_in (device_call_of cluster_version call.now) self.now row.now.bytes }
+        ensures fits { IfSome result (λ heard.
+            Fits (device_call_of cluster_version call.now) (heard_of cluster_version heard)) }
     {
         match self.outcome {
             0 => Some(self.success(call, row)),
@@ -124,8 +128,9 @@ impl ToldAnswer {
     }
 
     fn success<'a>(&self, call: &DeviceCall<'_>, row: &'a Row) -> Heard<'a>
-        ensures told { device_answer result ≡ success_in (device_call_of call.now) self.now.boot row.now.bytes }
-        ensures fits { Fits (device_call_of call.now) (heard_of result) }
+        ensures told { device_answer result ≡
+            success_in (device_call_of cluster_version call.now) self.now.boot row.now.bytes }
+        ensures fits { Fits (device_call_of cluster_version call.now) (heard_of cluster_version result) }
     {
         match call {
             DeviceCall::Attach => Heard::Booted(Boot { number: self.boot }),

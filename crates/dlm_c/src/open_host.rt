@@ -1,6 +1,7 @@
 ghost use Rattle.std.specs.Prelude.{◌≡◌, ◌≤◌, ◌<◌, ◌^◌, ◌↔◌, None, false, IsTrue, IfOk, IfErr, IfSome};
 ghost use Rattle.std.specs.Option.{SomeIff};
 ghost use Rattle.disk.specs.Disk.{Attach};
+ghost use Rattle.torn_block.specs.Layout.{cluster_version};
 ghost use Rattle.phases.specs.Calls.{call_of_need};
 ghost use Rattle.host.specs.Kept.{due_call, is_idle};
 ghost use Rattle.lock_command.specs.declared.number.TheConstants.{HOSTS};
@@ -202,7 +203,7 @@ impl OpenHost {
 
 /// Tells a call, unless it writes more bytes than there is room for.
 fn tell(need: &Need<'_>, call: &mut DueCall, written: &mut Written) -> i32
-    ensures { TellsCallDue (call_of_need need.now) call.new written.new.bytes result }
+    ensures { TellsCallDue (call_of_need cluster_version need.now) call.new written.new.bytes result }
 {
     match DueCall::of(need, written) {
         Some(due) => {

@@ -7,6 +7,7 @@ use Rattle.std.proofs.lemmas.List.{length-set}
 use Rattle.disk.specs.Disk.{Device, DiskState, Call, Answer}
 use Rattle.disk.specs.declared.fault.ImageFault.{ImageFault}
 use Rattle.disk.specs.declared.fault.ImageFault.TheVariants.{Unreadable}
+use Rattle.torn_block.specs.Layout.{cluster_version}
 use Rattle.paxos_block.specs.Places.{image_length}
 use Rattle.paxos_block.specs.declared.header.Header.{Header}
 use Rattle.dlm_images.specs.Sets.{Found}
@@ -140,7 +141,7 @@ module _ {D : Type 0} (device : D → Device) (state : D → DiskState) (slots :
         let first_at : slice_get old n ≡ Some x = sym (so_far.rest n (omega arith)) ∙ there in
         record {
           as_many = length-set now n y ∙ so_far.as_many;
-          large = set_each (λ (d : D). image_length slots ≤ (device d).size) now n y (subst (λ (d : Device). image_length slots ≤ d.size) (sym same) (so_far.large n x there)) so_far.large;
+          large = set_each (λ (d : D). image_length cluster_version slots ≤ (device d).size) now n y (subst (λ (d : Device). image_length cluster_version slots ≤ d.size) (sym same) (so_far.large n x there)) so_far.large;
           rest = λ k after. set_before now n k y (omega (arith, after)) ∙ so_far.rest k (omega (arith, after));
           whole = whole_more gives slots old now n y x first finding first_at there so_far.whole whole;
           devices = set_alike device now n x y there same ∙ so_far.devices;

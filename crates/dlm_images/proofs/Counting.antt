@@ -1,5 +1,6 @@
 -- How many calls an operation, a marking and a look make, and that what was learned stays and has room.
 use Rattle.std.proofs.Common.{◌≡◌, ◌<◌, ◌≤◌, ◌+◌, ◌-◌, ◌*◌, ℕ, zero, suc, Bool, true, false, List, [], ◌∷◌, ◌++◌, length, nat_lt, nat_le, Option, Some, None, refl, sym, ◌∙◌, ap, subst, arith, if◌then◌else◌, slice_get}
+use Rattle.torn_block.specs.Layout.{cluster_version}
 use Rattle.paxos_block.specs.Places.{image_length}
 use Rattle.std.proofs.Math.Nat.{mul-add, mul_assoc, mul_comm}
 use Rattle.std.proofs.lemmas.Bool.{ltb-true, leb-false}
@@ -423,7 +424,7 @@ module _ {D : Type 0} (gives : D → device.Call → device.Answer → D → Typ
   stays_within other may done = tt
 
   -- once it has ended, the host rests again
-  pub rests_then : (task : Task) → MayBegin old.core task → MayBeAsked task → (done : HasCarriedOut gives (λ c m. starts c m task) old new) → ((k : ℕ) (d : D) → slice_get new.disks k ≡ Some d → image_length new.core.learner.shape.slots ≤ size d) → Rests size new
+  pub rests_then : (task : Task) → MayBegin old.core task → MayBeAsked task → (done : HasCarriedOut gives (λ c m. starts c m task) old new) → ((k : ℕ) (d : D) → slice_get new.disks k ≡ Some d → image_length cluster_version new.core.learner.shape.slots ≤ size d) → Rests size new
   rests_then task may asked done large =
       let same : new.core.learner.shape ≡ old.core.learner.shape = same_shape gives (λ c m. starts c m task) old new rests.known done in record {
         known = known_then gives (λ c m. starts c m task) old new rests.known done;

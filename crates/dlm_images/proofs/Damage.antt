@@ -10,6 +10,7 @@ use Rattle.disk.specs.declared.fault.DiskFault.TheVariants.{Reset, Failed, Gone}
 use Rattle.disk.specs.Disk.{DiskState, Answer, Read, Attach, Step, Device, Told, read_answer, attach_answer}
 use Rattle.disk.specs.declared.boot.Boot.{Boot}
 use Rattle.dlm_images.specs.declared.check.Blocks.{Blocks}
+use Rattle.torn_block.specs.Layout.{cluster_version}
 use Rattle.paxos_block.specs.Row.{IsDamagedRow}
 use Rattle.heartbeat.specs.Beat.{IsDamagedArea}
 use Rattle.paxos_block.specs.Places.{area_of, row_of}
@@ -84,7 +85,7 @@ none_looked device before disk any old = record { device = refl; same = λ t. re
 -- one slot more
 pub one_slot_more : (device middle now : Device) (a b c : Option (List ℕ)) (disk slot : ℕ) (first any row_any : Bool) (old new newer : DiskState)
     → Looked device middle a b disk slot first any old new → now ≡ middle → (IsTrue middle.tells → newer ≡ new) → (IsTrue middle.tells → Appends b c (row_text disk new.bytes slot))
-    → (IsTrue middle.tells → IsTrue row_any ↔ IsDamagedRow (row_of slot new.bytes))
+    → (IsTrue middle.tells → IsTrue row_any ↔ IsDamagedRow cluster_version (row_of cluster_version slot new.bytes))
     → Looked device now a c disk (slot + 1) first (any || row_any) old newer
 one_slot_more device middle now a b c disk slot first any row_any old new newer so_far is same lined found =
     let tells : IsTrue device.tells → IsTrue middle.tells = λ t. subst (λ (d : Device). IsTrue d.tells) (sym so_far.device) t in
@@ -98,14 +99,14 @@ one_slot_more device middle now a b c disk slot first any row_any old new newer 
       found =
           λ t.
           below_more old.bytes slot any row_any (so_far.found t)
-          (subst (λ (d : DiskState). IsTrue row_any ↔ IsDamagedRow (row_of slot d.bytes)) (so_far.same t) (found (tells t)));
+          (subst (λ (d : DiskState). IsTrue row_any ↔ IsDamagedRow cluster_version (row_of cluster_version slot d.bytes)) (so_far.same t) (found (tells t)));
     }
 
 -- WHERE THE DEVICE FAILS
 
 -- behind the heartbeats
 pub image_left : (fault : CheckFault) (a b c : Option (List ℕ)) (disk slots : ℕ) (first beats any : Bool) (bytes : List ℕ)
-    → Appends a b (area_text disk bytes) → (IsTrue beats ↔ IsDamagedArea (area_of bytes)) → IsLeftInRows fault disk slots bytes b c (first || beats) any → IsLeftAt fault disk slots bytes a c first any
+    → Appends a b (area_text disk bytes) → (IsTrue beats ↔ IsDamagedArea (area_of cluster_version bytes)) → IsLeftInRows fault disk slots bytes b c (first || beats) any → IsLeftAt fault disk slots bytes a c first any
 image_left (Output error) a b c disk slots first beats any bytes area found rows = tt
 image_left (OfDevice fault) a b c disk slots first beats any bytes area found rows =
     inr (rows.0, rows.1, record { text = Appends-trans a b c (area_text disk bytes) (rows_text disk rows.0 bytes) area rows.2; found = image_is first beats any found rows.3 })

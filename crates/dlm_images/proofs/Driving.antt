@@ -16,6 +16,7 @@ use Rattle.lock_command.specs.Reading.{decoded}
 use Rattle.slot_log.specs.Shape.{Shape}
 use Rattle.slot_log.specs.declared.outcome.Refusal.TheVariants as refusal
 use Rattle.disk.specs.Disk as device
+use Rattle.torn_block.specs.Layout.{cluster_version}
 use Rattle.phases.specs.Calls.{IsWithin}
 use Rattle.phases.specs.declared.need.DeviceCall as code_call
 use Rattle.phases.specs.declared.need.DeviceCall.TheVariants as call
@@ -228,7 +229,7 @@ driven_out gives c old new more none driven =
 -- CALLS
 
 -- a longer device has the range too
-pub within_more : (n k : ℕ) (d : code_call.DeviceCall) → n ≤ k → IsWithin n d → IsWithin k d
+pub within_more : (n k : ℕ) (d : code_call.DeviceCall) → n ≤ k → IsWithin cluster_version n d → IsWithin cluster_version k d
 within_more n k call.Attach more within = tt
 within_more n k (call.Sync boot) more within = tt
 within_more n k (call.Read boot at) more within = omega (arith, more, within)

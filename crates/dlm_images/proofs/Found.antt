@@ -3,6 +3,7 @@ use Rattle.std.proofs.Common.{◌≡◌, ◌+◌, ◌∙◌, ℕ, zero, suc, Boo
 use Rattle.std.specs.Prelude.{◌↔◌, ◌⊎◌, Contains}
 use Rattle.std.specs.List.{list_any}
 use Rattle.std.proofs.lemmas.Bool.{or_cases, or_left, or_right, cases_lt, false≢true}
+use Rattle.torn_block.specs.Layout.{cluster_version}
 use Rattle.paxos_block.specs.Places.{row_of}
 use Rattle.paxos_block.specs.Row.{IsDamagedRow}
 use Rattle.dlm_images.specs.Damage.{IsDamagedBelow}
@@ -34,7 +35,7 @@ pub none_below : (any : Bool) (bytes : List ℕ) → IsTrue any ↔ (IsTrue any 
 none_below any bytes = ((λ t. inl t), (λ s. elim s [ inl t ↦ t | inr damage ↦ (let below = damage.1 in absurd (omega arith)) ]))
 
 -- one row more
-pub below_more : {P : Type 0} (bytes : List ℕ) (n : ℕ) (a b : Bool) → (IsTrue a ↔ (P ⊎ IsDamagedBelow n bytes)) → (IsTrue b ↔ IsDamagedRow (row_of n bytes)) → IsTrue (a || b) ↔ (P ⊎ IsDamagedBelow (n + 1) bytes)
+pub below_more : {P : Type 0} (bytes : List ℕ) (n : ℕ) (a b : Bool) → (IsTrue a ↔ (P ⊎ IsDamagedBelow n bytes)) → (IsTrue b ↔ IsDamagedRow cluster_version (row_of cluster_version n bytes)) → IsTrue (a || b) ↔ (P ⊎ IsDamagedBelow (n + 1) bytes)
 below_more bytes n a b before here =
     let both = either_is a b before here in (
       (λ t.
@@ -51,7 +52,7 @@ below_more bytes n a b before here =
                 both.1
                 (elim (cases_lt k n) [
                   | inl lt ↦ inl (inr (k, lt, damage.2))
-                  | inr ge ↦ (let same : k ≡ n = omega arith in inr (subst (λ (j : ℕ). IsDamagedRow (row_of j bytes)) same damage.2))
+                  | inr ge ↦ (let same : k ≡ n = omega arith in inr (subst (λ (j : ℕ). IsDamagedRow cluster_version (row_of cluster_version j bytes)) same damage.2))
                 ]))
           ]),
     )

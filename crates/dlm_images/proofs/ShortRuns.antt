@@ -3,10 +3,10 @@ use Rattle.std.specs.Prelude.{is_none}
 use Rattle.std.proofs.Common.{ℕ, zero, suc, ◌≡◌, true, Option, Some, None, List, [], ◌∷◌, ◌++◌, length, slice_get, slice_set, refl, sym, subst, ap, ◌∙◌, true≢false}
 use Rattle.disk.specs.Disk.{DiskState, Call, Attach, Read, Write, Sync, Answer, Booted, Told, Done, Fault, success_of, done_by}
 use Rattle.disk.specs.Simulated.{fresh_disk}
-use Rattle.torn_block.specs.layouts.Block.{sequence_of, body_of, number_bytes, tail_with}
-use Rattle.torn_block.specs.layouts.Place.{copy_in}
-use Rattle.paxos_block.specs.layouts.Row.{decoded_row}
-use Rattle.paxos_block.specs.layouts.Saying.{zeros, heading, body_saying, number_at, claim_of, is_said}
+use Rattle.torn_block.specs.Block.{sequence_of, body_of, number_bytes, tail_with}
+use Rattle.torn_block.specs.Place.{copy_in}
+use Rattle.paxos_block.specs.Row.{decoded_row}
+use Rattle.paxos_block.specs.Saying.{zeros, heading, body_saying, number_at, claim_of, is_said}
 use Rattle.attempt.specs.Answers.{heard_as}
 use Rattle.attempt.specs.History.{Fits}
 use Rattle.lock_command.specs.declared.command.Command.{Command}

@@ -6,6 +6,7 @@ use Rattle.disk.specs.Disk.{Device, DiskState, Call, Answer}
 use Rattle.disk.specs.declared.fault.DiskFault.{DiskFault}
 use Rattle.disk.specs.declared.fault.ImageFault.{ImageFault}
 use Rattle.disk.specs.declared.fault.ImageFault.TheVariants.{Unreadable}
+use Rattle.torn_block.specs.Layout.{cluster_version}
 use Rattle.torn_block.specs.declared.layout.TheConstants.{HOSTS}
 use Rattle.paxos_block.specs.Places.{area_of, row_of, image_length}
 use Rattle.paxos_block.specs.Damage as rows
@@ -25,15 +26,15 @@ use Rattle.dlm_images.specs.declared.check.Finding.TheVariants.{Image, Damaged}
 
 -- each disk has room for an image of so many slots
 abbrev pub AreLarge : {D : Type 0} → (D → Device) → ℕ → List D → Type 0
-AreLarge {D} device slots disks = (k : ℕ) (d : D) → slice_get disks k ≡ Some d → image_length slots ≤ (device d).size
+AreLarge {D} device slots disks = (k : ℕ) (d : D) → slice_get disks k ≡ Some d → image_length cluster_version slots ≤ (device d).size
 
 -- the row of some slot below this one is damaged
 abbrev pub IsDamagedBelow : ℕ → List ℕ → Type 0
-IsDamagedBelow slots bytes = (slot : ℕ) × (slot < slots) × IsDamagedRow (row_of slot bytes)
+IsDamagedBelow slots bytes = (slot : ℕ) × (slot < slots) × IsDamagedRow cluster_version (row_of cluster_version slot bytes)
 
 -- an image is damaged where its heartbeat area is, or the row of a slot
 abbrev pub IsDamagedImage : ℕ → List ℕ → Type 0
-IsDamagedImage slots bytes = IsDamagedArea (area_of bytes) ⊎ IsDamagedBelow slots bytes
+IsDamagedImage slots bytes = IsDamagedArea (area_of cluster_version bytes) ⊎ IsDamagedBelow slots bytes
 
 -- the line of a damaged block
 abbrev pub line_of : ℕ → Blocks → ℕ → List ℕ
@@ -49,10 +50,10 @@ abbrev pub lines_of : ℕ → Blocks → List Bool → List ℕ
 lines_of disk blocks damaged = flat_map (line_if disk blocks damaged) (range_with_len 0 HOSTS)
 
 abbrev pub area_text : ℕ → List ℕ → List ℕ
-area_text disk bytes = lines_of disk Heartbeat (areas.damaged_in (area_of bytes))
+area_text disk bytes = lines_of disk Heartbeat (areas.damaged_in (area_of cluster_version bytes))
 
 abbrev pub row_text : ℕ → List ℕ → ℕ → List ℕ
-row_text disk bytes slot = lines_of disk (Slot slot) (rows.damaged_in (row_of slot bytes))
+row_text disk bytes slot = lines_of disk (Slot slot) (rows.damaged_in (row_of cluster_version slot bytes))
 
 abbrev pub rows_text : ℕ → ℕ → List ℕ → List ℕ
 rows_text disk slots bytes = flat_map (row_text disk bytes) (range_with_len 0 slots)

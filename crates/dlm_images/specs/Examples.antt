@@ -2,6 +2,7 @@
 use Rattle.std.specs.Prelude.{false, [], ◌∷◌}
 use Rattle.disk.specs.Disk.{DiskState, Call, Answer, Booted, Told, Done, Fault, Succeeds}
 use Rattle.disk.specs.Simulated.{fresh_disk}
+use Rattle.torn_block.specs.Layout.{cluster_version}
 use Rattle.paxos_block.specs.Places.{image_length}
 use Rattle.lock_modes.specs.declared.mode.Mode.TheVariants.{Exclusive}
 use Rattle.lock_command.specs.declared.command.Command.{Command}
@@ -15,7 +16,7 @@ one_disk = record { disks = 1; slots = 1 }
 
 -- an image of it, with nothing in it
 abbrev pub blank : DiskState
-blank = fresh_disk (image_length 1)
+blank = fresh_disk (image_length cluster_version 1)
 
 -- through host 0 client 1 asks for lock 1 on db, exclusively
 abbrev pub takes_db : Command

@@ -5,6 +5,7 @@ use Rattle.disk.specs.declared.fault.ImageFault.TheVariants.{NotFormatted, Wrong
 use Rattle.disk.specs.Disk.{Call, Attach, Read, Answer, Booted, Told, Fault}
 use Rattle.disk.specs.declared.fault.DiskFault.{DiskFault}
 use Rattle.disk.specs.FileStates.{FileState, FileGives}
+use Rattle.torn_block.specs.Layout.{cluster_version}
 use Rattle.torn_block.specs.declared.layout.TheConstants.{HEADER_LENGTH}
 use Rattle.paxos_block.specs.declared.header.Header.{Header}
 use Rattle.paxos_block.specs.Headers.{IsRight, IsFormatted}
@@ -52,7 +53,7 @@ pub record ReadsHeader {D : Type 0} (gives : D → Call → Answer → D → Typ
   pub bytes : List ℕ
   pub boots : gives old Attach (Booted boot) attached
   pub tells : gives attached (Read boot 0 HEADER_LENGTH) (Told bytes) new
-  pub right : IsRight disk size bytes header
+  pub right : IsRight cluster_version disk size bytes header
 
 -- the device was asked for so many first bytes, and one of the two calls was answered with this fault
 abbrev pub FailsToTell : {D : Type 0} → (D → Call → Answer → D → Type 0) → ℕ → (old : D) → DiskFault → (new : D) → Type 0
@@ -69,7 +70,7 @@ ReadsNoHeader gives old disk size new Unreadable = (fault : DiskFault) × FailsT
 
 -- an image that is right is in use and as long as its header says; of one that is refused no call is carried out
 abbrev pub IsDiskOf : Result Header ImageFault → FileState → Type 0
-IsDiskOf (Ok header) disk = (disk.used ≡ true) × (disk.size ≡ image_length header.slots)
+IsDiskOf (Ok header) disk = (disk.used ≡ true) × (disk.size ≡ image_length cluster_version header.slots)
 IsDiskOf (Err fault) disk = disk.used ≡ false
 
 -- ALL OF THEM

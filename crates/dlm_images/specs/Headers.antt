@@ -1,24 +1,22 @@
 -- The header of an image, or why it has none: it may be right by the cluster's layout, or by the one that images had before.
 use Rattle.std.specs.Prelude.{◌==◌, ℕ, List, slice_index, if◌then◌else◌}
-use Rattle.torn_block.specs.Layout.{Version1, number_of}
+use Rattle.torn_block.specs.Layout.{Version1, number_of, cluster_version}
 use Rattle.paxos_block.specs.declared.header.Header.{Header}
-use Rattle.paxos_block.specs.Headers.{HasNoHeader, header_in}
+use Rattle.paxos_block.specs.Headers.{HasNoHeader, header_in, IsRight}
 use Rattle.paxos_block.specs.Places.{image_length}
-use Rattle.paxos_block.specs.layouts.Headers as by
-use Rattle.paxos_block.specs.layouts.Places as places
 use Rattle.dlm_images.specs.declared.header.TheConstants.{VERSION_AT}
 
 -- An image of this length, with these first bytes, is right as that of this disk by the layout that images had before.
 pub record IsOld (disk long : ℕ) (bytes : List ℕ) : Type 0 where
   pub header : Header
-  pub right : by.IsRight Version1 disk long bytes header
+  pub right : IsRight Version1 disk long bytes header
 
 -- The gate is open, and the header is right by neither layout.
 pub record HasWrongHeader (disk long : ℕ) (bytes : List ℕ) : Type 0 where
-  pub none : HasNoHeader disk long bytes
+  pub none : HasNoHeader cluster_version disk long bytes
   pub not_old : ¬ IsOld disk long bytes
 
 -- how long an image is by its first bytes, in the layout whose number stands in them
 abbrev pub told_length : List ℕ → ℕ
 told_length bytes =
-    if slice_index bytes VERSION_AT == number_of Version1 then places.image_length Version1 (header_in bytes).slots else image_length (header_in bytes).slots
+    if slice_index bytes VERSION_AT == number_of Version1 then image_length Version1 (header_in bytes).slots else image_length cluster_version (header_in bytes).slots

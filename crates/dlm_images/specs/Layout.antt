@@ -2,6 +2,7 @@
 use Rattle.std.specs.Prelude.{◌≡◌, ◌+◌, ◌<◌, ◌≤◌, ℕ, List, [], ◌∷◌, drop, replicate}
 use Rattle.disk.specs.Disk.{Call, Attach, Write, Sync, Answer, Booted, Done}
 use Rattle.disk.specs.FileStates.{FileState, FileGives}
+use Rattle.torn_block.specs.Layout.{cluster_version}
 use Rattle.torn_block.specs.declared.block.TheConstants.{OPEN_GATE}
 use Rattle.paxos_block.specs.declared.header.Header.{Header}
 use Rattle.paxos_block.specs.Headers.{header_saying}
@@ -14,7 +15,7 @@ header_of config cluster disk = record { disk = disk; disks = config.disks; slot
 
 -- its first bytes with a closed gate
 abbrev pub closed_header : Header → List ℕ
-closed_header header = 0 ∷ drop 1 (header_saying header)
+closed_header header = 0 ∷ drop 1 (header_saying cluster_version header)
 
 -- Zeros are written from this place to that one, some at a time, each write where the last one ended.
 pub data WritesZeros {D : Type 0} (gives : D → Call → Answer → D → Type 0) (boot : ℕ) : ℕ → ℕ → D → D → Type 0 where
@@ -32,7 +33,7 @@ pub record IsLaidOut {D : Type 0} (gives : D → Call → Answer → D → Type 
   pub ready : D
   pub opened : D
   pub attaches : gives old Attach (Booted boot) attached
-  pub clears : WritesZeros gives boot 0 (image_length header.slots) attached zeroed
+  pub clears : WritesZeros gives boot 0 (image_length cluster_version header.slots) attached zeroed
   pub syncs_zeros : gives zeroed (Sync boot) Done blank
   pub writes : gives blank (Write boot 0 (closed_header header)) Done closed
   pub syncs_header : gives closed (Sync boot) Done ready
@@ -44,7 +45,7 @@ pub record IsLaidOut {D : Type 0} (gives : D → Call → Answer → D → Type 
 pub record WasLaidOut (config : Shape) (cluster disk : ℕ) : Type 0 where
   pub old : FileState
   pub new : FileState
-  pub room : image_length config.slots ≤ old.size
+  pub room : image_length cluster_version config.slots ≤ old.size
   pub laid_out : IsLaidOut FileGives old (header_of config cluster disk) new
 
 -- for each of the first so many disks one was

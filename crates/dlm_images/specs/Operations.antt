@@ -1,5 +1,6 @@
 -- A task of a host, from answer to answer, and how an operation ends.
 use Rattle.std.specs.Prelude.{◌≡◌, ◌≤◌, ℕ, true, List, [], ◌∷◌, ◌++◌, length, slice_get, slice_set, Option, Some}
+use Rattle.torn_block.specs.Layout.{cluster_version}
 use Rattle.torn_block.specs.declared.layout.TheConstants.{DISKS, SLOTS}
 use Rattle.paxos_block.specs.Places.{image_length}
 use Rattle.disk.specs.Disk.{Call, Answer}
@@ -144,4 +145,4 @@ pub record Rests {D : Type 0} (size : D → ℕ) (s : Standing D) : Type 0 where
   pub some : 1 ≤ s.core.learner.shape.disks
   pub as_many : length s.disks ≡ s.core.learner.shape.disks
   pub room : length s.core.prefix ≤ s.core.learner.shape.slots
-  pub large : (k : ℕ) (d : D) → slice_get s.disks k ≡ Some d → image_length s.core.learner.shape.slots ≤ size d
+  pub large : (k : ℕ) (d : D) → slice_get s.disks k ≡ Some d → image_length cluster_version s.core.learner.shape.slots ≤ size d

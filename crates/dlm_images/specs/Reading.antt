@@ -3,16 +3,17 @@ use Rattle.std.specs.Prelude.{◌≡◌, ◌⊎◌, ◌<◌, ℕ, List, [], ◌�
 use Rattle.std.specs.List.{range_with_len}
 use Rattle.disk.specs.Disk.{Call, Attach, Read, Answer, Booted, Told, Fault}
 use Rattle.disk.specs.declared.fault.DiskFault.{DiskFault}
+use Rattle.torn_block.specs.Layout.{area_place, cluster_version}
 use Rattle.torn_block.specs.declared.layout.TheConstants.{ROW_LENGTH}
-use Rattle.paxos_block.specs.Places.{area_place, row_place}
+use Rattle.paxos_block.specs.Places.{row_place}
 use Rattle.dlm_images.specs.declared.check.Finding.{Finding}
 
 -- the reads of the heartbeat area, of a slot's row, and of the rows of so many slots, under a boot number
 abbrev pub area_read : ℕ → Call
-area_read boot = Read boot area_place ROW_LENGTH
+area_read boot = Read boot (area_place cluster_version) ROW_LENGTH
 
 abbrev pub row_read : (boot slot : ℕ) → Call
-row_read boot slot = Read boot (row_place slot) ROW_LENGTH
+row_read boot slot = Read boot (row_place cluster_version slot) ROW_LENGTH
 
 abbrev pub row_reads : (boot slots : ℕ) → List Call
 row_reads boot slots = map (row_read boot) (range_with_len 0 slots)

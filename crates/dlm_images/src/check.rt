@@ -3,6 +3,7 @@ ghost use Rattle.std.specs.List.{list_any};
 ghost use Rattle.std.specs.Io.KnownBytes.{Appends};
 ghost use Rattle.disk.specs.Disk.{Fault};
 ghost use Rattle.disk.specs.FileStates.{FileGives};
+ghost use Rattle.torn_block.specs.Layout.{cluster_version};
 ghost use Rattle.torn_block.specs.declared.layout.TheConstants.{DISKS};
 ghost use Rattle.paxos_block.specs.Places.{area_of, row_of, image_length};
 ghost use Rattle.paxos_block.specs.Row.{IsDamagedRow};
@@ -119,7 +120,7 @@ fn check_image<D: Disk, O: Write>(
     slots: u32,
     out: &mut O,
 ) -> io::Result<Option<Finding>>
-    requires { image_length slots ≤ (D.device device.old).size }
+    requires { image_length cluster_version slots ≤ (D.device device.old).size }
     ensures device { D.device device.new ≡ D.device device.old }
     ensures unchanged { IsTrue (D.device device.old).tells → D.state device.new ≡ D.state device.old }
     ensures text { OnOk result (IsTrue (D.device device.old).tells →
@@ -142,7 +143,7 @@ fn check_disk<D: Disk, O: Write>(
     slots: u32,
     out: &mut O,
 ) -> io::Result<Option<Finding>>
-    requires { image_length slots ≤ (D.device device.old).size }
+    requires { image_length cluster_version slots ≤ (D.device device.old).size }
     ensures device { D.device device.new ≡ D.device device.old }
     ensures unchanged { IsTrue (D.device device.old).tells → D.state device.new ≡ D.state device.old }
     ensures text { OnOk result (IsTrue (D.device device.old).tells →
@@ -170,7 +171,7 @@ pub fn print_damage<D: Disk, O: Write>(
     out: &mut O,
     any: &mut bool,
 ) -> Result<(), CheckFault>
-    requires { image_length slots ≤ (D.device device.old).size }
+    requires { image_length cluster_version slots ≤ (D.device device.old).size }
     ensures device { D.device device.new ≡ D.device device.old }
     ensures unchanged { IsTrue (D.device device.old).tells → D.state device.new ≡ D.state device.old }
     ensures text { OnOk result (IsTrue (D.device device.old).tells →
@@ -198,13 +199,13 @@ fn print_area<D: Disk, O: Write>(
     disk: u8,
     out: &mut O,
 ) -> Result<bool, CheckFault>
-    requires { image_length 0 ≤ (D.device device.old).size }
+    requires { image_length cluster_version 0 ≤ (D.device device.old).size }
     ensures device { D.device device.new ≡ D.device device.old }
     ensures unchanged { IsTrue (D.device device.old).tells → D.state device.new ≡ D.state device.old }
     ensures text { OnOk result (IsTrue (D.device device.old).tells →
         Appends (O.contents out.old) (O.contents out.new) (area_text disk (D.state device.old).bytes)) }
     ensures found { IfOk result (λ found. IsTrue (D.device device.old).tells →
-        IsTrue found ↔ IsDamagedArea (area_of (D.state device.old).bytes)) }
+        IsTrue found ↔ IsDamagedArea (area_of cluster_version (D.state device.old).bytes)) }
     ensures left { IfErr result (λ fault. PrintsNothing fault (O.contents out.old) (O.contents out.new)) }
     ensures read { OnOk result (Tells D.gives (area_read boot.number) device.old device.new) }
     ensures device_fault { IfErr result (λ fault. IfDevice fault (λ cause.
@@ -224,7 +225,7 @@ fn print_rows<D: Disk, O: Write>(
     out: &mut O,
     any: &mut bool,
 ) -> Result<(), CheckFault>
-    requires { image_length slots ≤ (D.device device.old).size }
+    requires { image_length cluster_version slots ≤ (D.device device.old).size }
     ensures device { D.device device.new ≡ D.device device.old }
     ensures unchanged { IsTrue (D.device device.old).tells → D.state device.new ≡ D.state device.old }
     ensures text { OnOk result (IsTrue (D.device device.old).tells →
@@ -253,13 +254,14 @@ fn print_row<D: Disk, O: Write>(
     slot: u32,
     out: &mut O,
 ) -> Result<bool, CheckFault>
-    requires { image_length (slot + 1) ≤ (D.device device.old).size }
+    requires { image_length cluster_version (slot + 1) ≤ (D.device device.old).size }
     ensures device { D.device device.new ≡ D.device device.old }
     ensures unchanged { IsTrue (D.device device.old).tells → D.state device.new ≡ D.state device.old }
     ensures text { OnOk result (IsTrue (D.device device.old).tells →
         Appends (O.contents out.old) (O.contents out.new) (row_text disk (D.state device.old).bytes slot)) }
     ensures found { IfOk result (λ found. IsTrue (D.device device.old).tells →
-        IsTrue found ↔ IsDamagedRow (row_of slot (D.state device.old).bytes)) }
+        IsTrue found ↔
+        IsDamagedRow cluster_version (row_of cluster_version slot (D.state device.old).bytes)) }
     ensures left { IfErr result (λ fault. PrintsNothing fault (O.contents out.old) (O.contents out.new)) }
     ensures read { OnOk result (Tells D.gives (row_read boot.number slot) device.old device.new) }
     ensures device_fault { IfErr result (λ fault. IfDevice fault (λ cause.
@@ -272,13 +274,14 @@ fn print_row<D: Disk, O: Write>(
 
 /// Which heartbeat blocks of an image are damaged.
 fn damage_of_area<D: Disk>(device: &mut D, boot: Boot) -> Result<[bool; HOSTS], DiskFault>
-    requires { image_length 0 ≤ (D.device device.old).size }
+    requires { image_length cluster_version 0 ≤ (D.device device.old).size }
     ensures device { D.device device.new ≡ D.device device.old }
     ensures unchanged { IsTrue (D.device device.old).tells → D.state device.new ≡ D.state device.old }
     ensures damaged { IfOk result (λ damaged. IsTrue (D.device device.old).tells →
-        damaged ≡ areas.damaged_in (area_of (D.state device.old).bytes)) }
+        damaged ≡ areas.damaged_in (area_of cluster_version (D.state device.old).bytes)) }
     ensures some { IfOk result (λ damaged. IsTrue (D.device device.old).tells →
-        Contains damaged true ↔ IsDamagedArea (area_of (D.state device.old).bytes)) }
+        Contains damaged true ↔
+        IsDamagedArea (area_of cluster_version (D.state device.old).bytes)) }
     ensures read { OnOk result (Tells D.gives (area_read boot.number) device.old device.new) }
     ensures device_fault { IfErr result (λ fault. D.gives device.old (area_read boot.number) (Fault fault) device.new) }
 {
@@ -289,13 +292,14 @@ fn damage_of_area<D: Disk>(device: &mut D, boot: Boot) -> Result<[bool; HOSTS], 
 
 /// Which blocks of a slot are damaged in an image.
 fn damage_of_row<D: Disk>(device: &mut D, boot: Boot, slot: u32) -> Result<[bool; HOSTS], DiskFault>
-    requires { image_length (slot + 1) ≤ (D.device device.old).size }
+    requires { image_length cluster_version (slot + 1) ≤ (D.device device.old).size }
     ensures device { D.device device.new ≡ D.device device.old }
     ensures unchanged { IsTrue (D.device device.old).tells → D.state device.new ≡ D.state device.old }
     ensures damaged { IfOk result (λ damaged. IsTrue (D.device device.old).tells →
-        damaged ≡ rows.damaged_in (row_of slot (D.state device.old).bytes)) }
+        damaged ≡ rows.damaged_in (row_of cluster_version slot (D.state device.old).bytes)) }
     ensures some { IfOk result (λ damaged. IsTrue (D.device device.old).tells →
-        Contains damaged true ↔ IsDamagedRow (row_of slot (D.state device.old).bytes)) }
+        Contains damaged true ↔
+        IsDamagedRow cluster_version (row_of cluster_version slot (D.state device.old).bytes)) }
     ensures read { OnOk result (Tells D.gives (row_read boot.number slot) device.old device.new) }
     ensures device_fault { IfErr result (λ fault. D.gives device.old (row_read boot.number slot) (Fault fault) device.new) }
 {

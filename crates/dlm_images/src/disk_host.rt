@@ -1,4 +1,5 @@
 ghost use Rattle.std.specs.Prelude.{◌≡◌, ◌≤◌, ◌+◌, ◌-◌, ◌*◌, ℕ, true, Some, IfOk, IfErr, is_some, length, slice_get};
+ghost use Rattle.torn_block.specs.Layout.{cluster_version};
 ghost use Rattle.paxos_block.specs.Places.{image_length};
 ghost use Rattle.lock_command.specs.Command.{is_submittable, spelling};
 ghost use Rattle.lock_command.specs.Reading.{decoded};
@@ -54,7 +55,8 @@ impl<D: Disk> DiskHost<D> {
     where
         D: Drop,
         requires as_many { length disks.items ≡ config.disks }
-        requires large { (k : ℕ) (d : D) → slice_get disks.items k ≡ Some d → image_length config.slots ≤ (D.device d).size }
+        requires large { (k : ℕ) (d : D) → slice_get disks.items k ≡ Some d →
+            image_length cluster_version config.slots ≤ (D.device d).size }
         ensures fresh { IfOk result (λ started. LeadsTo config host fresh started.core) }
         ensures disks { IfOk result (λ started. started.disks ≡ disks.items) }
     {
@@ -95,7 +97,7 @@ impl<D: Disk> DiskHost<D> {
         ensures disks { result.items ≡ self.disks }
         ensures as_many { length result.items ≡ self.core.learner.shape.disks }
         ensures large { (k : ℕ) (d : D) → slice_get result.items k ≡ Some d →
-            image_length self.core.learner.shape.slots ≤ (D.device d).size }
+            image_length cluster_version self.core.learner.shape.slots ≤ (D.device d).size }
     {
         self.disks
     }

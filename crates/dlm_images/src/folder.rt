@@ -3,6 +3,7 @@ ghost use Rattle.dlm_images.specs.Operations.{IsSmall};
 ghost use Rattle.dlm_images.specs.SetFaults.{MayRefuse};
 ghost use Rattle.dlm_images.specs.Folders.{IsDiskOf, IsOpened, resized};
 ghost use Rattle.disk.specs.FileStates.{FileState};
+ghost use Rattle.torn_block.specs.Layout.{cluster_version};
 ghost use Rattle.paxos_block.specs.Headers.{IsHeader};
 ghost use Rattle.paxos_block.specs.Places.{image_length};
 ghost use Rattle.host.specs.Host.{fresh};
@@ -32,7 +33,8 @@ pub struct Folder<F> {
     pub found: [Result<Header, ImageFault>; DISKS as usize],
     ghost small: { IsSmall config },
     ghost as_many: { length disks.items ≡ config.disks },
-    ghost long: { (k : ℕ) (d : FileState) → slice_get disks.items k ≡ Some d → d.size ≡ image_length config.slots },
+    ghost long: { (k : ℕ) (d : FileState) → slice_get disks.items k ≡ Some d →
+        d.size ≡ image_length cluster_version config.slots },
 }
 
 impl<F: FileExt + OpenFile + Drop> Folder<F> {

@@ -1,4 +1,5 @@
 ghost use Rattle.std.specs.Prelude.{◌≡◌, ◌≤◌, ◌<◌, OnOk, IfOk, IfErr};
+ghost use Rattle.torn_block.specs.Layout.{cluster_version};
 ghost use Rattle.paxos_block.specs.Places.{image_length};
 ghost use Rattle.dlm_images.specs.SetFaults.{IsFormatFault};
 ghost use Rattle.dlm_images.specs.Layout.{AreLaidOut, IsLaidOut, WasLaidOut, WritesZeros, header_of};
@@ -163,7 +164,7 @@ pub fn lay_out<D: Disk>(
     disk: u8,
 ) -> Result<(), DiskFault>
     requires disk { disk < config.disks }
-    requires large { image_length config.slots ≤ (D.device device.old).size }
+    requires large { image_length cluster_version config.slots ≤ (D.device device.old).size }
     ensures laid_out { OnOk result (IsLaidOut D.gives device.old (header_of config cluster disk) device.new) }
 {
     let boot = device.attach()?;

@@ -1,4 +1,5 @@
 ghost use Rattle.std.specs.Prelude.{◌≡◌, ◌≢◌, ◌⊎◌, ◌≤◌, ◌<◌, ◌↔◌, ℕ, IfOk, Err, Ok};
+ghost use Rattle.torn_block.specs.Layout.{cluster_version};
 ghost use Rattle.paxos_block.specs.Headers.{IsFormatted, IsRight};
 ghost use Rattle.dlm_images.specs.Headers as headers;
 ghost use Rattle.dlm_images.specs.Headers.{IsOld, HasWrongHeader};
@@ -14,8 +15,9 @@ const VERSION_AT: usize = 1;
 /// layout that images had before has a fault of its own.
 pub fn image_header(disk: u8, long: u64, bytes: &[u8; HEADER_LENGTH]) -> Result<Header, ImageFault>
     // What is read is right, and what is right is read.
-    ensures right { IfOk result (IsRight disk long bytes.now) }
-    ensures only { (header : Header) → IsRight disk long bytes.now header → result ≡ Ok header }
+    ensures right { IfOk result (IsRight cluster_version disk long bytes.now) }
+    ensures only { (header : Header) → IsRight cluster_version disk long bytes.now header →
+        result ≡ Ok header }
     ensures not_formatted { (result ≡ Err ImageFault.NotFormatted) ↔
         ((HEADER_LENGTH ≤ long) × ¬ IsFormatted bytes.now) }
     ensures wrong_header { (result ≡ Err ImageFault.WrongHeader) ↔
@@ -34,7 +36,8 @@ pub fn image_header(disk: u8, long: u64, bytes: &[u8; HEADER_LENGTH]) -> Result<
 pub fn length_in_header(bytes: &[u8; HEADER_LENGTH]) -> u64
     ensures told { result ≡ headers.told_length bytes.now }
     // An image that is right by either layout is that long.
-    ensures right { (disk long : ℕ) (header : Header) → IsRight disk long bytes.now header → result ≡ long }
+    ensures right { (disk long : ℕ) (header : Header) →
+        IsRight cluster_version disk long bytes.now header → result ≡ long }
     ensures old { (disk long : ℕ) → IsOld disk long bytes.now → result ≡ long }
 {
     if bytes[VERSION_AT] == Layout1::VERSION {

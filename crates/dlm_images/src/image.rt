@@ -1,5 +1,6 @@
 ghost use Rattle.std.specs.Prelude.{◌≡◌, ◌≤◌, true, IfOk, IfErr, OnOk, min};
 ghost use Rattle.std.specs.Path.{path_buf_bytes, path_join};
+ghost use Rattle.torn_block.specs.Layout.{cluster_version};
 ghost use Rattle.paxos_block.specs.Places.{image_length};
 ghost use Rattle.paxos_block.specs.Headers.{IsHeader};
 ghost use Rattle.dlm_images.specs.declared.fault.FolderFault.TheVariants.{NoMemory};
@@ -43,7 +44,7 @@ where
     R::File: FileExt + OpenFile + Drop,
     ensures right { IfOk result (λ image. IsHeader image.0) }
     ensures number { IfOk result (λ image. image.0.disk ≡ disk) }
-    ensures long { IfOk result (λ image. image.1.size ≡ image_length image.0.slots) }
+    ensures long { IfOk result (λ image. image.1.size ≡ image_length cluster_version image.0.slots) }
     ensures used { IfOk result (λ image. image.1.used ≡ true) }
 {
     let mut file = open_cut_to_header(files, path, access)?;
@@ -87,7 +88,8 @@ fn cut_to_header<F: FileExt + OpenFile + Drop>(device: &mut FileDisk<F>) -> Resu
 fn read_header<D: Disk>(device: &mut D, disk: u8) -> Result<Header, ImageFault>
     ensures right { IfOk result IsHeader }
     ensures number { IfOk result (λ header. header.disk ≡ disk) }
-    ensures long { IfOk result (λ header. image_length header.slots ≡ (D.device device.old).size) }
+    ensures long { IfOk result (λ header. image_length cluster_version header.slots ≡
+        (D.device device.old).size) }
     ensures told { IfOk result (λ header. ReadsHeader D.gives device.old disk (D.device device.old).size header device.new) }
     ensures fault { IfErr result (ReadsNoHeader D.gives device.old disk (D.device device.old).size device.new) }
     ensures device { D.device device.new ≡ D.device device.old }

@@ -1,4 +1,5 @@
 ghost use Rattle.std.specs.Prelude.{◌≡◌, ◌≤◌, ℕ, true, Some, length, slice_get};
+ghost use Rattle.torn_block.specs.Layout.{cluster_version};
 ghost use Rattle.torn_block.specs.declared.layout.TheConstants.{DISKS, SLOTS};
 ghost use Rattle.paxos_block.specs.Places.{image_length};
 ghost use Rattle.host.specs.Kept.{is_idle};
@@ -19,11 +20,11 @@ pub fn drive<D: Disk>(host: &mut HostCore, disks: &mut [D])
     requires as_many { length disks.old ≡ host.old.learner.shape.disks }
     requires few { (length disks.old ≤ DISKS) × (host.old.learner.shape.slots ≤ SLOTS) }
     requires large { (k : ℕ) (d : D) → slice_get disks.old k ≡ Some d →
-        image_length host.old.learner.shape.slots ≤ (D.device d).size }
+        image_length cluster_version host.old.learner.shape.slots ≤ (D.device d).size }
     ensures ended { is_idle host.new ≡ true }
     ensures shape { host.new.learner.shape ≡ host.old.learner.shape }
     ensures large { (k : ℕ) (d : D) → slice_get disks.new k ≡ Some d →
-        image_length host.old.learner.shape.slots ≤ (D.device d).size }
+        image_length cluster_version host.old.learner.shape.slots ≤ (D.device d).size }
     ensures heard { HasHeard D.gives (record { core = host.old; disks = disks.old })
         (record { core = host.new; disks = disks.new }) }
 {

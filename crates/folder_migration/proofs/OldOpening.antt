@@ -4,7 +4,7 @@ use Rattle.torn_block.specs.Layout.{Version1}
 use Rattle.disk.specs.declared.fault.ImageFault.{ImageFault}
 use Rattle.disk.specs.FileStates.{FileState}
 use Rattle.paxos_block.specs.declared.header.Header.{Header}
-use Rattle.paxos_block.specs.layouts.Places.{image_length}
+use Rattle.paxos_block.specs.Places.{image_length}
 use Rattle.slot_log.specs.Shape.{Shape}
 use Rattle.dlm_images.specs.Folders.{resized}
 use Rattle.dlm_images.specs.Sets.{Found, AreImages, HasNumbers}

@@ -5,22 +5,22 @@ use Rattle.std.proofs.lemmas.Bool.{ltb-true, ltb-false}
 use Rattle.std.proofs.lemmas.List.{length-set}
 use Rattle.disk.specs.Disk.{Call, Attach, Write, Sync, Answer, Booted, Done, Fault, done_answer}
 use Rattle.disk.specs.declared.fault.DiskFault.{DiskFault}
+use Rattle.torn_block.specs.Layout.{cluster_version}
 use Rattle.torn_block.specs.declared.layout.TheConstants.{HEADER_LENGTH}
 use Rattle.torn_block.specs.declared.block.TheConstants.{OPEN_GATE}
 use Rattle.paxos_block.specs.declared.header.Header.{Header}
-use Rattle.paxos_block.specs.Headers.{IsRight}
-use Rattle.paxos_block.specs.layouts.Headers.{header_saying}
+use Rattle.paxos_block.specs.Headers.{IsRight, header_saying}
 use Rattle.dlm_images.specs.Folders.{HasToldFirst}
 use Rattle.folder_migration.specs.Gates.{IsOpenImage, IsClosedImage, Finds, FailsToOpen, not_written, not_synced, FailsToSync, FailsToMakeSure, IsLeftUnsure, FirstBecame}
 use Rattle.folder_migration.specs.declared.gate.Gate.{Gate}
 use Rattle.folder_migration.specs.declared.gate.Gate.TheVariants.{Open, Closed, Neither}
 
-same_opened : (disk long : ℕ) (bytes : List ℕ) (header : Header) → IsRight disk long bytes header → slice_set bytes 0 OPEN_GATE ≡ bytes
+same_opened : (disk long : ℕ) (bytes : List ℕ) (header : Header) → IsRight cluster_version disk long bytes header → slice_set bytes 0 OPEN_GATE ≡ bytes
 unfolding header_saying
 same_opened disk long bytes header right = ap (λ (l : List ℕ). slice_set l 0 OPEN_GATE) right.spelled ∙ sym right.spelled
 
-pub right_opened : (disk long : ℕ) (bytes : List ℕ) (header : Header) → IsRight disk long bytes header → IsRight disk long (slice_set bytes 0 OPEN_GATE) header
-right_opened disk long bytes header right = subst (λ (l : List ℕ). IsRight disk long l header) (sym (same_opened disk long bytes header right)) right
+pub right_opened : (disk long : ℕ) (bytes : List ℕ) (header : Header) → IsRight cluster_version disk long bytes header → IsRight cluster_version disk long (slice_set bytes 0 OPEN_GATE) header
+right_opened disk long bytes header right = subst (λ (l : List ℕ). IsRight cluster_version disk long l header) (sym (same_opened disk long bytes header right)) right
 
 -- what holds of all and of one more, holds of all then
 pub each_more : {X : Type 0} (P : X → Type 0) (xs : List X) (x : X) → P x → ((k : ℕ) (a : X) → slice_get xs k ≡ Some a → P a) → (k : ℕ) (a : X) → slice_get (xs ++ x ∷ []) k ≡ Some a → P a

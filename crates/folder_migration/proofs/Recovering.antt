@@ -11,9 +11,9 @@ use Rattle.phases.specs.Calls.{device_answer}
 use Rattle.phases.specs.declared.heard.Heard as code_heard
 use Rattle.phases.specs.declared.heard.Heard.TheVariants as answer
 use Rattle.slot_log.specs.Shape.{Shape}
-use Rattle.slot_log.specs.layouts.Alone.{IsAnsweredAlone}
-use Rattle.slot_log.specs.layouts.Kept.{Kept, LeadsTo}
-use Rattle.slot_log.specs.layouts.Learning.{Doing, Memory, Operation, fresh, goes_on, begins, says, learns, hears, by_status, with_heard, with_floor, tries_again, takes, judges, judged, after_learning, is_placed, offered_in, is_idle_in, setup_of}
+use Rattle.slot_log.specs.Alone.{IsAnsweredAlone}
+use Rattle.slot_log.specs.Kept.{Kept, LeadsTo}
+use Rattle.slot_log.specs.Learning.{Doing, Memory, Operation, fresh, goes_on, begins, says, learns, hears, by_status, with_heard, with_floor, tries_again, takes, judges, judged, after_learning, is_placed, offered_in, is_idle_in, setup_of}
 use Rattle.slot_log.specs.declared.operation.Operation.TheVariants.{Recovering}
 use Rattle.slot_log.specs.declared.outcome.LogOutcome.{LogOutcome}
 use Rattle.slot_log.specs.declared.outcome.LogOutcome.TheVariants.{Placed, Recovered, Refused}

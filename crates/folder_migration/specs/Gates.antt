@@ -2,6 +2,7 @@
 use Rattle.std.specs.Prelude.{◌≡◌, ◌⊎◌, ◌<◌, ◌≤◌, ℕ, List, [], ◌∷◌, length, drop, slice_get, slice_set, Some}
 use Rattle.disk.specs.Disk.{Device, Call, Attach, Write, Sync, Answer, Booted, Done, Fault}
 use Rattle.disk.specs.declared.fault.DiskFault.{DiskFault}
+use Rattle.torn_block.specs.Layout.{cluster_version}
 use Rattle.torn_block.specs.declared.layout.TheConstants.{HEADER_LENGTH}
 use Rattle.torn_block.specs.declared.block.TheConstants.{OPEN_GATE}
 use Rattle.paxos_block.specs.declared.header.Header.{Header}
@@ -14,12 +15,12 @@ use Rattle.folder_migration.specs.declared.gate.Gate.TheVariants.{Open, Closed, 
 
 -- the image is right, with this header
 abbrev pub IsOpenImage : Header → ℕ → List ℕ → Type 0
-IsOpenImage header long bytes = IsRight header.disk long bytes header
+IsOpenImage header long bytes = IsRight cluster_version header.disk long bytes header
 
 -- it would be, with an open gate
 pub record IsClosedImage (header : Header) (long : ℕ) (bytes : List ℕ) : Type 0 where
   pub closed : ¬ IsFormatted bytes
-  pub right : IsRight header.disk long (OPEN_GATE ∷ drop 1 bytes) header
+  pub right : IsRight cluster_version header.disk long (OPEN_GATE ∷ drop 1 bytes) header
 
 -- it is neither
 pub record IsNoImage (header : Header) (long : ℕ) (bytes : List ℕ) : Type 0 where

@@ -1,5 +1,6 @@
 -- What a migration from one folder to another came to, and why one may be refused.
 use Rattle.std.specs.Prelude.{◌≡◌, ◌⊎◌, ◌≤◌, ◌<◌, ℕ, false, List, length, slice_get, Some}
+use Rattle.torn_block.specs.Layout.{cluster_version}
 use Rattle.torn_block.specs.declared.layout.TheConstants.{DISKS}
 use Rattle.disk.specs.Disk.{Device}
 use Rattle.disk.specs.declared.fault.DiskFault.{DiskFault}
@@ -84,7 +85,7 @@ pub record IsBlank (size : ℕ) (image : FileState) : Type 0 where
 -- so was each of them
 pub record AreBlank (config : Shape) (images : List FileState) : Type 0 where
   pub as_many : length images ≡ config.disks
-  pub each : (k : ℕ) (image : FileState) → slice_get images k ≡ Some image → IsBlank (image_length config.slots) image
+  pub each : (k : ℕ) (image : FileState) → slice_get images k ≡ Some image → IsBlank (image_length cluster_version config.slots) image
 
 -- HOW IT ENDS
 

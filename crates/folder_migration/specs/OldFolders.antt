@@ -8,8 +8,8 @@ use Rattle.disk.specs.Disk.{Call, Attach, Read, Answer, Booted, Told}
 use Rattle.disk.specs.FileStates.{FileState}
 use Rattle.torn_block.specs.declared.layout.TheConstants.{HEADER_LENGTH}
 use Rattle.paxos_block.specs.declared.header.Header.{Header}
-use Rattle.paxos_block.specs.layouts.Headers.{IsRight, IsFormatted, HasNoHeader}
-use Rattle.paxos_block.specs.layouts.Places.{image_length}
+use Rattle.paxos_block.specs.Headers.{IsRight, IsFormatted, HasNoHeader}
+use Rattle.paxos_block.specs.Places.{image_length}
 use Rattle.slot_log.specs.Shape.{Shape}
 use Rattle.dlm_images.specs.Folders.{HasToldFirst, FailsToTell}
 use Rattle.dlm_images.specs.Sets.{Found, AreImages, HasNumbers}

@@ -4,13 +4,13 @@ use Rattle.torn_block.specs.Layout.{Version1}
 use Rattle.disk.specs.Disk.{Device, Call, Answer}
 use Rattle.attempt.specs.Answers.{Heard, Answered, heard_in}
 use Rattle.attempt.specs.Heard.{Fits}
-use Rattle.paxos_block.specs.layouts.Places.{image_length}
+use Rattle.paxos_block.specs.Places.{image_length}
 use Rattle.phases.specs.declared.heard.Heard as code_heard
-use Rattle.phases.specs.layouts.Calls.{heard_of}
+use Rattle.phases.specs.Calls.{heard_of}
 use Rattle.slot_log.specs.Shape.{Shape}
-use Rattle.slot_log.specs.layouts.Alone.{IsAnsweredAlone}
-use Rattle.slot_log.specs.layouts.Kept.{Kept, LeadsTo}
-use Rattle.slot_log.specs.layouts.Learning.{Memory, fresh, goes_on, hears, takes, next_in, offered_in}
+use Rattle.slot_log.specs.Alone.{IsAnsweredAlone}
+use Rattle.slot_log.specs.Kept.{Kept, LeadsTo}
+use Rattle.slot_log.specs.Learning.{Memory, fresh, goes_on, hears, takes, next_in, offered_in}
 use Rattle.slot_log.specs.declared.operation.Operation.TheVariants.{Recovering}
 use Rattle.slot_log.specs.declared.outcome.LogOutcome.{LogOutcome}
 use Rattle.slot_log.specs.declared.outcome.LogOutcome.TheVariants.{Placed, Recovered, Refused as Ended}
@@ -55,7 +55,7 @@ StandFor (old ∷ olds) (new ∷ news) = StandsFor old new × StandFor olds news
 
 -- an answer of the code as host 0 takes it
 abbrev pub old_heard : code_heard.Heard (List ℕ) → Heard
-old_heard = heard_of Version1 (λ row. row)
+old_heard = heard_of Version1
 
 abbrev pub answered : Made → Answered
 answered x = record { disk = x.disk; heard = heard_in Version1 x.answer }

@@ -2,8 +2,7 @@ ghost use Rattle.std.specs.Prelude.{◌≡◌};
 ghost use Rattle.torn_block.specs.Layout.{Version1};
 ghost use Rattle.disk.specs.Disk.{done_answer};
 ghost use Rattle.attempt.specs.Heard.{Fits};
-ghost use Rattle.phases.specs.Calls.{device_answer};
-ghost use Rattle.phases.specs.layouts.Calls.{IsWithin, device_call_of};
+ghost use Rattle.phases.specs.Calls.{device_answer, IsWithin, device_call_of};
 ghost use Rattle.folder_migration.specs.Recovery.{old_heard};
 
 use disk::{Disk, DiskFault};

@@ -1,4 +1,5 @@
 ghost use Rattle.std.specs.Prelude.{◌≡◌, ◌<◌, IfOk, IfErr, length};
+ghost use Rattle.torn_block.specs.Layout.{cluster_version};
 ghost use Rattle.paxos_block.specs.Places.{image_length};
 ghost use Rattle.dlm_images.specs.SetFaults.{IsFormatFault};
 ghost use Rattle.folder_migration.specs.Migrating.{AreBlank, IsBlank};
@@ -105,7 +106,7 @@ fn make_image<R: Files + AllocGlobal>(
 where
     R::File: FileExt + OpenFile + Drop,
     requires { disk < config.disks }
-    ensures blank { IfOk result (IsBlank (image_length config.slots)) }
+    ensures blank { IfOk result (IsBlank (image_length cluster_version config.slots)) }
     ensures fault { IfErr result (IsFormatFault config.disks) }
 {
     let path = image_path(rt.alloc(), folder, disk)?;

@@ -2,7 +2,7 @@ ghost use Rattle.std.specs.Prelude.{◌≡◌, true, Some, IfOk, IfErr, ℕ, len
 ghost use Rattle.torn_block.specs.Layout.{Version1};
 ghost use Rattle.disk.specs.FileStates.{FileState};
 ghost use Rattle.paxos_block.specs.Headers.{IsHeader};
-ghost use Rattle.paxos_block.specs.layouts.Places.{image_length};
+ghost use Rattle.paxos_block.specs.Places.{image_length};
 ghost use Rattle.dlm_images.specs.SetFaults.{MayRefuse};
 ghost use Rattle.folder_migration.specs.OldFolders.{IsOpened, IsDiskOf, ReadsHeader, ReadsNoHeader};
 

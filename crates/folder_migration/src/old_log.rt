@@ -1,8 +1,8 @@
 ghost use Rattle.std.specs.Prelude.{◌≡◌, ◌<◌, ◌≤◌, [], false, None, Some, IfOk, IfErr, length, vec_capacity};
 ghost use Rattle.torn_block.specs.Layout.{Version1};
 ghost use Rattle.torn_block.specs.declared.layout.TheConstants.{DISKS, SLOTS};
-ghost use Rattle.slot_log.specs.layouts.Kept.{LeadsTo, IsSameLog, is_idle, offered_of};
-ghost use Rattle.slot_log.specs.layouts.Learning.{fresh, goes_on};
+ghost use Rattle.slot_log.specs.Kept.{LeadsTo, IsSameLog, is_idle, offered_of};
+ghost use Rattle.slot_log.specs.Learning.{fresh, goes_on};
 ghost use Rattle.slot_log.specs.declared.operation.Operation.TheVariants.{Recovering};
 ghost use Rattle.folder_migration.specs.declared.old_log.TheConstants.{TRIES};
 ghost use Rattle.folder_migration.specs.Recovery.{AreLarge, HasEnded, MakesOne, JudgesOne, RecoversTo, IsRefused};

@@ -15,11 +15,11 @@ use Rattle.torn_block.proofs.DamageLaws.{damaged_tells, sound_block_tells, sound
 use Rattle.heartbeat.specs.Beat.{IsBeat, is_beat, is_damaged_block, hosts, area_said, counters_in, counter_of, IsDamagedArea, AreCounters}
 use Rattle.heartbeat.proofs.BeatLaws.{beat_tells, beat_since}
 
-sound_is_undamaged : (block : List ℕ) → length block ≡ BLOCK_LENGTH → IsSoundBlock IsBeat block → is_damaged_block block ≡ false
+sound_is_undamaged : (block : List ℕ) → length block ≡ BLOCK_LENGTH → IsSoundBlock cluster_version IsBeat block → is_damaged_block block ≡ false
 sound_is_undamaged block long sound =
     false_from_ne_true (is_damaged_block block) (λ t. sound_is_not_damaged cluster_version IsBeat is_beat block sound (damaged_tells cluster_version IsBeat is_beat beat_since block long t))
 
-damage_is_found : (block : List ℕ) → length block ≡ BLOCK_LENGTH → AreBytes block → IsDamagedBlock IsBeat block → is_damaged_block block ≡ true
+damage_is_found : (block : List ℕ) → length block ≡ BLOCK_LENGTH → AreBytes block → IsDamagedBlock cluster_version IsBeat block → is_damaged_block block ≡ true
 damage_is_found block long fits damage =
     elim (cases_Bool (is_damaged_block block)) [
       | inl t ↦ t
@@ -37,10 +37,10 @@ any_at p n k below found =
     let same : 0 + k ≡ k = omega arith in
     list_any_at p (range_with_len 0 n) k 0 (omega (arith, length-range_with_len 0 n)) (ap p (get_or-range_with_len 0 n k 0 below ∙ same) ∙ found)
 
-pub length-block_of : (host : ℕ) (area : List ℕ) → host < HOSTS → length area ≡ ROW_LENGTH → length (block_of host area) ≡ BLOCK_LENGTH
+pub length-block_of : (host : ℕ) (area : List ℕ) → host < HOSTS → length area ≡ ROW_LENGTH → length (block_of cluster_version host area) ≡ BLOCK_LENGTH
 length-block_of host area below long = length-block_in cluster_version (BLOCK_LENGTH * host) area (omega arith)
 
-AreBytes-block_of : (host : ℕ) (area : List ℕ) → AreBytes area → AreBytes (block_of host area)
+AreBytes-block_of : (host : ℕ) (area : List ℕ) → AreBytes area → AreBytes (block_of cluster_version host area)
 AreBytes-block_of host area fits = AreBytes-take _ (drop (BLOCK_LENGTH * host) area) (AreBytes-drop (BLOCK_LENGTH * host) area fits)
 
 -- two lists with the same items are one
@@ -55,7 +55,7 @@ same_items (x ∷ xs) (y ∷ ys) long same =
 
 module _ (area : List ℕ) where
   abbrev is_damaged_at : ℕ → Bool
-  is_damaged_at host = is_damaged_block (block_of host area)
+  is_damaged_at host = is_damaged_block (block_of cluster_version host area)
 
   said_if_none : list_any is_damaged_at hosts ≡ false → area_said area ≡ Some area
   unfolding area_said
@@ -67,17 +67,17 @@ module _ (area : List ℕ) where
 
   module _ (long : length area ≡ ROW_LENGTH) where
     -- an area of sound blocks says them
-    pub sound_area : ((host : ℕ) → host < HOSTS → IsSoundBlock IsBeat (block_of host area)) → area_said area ≡ Some area
+    pub sound_area : ((host : ℕ) → host < HOSTS → IsSoundBlock cluster_version IsBeat (block_of cluster_version host area)) → area_said area ≡ Some area
     sound_area sound =
-        said_if_none (none_in is_damaged_at 0 HOSTS (λ host from below. sound_is_undamaged (block_of host area) (length-block_of host area (omega arith) long) (sound host (omega arith))))
+        said_if_none (none_in is_damaged_at 0 HOSTS (λ host from below. sound_is_undamaged (block_of cluster_version host area) (length-block_of host area (omega arith) long) (sound host (omega arith))))
 
     -- one with a damaged block says nothing
     pub damaged_area : AreBytes area → IsDamagedArea area → area_said area ≡ None
     damaged_area fits (host, below, damage) =
-        unsaid_if_any (any_at is_damaged_at HOSTS host below (damage_is_found (block_of host area) (length-block_of host area below long) (AreBytes-block_of host area fits) damage))
+        unsaid_if_any (any_at is_damaged_at HOSTS host below (damage_is_found (block_of cluster_version host area) (length-block_of host area below long) (AreBytes-block_of host area fits) damage))
 
   -- counters that are those of each host are those of the area
   pub counters_are : (counters : List ℕ) → length counters ≡ HOSTS → AreCounters area counters → counters ≡ counters_in area
   counters_are counters many are =
-      same_items counters (counters_in area) (many ∙ sym (length-map-range_with_len (λ host. counter_of (block_of host area)) 0 HOSTS))
-      (λ i below. (are i (omega arith)).counts ∙ sym (get_or-map-range_with_len (λ host. counter_of (block_of host area)) 0 HOSTS i i 0 (omega arith) (omega arith)))
+      same_items counters (counters_in area) (many ∙ sym (length-map-range_with_len (λ host. counter_of (block_of cluster_version host area)) 0 HOSTS))
+      (λ i below. (are i (omega arith)).counts ∙ sym (get_or-map-range_with_len (λ host. counter_of (block_of cluster_version host area)) 0 HOSTS i i 0 (omega arith) (omega arith)))

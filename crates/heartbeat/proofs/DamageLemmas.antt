@@ -16,7 +16,7 @@ use Rattle.heartbeat.proofs.BeatLaws.{beat_tells, beat_since}
 use Rattle.heartbeat.proofs.AreaLemmas.{length-block_of}
 
 -- the test decides whether a block is damaged
-test_decides : (block : List ℕ) → length block ≡ BLOCK_LENGTH → AreBytes block → (is_damaged_block block ≡ true) ↔ IsDamagedBlock IsBeat block
+test_decides : (block : List ℕ) → length block ≡ BLOCK_LENGTH → AreBytes block → (is_damaged_block block ≡ true) ↔ IsDamagedBlock cluster_version IsBeat block
 test_decides block long fits = (
   (λ t. damaged_tells cluster_version IsBeat is_beat beat_since block long t),
   (λ damage.
@@ -28,7 +28,7 @@ test_decides block long fits = (
 
 module _ (area : List ℕ) where
   abbrev is_damaged_at : ℕ → Bool
-  is_damaged_at host = is_damaged_block (block_of host area)
+  is_damaged_at host = is_damaged_block (block_of cluster_version host area)
 
   length-damaged_in : length (damaged_in area) ≡ HOSTS
   length-damaged_in = length-map-range_with_len is_damaged_at 0 HOSTS
@@ -47,7 +47,7 @@ module _ (area : List ℕ) where
         count = length-damaged_in;
         each =
             λ host below.
-            let block = block_of host area in
+            let block = block_of cluster_version host area in
             let bytes : AreBytes block = AreBytes-take _ (drop (BLOCK_LENGTH * host) area) (AreBytes-drop (BLOCK_LENGTH * host) area fits) in
             let decides = test_decides block (length-block_of host area below long) bytes in
             let is = damaged_in-at host below in

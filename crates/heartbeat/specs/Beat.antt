@@ -1,6 +1,7 @@
 -- Of the headline. The copies of a heartbeat block, and the counters of an area.
 use Rattle.std.specs.Prelude.{◌≡◌, ◌==◌, ◌&&◌, ◌<◌, ◌-◌, ℕ, Bool, List, ◌∷◌, map, take, drop, slice_index, replicate, Option, Some, None, if◌then◌else◌}
 use Rattle.std.specs.List.{list_all, list_any, range_with_len}
+use Rattle.torn_block.specs.Layout.{cluster_version}
 use Rattle.torn_block.specs.declared.layout.TheConstants.{VERSION, HOSTS, BODY_LENGTH}
 use Rattle.torn_block.specs.Block.{sequence_of, tail_with, value_of}
 use Rattle.torn_block.specs.Damage.{IsSequence, IsSoundBlock, IsDamaged, block_of, first_of, second_of, is_sequence, is_damaged}
@@ -21,16 +22,16 @@ counter_at None = 0
 counter_at (Some value) = value.0
 
 abbrev pub counter_of : List ℕ → ℕ
-counter_of block = counter_at (value_of block)
+counter_of block = counter_at (value_of cluster_version block)
 
 -- the area is damaged by the rule of a row
 abbrev pub IsDamagedArea : List ℕ → Type 0
-IsDamagedArea area = IsDamaged (λ host. IsBeat) area
+IsDamagedArea area = IsDamaged cluster_version (λ host. IsBeat) area
 
 -- each host's counter, and that its block is sound
 pub record IsCounter (area : List ℕ) (host number : ℕ) : Type 0 where
-  pub sound : IsSoundBlock IsBeat (block_of host area)
-  pub counts : number ≡ counter_of (block_of host area)
+  pub sound : IsSoundBlock cluster_version IsBeat (block_of cluster_version host area)
+  pub counts : number ≡ counter_of (block_of cluster_version host area)
 
 abbrev pub AreCounters : List ℕ → List ℕ → Type 0
 AreCounters area counters = (host : ℕ) → host < HOSTS → IsCounter area host (slice_index counters host)
@@ -43,7 +44,7 @@ abbrev pub is_beat : List ℕ → Bool
 is_beat copy = is_sequence (sequence_of copy) && (slice_index copy 1 == VERSION) && all_zero (take 6 (drop 2 copy)) && all_zero (drop 16 copy)
 
 abbrev pub is_damaged_block : List ℕ → Bool
-is_damaged_block block = is_damaged is_beat (first_of block) (second_of block)
+is_damaged_block block = is_damaged is_beat (first_of cluster_version block) (second_of cluster_version block)
 
 -- ---- an area as one function of its bytes
 
@@ -52,8 +53,8 @@ hosts = range_with_len 0 HOSTS
 
 -- the bytes of a sound area, or nothing where a block of it is damaged
 unfoldable pub area_said : List ℕ → Option (List ℕ)
-area_said area = if list_any (λ host. is_damaged_block (block_of host area)) hosts then None else Some area
+area_said area = if list_any (λ host. is_damaged_block (block_of cluster_version host area)) hosts then None else Some area
 
 -- the counters of the hosts, by their numbers
 abbrev pub counters_in : List ℕ → List ℕ
-counters_in area = map (λ host. counter_of (block_of host area)) hosts
+counters_in area = map (λ host. counter_of (block_of cluster_version host area)) hosts

@@ -1,4 +1,5 @@
 ghost use Rattle.std.specs.Prelude.{◌≡◌, ◌<◌, ◌↔◌, true, length, Contains, IfOk, OnOk, OnErr, IsErr, Some, None};
+ghost use Rattle.torn_block.specs.Layout.{cluster_version};
 ghost use Rattle.torn_block.specs.Damage;
 ghost use Rattle.torn_block.specs.Plan.{body_in};
 ghost use Rattle.torn_block.specs.Damage.{IsSoundBlock, IsDamagedBlock};
@@ -19,7 +20,7 @@ pub struct Damaged;
 
 /// The body of a beat, whoever's.
 pub fn encode_beat() -> Body
-    ensures { body_in result ≡ beat_body }
+    ensures { body_in cluster_version result ≡ beat_body }
 {
     let mut bytes = [0; BODY_ROOM];
     put_beat(&mut bytes[..BODY_LENGTH]);
@@ -78,9 +79,9 @@ fn is_damaged_block(bytes: &[u8]) -> bool
 
 fn counter_in(bytes: &[u8]) -> Result<u64, Damaged>
     requires { length bytes.now ≡ BLOCK_LENGTH }
-    ensures sound { OnOk result (IsSoundBlock IsBeat bytes.now) }
+    ensures sound { OnOk result (IsSoundBlock cluster_version IsBeat bytes.now) }
     ensures counter { IfOk result (λ counter. counter ≡ counter_of bytes.now) }
-    ensures damaged { OnErr result (IsDamagedBlock IsBeat bytes.now) }
+    ensures damaged { OnErr result (IsDamagedBlock cluster_version IsBeat bytes.now) }
 {
     let (first, second) = bytes.split_at(COPY_LENGTH);
     if is_damaged(first, second) {

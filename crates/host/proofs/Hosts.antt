@@ -44,10 +44,9 @@ use Rattle.phases.specs.Notes.{Notes}
 use Rattle.slot_log.specs.Shape.{Shape}
 use Rattle.slot_log.specs.Alone as log_alone
 use Rattle.slot_log.specs.Kept as learners
-use Rattle.slot_log.specs.Kept.{AreDoing, is_idle_with}
+use Rattle.slot_log.specs.Kept.{AreDoing, is_idle_with, LogTask}
 use Rattle.slot_log.specs.Learning as log
 use Rattle.slot_log.specs.Learning.{offered_by, offered_in}
-use Rattle.slot_log.specs.Kept.{LogTask}
 use Rattle.slot_log.specs.declared.outcome.LogOutcome.{LogOutcome}
 use Rattle.slot_log.specs.declared.outcome.LogOutcome.TheVariants as outcome
 use Rattle.slot_log.specs.declared.outcome.Refusal.TheVariants as refusal
@@ -91,12 +90,12 @@ abbrev setup_at : Shape → ℕ → Memory → Operation → ℕ → Setup
 setup_at c h m operation slot = record { version = cluster_version; host = h; slot = slot; disks = c.disks; floor = m.floor; input = input_of operation }
 
 -- it is the same for both
-pub setup_same : (c : Shape) (h : ℕ) (m : Memory) (operation : Operation) → log.setup_of c h (values_of m) (operation_of operation) ≡ setup_of c h m operation
+pub setup_same : (c : Shape) (h : ℕ) (m : Memory) (operation : Operation) → log.setup_of cluster_version c h (values_of m) (operation_of operation) ≡ setup_of c h m operation
 setup_same c h m (Submitting command) = ap (setup_at c h m (Submitting command)) (length_same m)
 setup_same c h m Recovering = ap (setup_at c h m Recovering) (length_same m)
 
 -- and so is the call that is due
-pub attempt_next : (c : Shape) (h : ℕ) (m : Memory) (said : Option LogOutcome) (o : Option Doing) → m.doing ≡ o → (call : ℕ × device.Call) → log.next_in c h (values_with said m) (attempt_in o) ≡ Some call → next_in c h m ≡ Some call
+pub attempt_next : (c : Shape) (h : ℕ) (m : Memory) (said : Option LogOutcome) (o : Option Doing) → m.doing ≡ o → (call : ℕ × device.Call) → log.next_in cluster_version c h (values_with said m) (attempt_in o) ≡ Some call → next_in c h m ≡ Some call
 attempt_next c h m said None is call next = absurd (let none : None ≡ Some call = next in cc)
 attempt_next c h m said (Some (Attempts t)) is call next =
     ap (next_doing c h m) is ∙ ap (λ (s : Setup). next_call s (on t.heard)) (sym (setup_same c h m t.operation)) ∙ next
@@ -266,12 +265,12 @@ fresh_offers_none s =
     let left : ℕ → Bool = is_left_at at s Opening nothing in
     offered_through (are_enough s left) at _ (first_of_all s.disks (λ d. waits s Opening []) left (λ d. refl))
 
-tries_offer_none : (c : Shape) (h : ℕ) (m : log.Memory) (operation : log.Operation) (tries : ℕ) (b : Bool) → offered_in c h (if b then log.says m (outcome.Refused refusal.Outrun) else log.begins m operation tries) (if b then log.says m (outcome.Refused refusal.Outrun) else log.begins m operation tries).doing ≡ None
+tries_offer_none : (c : Shape) (h : ℕ) (m : log.Memory) (operation : log.Operation) (tries : ℕ) (b : Bool) → offered_in cluster_version c h (if b then log.says m (outcome.Refused refusal.Outrun) else log.begins m operation tries) (if b then log.says m (outcome.Refused refusal.Outrun) else log.begins m operation tries).doing ≡ None
 tries_offer_none c h m operation tries true = refl
-tries_offer_none c h m operation tries false = fresh_offers_none (log.setup_of c h m operation)
+tries_offer_none c h m operation tries false = fresh_offers_none (log.setup_of cluster_version c h m operation)
 
 -- what is offered once the attempt has come to a status
-pub offered_after : (c : Shape) (h : ℕ) (m : log.Memory) (t : log.Doing) (ballot : ℕ) (st : Status) → status (log.setup_of c h m t.operation) (on t.heard) ≡ st → offered_in c h (log.by_status m t ballot st) (log.by_status m t ballot st).doing ≡ offered_by st
+pub offered_after : (c : Shape) (h : ℕ) (m : log.Memory) (t : log.Doing) (ballot : ℕ) (st : Status) → status (log.setup_of cluster_version c h m t.operation) (on t.heard) ≡ st → offered_in cluster_version c h (log.by_status m t ballot st) (log.by_status m t ballot st).doing ≡ offered_by st
 offered_after c h m t ballot (Due p d) is = ap offered_by is
 offered_after c h m t ballot (Ended (attempt.Committed value)) is = ap offered_by is
 offered_after c h m t ballot (Ended (attempt.Decided value)) is = ap offered_by is
@@ -303,11 +302,11 @@ takes_by c m t ballot (Ended attempt.BallotsSpent) value is = absurd (cc)
 -- AN ANSWER IS HEARD
 
 -- where no attempt is under way the learner is idle
-none_busy : (c : Shape) (h : ℕ) (m : log.Memory) (task : Option LogTask) (a : Notes) → AreDoing c h m None task a → is_idle_with task ≡ false → ⊥
+none_busy : (c : Shape) (h : ℕ) (m : log.Memory) (task : Option LogTask) (a : Notes) → AreDoing cluster_version c h m None task a → is_idle_with task ≡ false → ⊥
 none_busy c h m None a are busy = cc
 none_busy c h m (Some task) a are busy = are
 
-busy_with : (c : Shape) (h : ℕ) (m : log.Memory) (o : Option Doing) (task : Option LogTask) (a : Notes) → AreDoing c h m (attempt_in o) task a → is_idle_with task ≡ false → (t : Attempt) × (o ≡ Some (Attempts t))
+busy_with : (c : Shape) (h : ℕ) (m : log.Memory) (o : Option Doing) (task : Option LogTask) (a : Notes) → AreDoing cluster_version c h m (attempt_in o) task a → is_idle_with task ≡ false → (t : Attempt) × (o ≡ Some (Attempts t))
 busy_with c h m (Some (Attempts t)) task a are busy = (t, refl)
 busy_with c h m None task a are busy = absurd (none_busy c h m task a are busy)
 busy_with c h m (Some (Looks t)) task a are busy = absurd (none_busy c h m task a are busy)
@@ -315,7 +314,8 @@ busy_with c h m (Some (Beats heard)) task a are busy = absurd (none_busy c h m t
 busy_with c h m (Some (Marks t)) task a are busy = absurd (none_busy c h m task a are busy)
 
 -- where the learner is busy, the host is with an attempt
-pub busy_doing : (c : Shape) (h : ℕ) (m : Memory) (k : learners.Kept) → learners.LeadsTo c h (values_with k.said m) k → learners.is_idle k ≡ false → (t : Attempt) × (m.doing ≡ Some (Attempts t))
+pub busy_doing : (c : Shape) (h : ℕ) (m : Memory) (k : learners.Kept) → learners.LeadsTo cluster_version c h (values_with k.said m) k → learners.is_idle k ≡ false
+    → (t : Attempt) × (m.doing ≡ Some (Attempts t))
 busy_doing c h m k leads busy = busy_with c h (values_with k.said m) m.doing k.task k.attempt leads.doing busy
 
 module _ (c : Shape) (h : ℕ) (last : Option LogOutcome) (m : Memory) (t : Attempt) (x : Answered) (is : m.doing ≡ Some (Attempts t)) where
@@ -332,20 +332,20 @@ module _ (c : Shape) (h : ℕ) (last : Option LogOutcome) (m : Memory) (t : Atte
   ballot = taken setup (on told.heard)
 
   abbrev by_values : log.Memory
-  by_values = log.hears c h (values_with last m) (values_of m).doing x
+  by_values = log.hears cluster_version c h (values_with last m) (values_of m).doing x
 
   by_values_is : by_values ≡ log.by_status (values_with last m) (attempt_of told) ballot stands
   by_values_is =
-      ap (λ (o : Option Doing). log.hears c h (values_with last m) (attempt_in o) x) is
+      ap (λ (o : Option Doing). log.hears cluster_version c h (values_with last m) (attempt_in o) x) is
       ∙ ap (log.goes_by (values_with last m) (attempt_of told)) (setup_same c h m t.operation)
 
-  offered_is : offered_in c h by_values by_values.doing ≡ offered_by stands
+  offered_is : offered_in cluster_version c h by_values by_values.doing ≡ offered_by stands
   offered_is =
-      ap (λ (l : log.Memory). offered_in c h l l.doing) by_values_is
+      ap (λ (l : log.Memory). offered_in cluster_version c h l l.doing) by_values_is
       ∙ offered_after c h (values_with last m) (attempt_of told) ballot stands (ap (λ (s : Setup). status s (on told.heard)) (setup_same c h m t.operation))
 
   -- and nothing is offered
-  pub heard_none : offered_in c h by_values by_values.doing ≡ None → (by_values ≡ values_of (hears c h m t x)) × ((hears c h m t x).learned ≡ m.learned) × Carries None (hears c h m t x).said
+  pub heard_none : offered_in cluster_version c h by_values by_values.doing ≡ None → (by_values ≡ values_of (hears c h m t x)) × ((hears c h m t x).learned ≡ m.learned) × Carries None (hears c h m t x).said
   heard_none offered =
       let none : offered_by stands ≡ None = sym offered_is ∙ offered in (
         by_values_is ∙ values_of-by_status c m told ballot last stands none,
@@ -354,14 +354,14 @@ module _ (c : Shape) (h : ℕ) (last : Option LogOutcome) (m : Memory) (t : Atte
       )
 
   -- or a value, which is judged
-  pub heard_value : (value : List ℕ) → offered_in c h by_values by_values.doing ≡ Some value → (log.takes c h by_values by_values.doing (is_some (decoded value)) ≡ values_of (hears c h m t x)) × ((hears c h m t x).learned ≡ m.learned ++ option_list (decoded value)) × Carries (option_map (reply_after m.learned) (decoded value)) (hears c h m t x).said
+  pub heard_value : (value : List ℕ) → offered_in cluster_version c h by_values by_values.doing ≡ Some value → (log.takes cluster_version c h by_values by_values.doing (is_some (decoded value)) ≡ values_of (hears c h m t x)) × ((hears c h m t x).learned ≡ m.learned ++ option_list (decoded value)) × Carries (option_map (reply_after m.learned) (decoded value)) (hears c h m t x).said
   heard_value value offered =
       let there : offered_by stands ≡ Some value = sym offered_is ∙ offered in
       let waits : by_values ≡ log.does (values_with last m) (attempt_of told) = by_values_is ∙ waits_by (values_with last m) (attempt_of told) ballot stands value there in
       let is_command = is_some (decoded value) in
       let hears' : hears c h m t x ≡ takes c m told ballot value (decoded value) = takes_by c m told ballot stands value there in
       let IsCarried : Memory → Type 0 = λ n. Carries (option_map (reply_after m.learned) (decoded value)) n.said in (
-        ap (λ (l : log.Memory). log.takes c h l l.doing is_command) waits
+        ap (λ (l : log.Memory). log.takes cluster_version c h l l.doing is_command) waits
             ∙ ap (λ (s : Setup). log.judges c (log.does (values_with last m) (attempt_of told)) (attempt_of told) (taken s (on told.heard)) (offered_by (status s (on told.heard))) is_command) (setup_same c h m t.operation)
             ∙ ap (λ (o : Option (List ℕ)). log.judges c (log.does (values_with last m) (attempt_of told)) (attempt_of told) ballot o is_command) there
             ∙ values_of-takes c m told ballot value (decoded value) (decoded_spelled value)
@@ -371,13 +371,13 @@ module _ (c : Shape) (h : ℕ) (last : Option LogOutcome) (m : Memory) (t : Atte
       )
 
 -- what follows for a host from what follows for its learner
-pub follows : (c : Shape) (h : ℕ) (m : Memory) (l : log.Memory) (k : Kept) (reply : Option Reply) → learners.LeadsTo c h l k.learner → l ≡ values_of m → k.prefix ≡ m.learned → k.said ≡ answer_of k.learner.said reply → Carries reply m.said
+pub follows : (c : Shape) (h : ℕ) (m : Memory) (l : log.Memory) (k : Kept) (reply : Option Reply) → learners.LeadsTo cluster_version c h l k.learner → l ≡ values_of m → k.prefix ≡ m.learned → k.said ≡ answer_of k.learner.said reply → Carries reply m.said
     → option_map (take c.disks) k.readings ≡ m.readings → IsDoing c h m m.doing k.beside → LeadsTo c h m k
 follows c h m l k reply leads is prefix said carries readings doing =
-    let Known : log.Memory → Type 0 = λ n. learners.LeadsTo c h n k.learner in
-    let known : learners.LeadsTo c h (values_of m) k.learner = subst Known is leads in
+    let Known : log.Memory → Type 0 = λ n. learners.LeadsTo cluster_version c h n k.learner in
+    let known : learners.LeadsTo cluster_version c h (values_of m) k.learner = subst Known is leads in
     record {
-      learner = subst (λ (o : Option LogOutcome). learners.LeadsTo c h (values_with o m) k.learner) (sym known.said) known;
+      learner = subst (λ (o : Option LogOutcome). learners.LeadsTo cluster_version c h (values_with o m) k.learner) (sym known.said) known;
       prefix = prefix;
       said = said ∙ ap (λ (o : Option LogOutcome). answer_of o reply) known.said ∙ answer_of-outcome_of reply m.said carries;
       readings = readings;
@@ -434,7 +434,7 @@ operating_alone c h m k none is = subst (IsDoing c h m m.doing) (sym none) is
 
 -- LEFT ALONE
 
-alone_with : (c : Shape) (h : ℕ) (last : Option LogOutcome) (m : Memory) (o : Option Doing) (x : Answered) → log_alone.IsAnsweredAlone c h (values_with last m) (attempt_in o) x → IsAnsweredAlone c h m o x
+alone_with : (c : Shape) (h : ℕ) (last : Option LogOutcome) (m : Memory) (o : Option Doing) (x : Answered) → log_alone.IsAnsweredAlone cluster_version c h (values_with last m) (attempt_in o) x → IsAnsweredAlone c h m o x
 alone_with c h last m None x alone = tt
 alone_with c h last m (Some (Attempts t)) x alone =
     let Served : Setup → Type 0 = λ s. log_alone.IsAnsweredIn s (t.heard ++ x ∷ []) in
@@ -444,7 +444,7 @@ alone_with c h last m (Some (Beats heard)) x alone = tt
 alone_with c h last m (Some (Marks t)) x alone = tt
 
 -- what the learner says of an attempt that is left alone holds for the host
-pub alone : (c : Shape) (h : ℕ) (m : Memory) (k : learners.Kept) (answer : Heard) → learners.LeadsTo c h (values_with k.said m) k → ((n : log.Memory) → learners.LeadsTo c h n k → log_alone.IsAnsweredAlone c h n n.doing (record { disk = k.attempt.disk; heard = answer })) → IsAnsweredAlone c h m m.doing (record { disk = k.attempt.disk; heard = answer })
+pub alone : (c : Shape) (h : ℕ) (m : Memory) (k : learners.Kept) (answer : Heard) → learners.LeadsTo cluster_version c h (values_with k.said m) k → ((n : log.Memory) → learners.LeadsTo cluster_version c h n k → log_alone.IsAnsweredAlone cluster_version c h n n.doing (record { disk = k.attempt.disk; heard = answer })) → IsAnsweredAlone c h m m.doing (record { disk = k.attempt.disk; heard = answer })
 alone c h m k answer leads served = alone_with c h k.said m m.doing (record { disk = k.attempt.disk; heard = answer }) (served (values_with k.said m) leads)
 
 -- BUSY WITH ONE THING
@@ -457,7 +457,7 @@ and_false : (b : Bool) → (b && false) ≡ false
 and_false true = refl
 and_false false = refl
 
-operating_idle : (c : Shape) (h : ℕ) (l : log.Memory) (o : Option Doing) (task : Option LogTask) (a : Notes) → AreDoing c h l (attempt_in o) task a → IsOperating o → (is_idle_with task && true) ≡ is_none o
+operating_idle : (c : Shape) (h : ℕ) (l : log.Memory) (o : Option Doing) (task : Option LogTask) (a : Notes) → AreDoing cluster_version c h l (attempt_in o) task a → IsOperating o → (is_idle_with task && true) ≡ is_none o
 operating_idle c h l None None a are is = refl
 operating_idle c h l (Some (Attempts t)) (Some task) a are is = refl
 operating_idle c h l None (Some task) a are is = absurd are
@@ -466,7 +466,7 @@ operating_idle c h l (Some (Looks t)) task a are is = absurd is
 operating_idle c h l (Some (Beats heard)) task a are is = absurd is
 operating_idle c h l (Some (Marks t)) task a are is = absurd is
 
-idle_by : (c : Shape) (h : ℕ) (m : Memory) (l : log.Memory) (task : Option LogTask) (a : Notes) (k : Beside) → AreDoing c h l (attempt_in m.doing) task a → IsDoing c h m m.doing k → (is_idle_with task && is_nothing k) ≡ is_none m.doing
+idle_by : (c : Shape) (h : ℕ) (m : Memory) (l : log.Memory) (task : Option LogTask) (a : Notes) (k : Beside) → AreDoing cluster_version c h l (attempt_in m.doing) task a → IsDoing c h m m.doing k → (is_idle_with task && is_nothing k) ≡ is_none m.doing
 idle_by c h m l task a beside.Nothing are is = operating_idle c h l m.doing task a are is
 idle_by c h m l task a (beside.Look notes) are is = and_false (is_idle_with task) ∙ sym (ap is_none is.1)
 idle_by c h m l task a (beside.Beat notes) are is = and_false (is_idle_with task) ∙ sym (ap is_none is.1)
@@ -477,7 +477,7 @@ pub idle_is : (c : Shape) (h : ℕ) (m : Memory) (k : Kept) → LeadsTo c h m k 
 idle_is c h m k is = idle_by c h m (values_with k.learner.said m) k.learner.task k.learner.attempt k.beside is.learner.doing is.doing
 
 -- an attempt hears of an answer what its parts tell
-pub heard_same : (heard : code_heard.Heard (List ℕ)) → heard_of heard ≡ heard_as (device_answer heard)
+pub heard_same : (heard : code_heard.Heard (List ℕ)) → heard_of cluster_version heard ≡ heard_as (device_answer heard)
 heard_same (code_answer.Booted boot) = refl
 heard_same code_answer.Done = refl
 heard_same (code_answer.Told row) = refl
@@ -509,10 +509,10 @@ abbrev pub kept_in : Inside → Kept
 kept_in p = record { learner = p.learner; prefix = p.prefix.items; said = p.said; beside = p.beside; readings = p.readings }
 
 -- the learner of a host that has no attempt under way knows the same once the host has none again
-pub learner_still : (c : Shape) (h : ℕ) (m n : Memory) (k : learners.Kept) → learners.LeadsTo c h (values_with k.said m) k → attempt_in m.doing ≡ None → attempt_in n.doing ≡ None → n.learned ≡ m.learned → n.floor ≡ m.floor → learners.LeadsTo c h (values_with k.said n) k
+pub learner_still : (c : Shape) (h : ℕ) (m n : Memory) (k : learners.Kept) → learners.LeadsTo cluster_version c h (values_with k.said m) k → attempt_in m.doing ≡ None → attempt_in n.doing ≡ None → n.learned ≡ m.learned → n.floor ≡ m.floor → learners.LeadsTo cluster_version c h (values_with k.said n) k
 learner_still c h m n k leads was is learned floor =
     let same : values_with k.said m ≡ values_with k.said n = (λ i. record { learned = map spelling (sym learned i); floor = sym floor i; doing = (was ∙ sym is) i; said = k.said }) in
-    subst (λ (l : log.Memory). learners.LeadsTo c h l k) same leads
+    subst (λ (l : log.Memory). learners.LeadsTo cluster_version c h l k) same leads
 
 -- WHAT IS BESIDE THE LEARNER GOES ON
 
@@ -802,13 +802,13 @@ module _ (c : Shape) (h : ℕ) (m : Memory) (p : Inside) (view : Kept) (shown : 
         (subst (λ (k : Beside). P (due_by p.learner k).0) (sym no_beside) holds)
 
     -- the host hears what the attempt hears
-    pub attempt_hears : (answer : code_heard.Heard (List ℕ)) (new : Kept) → LeadsTo c h (hears c h m attempt_doing.0 (record { disk = p.learner.attempt.disk; heard = heard_of answer })) new → LeadsTo c h (hears_from c h m m.doing (due_call view).0 (device_answer answer)) new
+    pub attempt_hears : (answer : code_heard.Heard (List ℕ)) (new : Kept) → LeadsTo c h (hears c h m attempt_doing.0 (record { disk = p.learner.attempt.disk; heard = heard_of cluster_version answer })) new → LeadsTo c h (hears_from c h m m.doing (due_call view).0 (device_answer answer)) new
     attempt_hears answer new leads_on =
         attempt_due (λ d. LeadsTo c h (hears_from c h m m.doing d (device_answer answer)) new)
         (subst (λ (o : Option Doing). LeadsTo c h (hears_from c h m o p.learner.attempt.disk (device_answer answer)) new) (sym attempt_doing.1)
         (subst (λ (y : Heard). LeadsTo c h (hears c h m attempt_doing.0 (record { disk = p.learner.attempt.disk; heard = y })) new) (heard_same answer) leads_on))
 
-    pub attempt_alone : (answer : Heard) → ((n : log.Memory) → learners.LeadsTo c h n p.learner → log_alone.IsAnsweredAlone c h n n.doing (record { disk = p.learner.attempt.disk; heard = answer })) → IsAnsweredAlone c h m m.doing (record { disk = (due_call view).0; heard = answer })
+    pub attempt_alone : (answer : Heard) → ((n : log.Memory) → learners.LeadsTo cluster_version c h n p.learner → log_alone.IsAnsweredAlone cluster_version c h n n.doing (record { disk = p.learner.attempt.disk; heard = answer })) → IsAnsweredAlone c h m m.doing (record { disk = (due_call view).0; heard = answer })
     attempt_alone answer served = attempt_due (λ d. IsAnsweredAlone c h m m.doing (record { disk = d; heard = answer })) (alone c h m p.learner answer known.learner served)
 
     pub attempt_few : HasHeardFew c m.doing
@@ -886,14 +886,14 @@ abbrev pub with_command : Memory → Command → Memory
 with_command m command = record { learned = m.learned ++ command ∷ []; floor = 0; doing = None; said = m.said; readings = m.readings }
 
 -- so it is known of an idle host
-module _ (c : Shape) (h : ℕ) (m : Memory) (k : Kept) (leads : LeadsTo c h m k) (idle : is_idle k ≡ true) (command : Command) (value : List ℕ) (spells : value ≡ spelling command) (learner : learners.Kept) (learned : learners.LeadsTo c h (log.learns (values_with k.learner.said m) value) learner)
+module _ (c : Shape) (h : ℕ) (m : Memory) (k : Kept) (leads : LeadsTo c h m k) (idle : is_idle k ≡ true) (command : Command) (value : List ℕ) (spells : value ≡ spelling command) (learner : learners.Kept) (learned : learners.LeadsTo cluster_version c h (log.learns (values_with k.learner.said m) value) learner)
     (prefix : List Command) (prefix_is : prefix ≡ k.prefix ++ command ∷ []) where
-  learner_knows : learners.LeadsTo c h (values_of (learns m command)) learner
-  learner_knows = subst (λ (l : log.Memory). learners.LeadsTo c h l learner) (values_of-learns m command value spells) learned
+  learner_knows : learners.LeadsTo cluster_version c h (values_of (learns m command)) learner
+  learner_knows = subst (λ (l : log.Memory). learners.LeadsTo cluster_version c h l learner) (values_of-learns m command value spells) learned
 
   pub learned_then : LeadsTo c h (with_command m command) (record k { learner = learner; prefix = prefix })
   learned_then = record {
-    learner = subst (λ (o : Option LogOutcome). learners.LeadsTo c h (record { learned = map spelling (m.learned ++ command ∷ []); floor = 0; doing = None; said = o }) learner) (sym learner_knows.said) learner_knows;
+    learner = subst (λ (o : Option LogOutcome). learners.LeadsTo cluster_version c h (record { learned = map spelling (m.learned ++ command ∷ []); floor = 0; doing = None; said = o }) learner) (sym learner_knows.said) learner_knows;
     prefix = prefix_is ∙ ap (λ (l : List Command). l ++ command ∷ []) leads.prefix;
     said = leads.said;
     readings = leads.readings;

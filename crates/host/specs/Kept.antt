@@ -14,6 +14,7 @@ use Rattle.marks.specs.Kept as mark_kept
 use Rattle.marks.specs.Notes as mark_notes
 use Rattle.looks.specs.Kept as look_kept
 use Rattle.looks.specs.declared.notes.Notes as look_notes
+use Rattle.torn_block.specs.Layout.{cluster_version}
 use Rattle.slot_log.specs.Kept as learners
 use Rattle.slot_log.specs.Learning as log
 use Rattle.slot_log.specs.declared.operation.Operation.TheVariants as operation
@@ -173,7 +174,7 @@ IsDoing c h m doing (beside.Mark notes) = (t : Marking) × (doing ≡ Some (Mark
 
 -- What is known leads to this: it is what the host keeps.
 pub record LeadsTo (c : Shape) (h : ℕ) (m : Memory) (k : Kept) : Type 0 where
-  pub learner : learners.LeadsTo c h (values_with k.learner.said m) k.learner
+  pub learner : learners.LeadsTo cluster_version c h (values_with k.learner.said m) k.learner
   pub prefix : k.prefix ≡ m.learned
   pub said : k.said ≡ m.said
   pub readings : option_map (take c.disks) k.readings ≡ m.readings

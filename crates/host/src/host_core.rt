@@ -1,5 +1,6 @@
 ghost use Rattle.std.specs.Prelude.{◌≡◌, ◌≤◌, ◌<◌, ◌++◌, ◌∷◌, [], ℕ, true, false, length, is_none, IfOk, Option, None, is_some, take, vec_len, vec_capacity};
 ghost use Rattle.std.specs.Option.{option_map};
+ghost use Rattle.torn_block.specs.Layout.{cluster_version};
 ghost use Rattle.paxos_block.specs.Places.{image_length};
 ghost use Rattle.attempt.specs.History.{Fits};
 ghost use Rattle.lock_command.specs.Command.{spelling};
@@ -234,9 +235,9 @@ impl HostCore {
     pub fn call(&self) -> Need<'_>
         requires { is_idle self.now ≡ false }
         ensures next { (c : Shape) (h : ℕ) (m : Memory) → LeadsTo c h m self.now →
-            next_in c h m ≡ Some (call_of_need result) }
-        ensures due { call_of_need result ≡ due_call self.now }
-        ensures range { IsWithin (image_length self.now.learner.shape.slots) result.call }
+            next_in c h m ≡ Some (call_of_need cluster_version result) }
+        ensures due { call_of_need cluster_version result ≡ due_call self.now }
+        ensures range { IsWithin cluster_version (image_length cluster_version self.now.learner.shape.slots) result.call }
         ensures disk { result.disk < self.now.learner.shape.disks }
     {
         match &self.beside {
@@ -252,13 +253,13 @@ impl HostCore {
     #[inline(always)]
     pub fn hear(&mut self, heard: &Heard<'_>)
         requires busy { is_idle self.old ≡ false }
-        requires fits { Fits (due_call self.old).1 (heard_of heard.now) }
+        requires fits { Fits (due_call self.old).1 (heard_of cluster_version heard.now) }
         ensures leads { (c : Shape) (h : ℕ) (m : Memory) → LeadsTo c h m self.old →
             LeadsTo c h (hears_from c h m m.doing (due_call self.old).0 (device_answer heard.now)) self.new }
         // An attempt ends Committed, Decided, Empty or BallotsSpent, within 17 calls a disk, if most disks answer and no other host
         // makes a call on the slot meanwhile.
         ensures alone { (c : Shape) (h : ℕ) (m : Memory) → LeadsTo c h m self.old →
-            IsAnsweredAlone c h m m.doing (record { disk = (due_call self.old).0; heard = heard_of heard.now }) }
+            IsAnsweredAlone c h m m.doing (record { disk = (due_call self.old).0; heard = heard_of cluster_version heard.now }) }
         // With this answer a look has heard at most two answers a disk of the slot that it is at, and a beat or a marking at most nine.
         ensures few { (c : Shape) (h : ℕ) (m : Memory) → LeadsTo c h m self.old →
             HasHeardFew c m.doing }
@@ -278,11 +279,11 @@ impl HostCore {
     fn hear_attempt(&mut self, heard: &Heard<'_>)
         requires alone { self.old.beside ≡ beside.Nothing }
         requires busy { is_idle self.old ≡ false }
-        requires fits { Fits (due_call self.old).1 (heard_of heard.now) }
+        requires fits { Fits (due_call self.old).1 (heard_of cluster_version heard.now) }
         ensures leads { (c : Shape) (h : ℕ) (m : Memory) → LeadsTo c h m self.old →
             LeadsTo c h (hears_from c h m m.doing (due_call self.old).0 (device_answer heard.now)) self.new }
         ensures alone { (c : Shape) (h : ℕ) (m : Memory) → LeadsTo c h m self.old →
-            IsAnsweredAlone c h m m.doing (record { disk = (due_call self.old).0; heard = heard_of heard.now }) }
+            IsAnsweredAlone c h m m.doing (record { disk = (due_call self.old).0; heard = heard_of cluster_version heard.now }) }
         ensures few { (c : Shape) (h : ℕ) (m : Memory) → LeadsTo c h m self.old →
             HasHeardFew c m.doing }
     {
@@ -299,11 +300,11 @@ impl HostCore {
     #[inline(never)]
     fn hear_look(&mut self, heard: &Heard<'_>)
         requires looks { is_looking self.old.beside ≡ true }
-        requires fits { Fits (due_call self.old).1 (heard_of heard.now) }
+        requires fits { Fits (due_call self.old).1 (heard_of cluster_version heard.now) }
         ensures leads { (c : Shape) (h : ℕ) (m : Memory) → LeadsTo c h m self.old →
             LeadsTo c h (hears_from c h m m.doing (due_call self.old).0 (device_answer heard.now)) self.new }
         ensures alone { (c : Shape) (h : ℕ) (m : Memory) → LeadsTo c h m self.old →
-            IsAnsweredAlone c h m m.doing (record { disk = (due_call self.old).0; heard = heard_of heard.now }) }
+            IsAnsweredAlone c h m m.doing (record { disk = (due_call self.old).0; heard = heard_of cluster_version heard.now }) }
         ensures few { (c : Shape) (h : ℕ) (m : Memory) → LeadsTo c h m self.old →
             HasHeardFew c m.doing }
         ensures silent { AcknowledgesNone self.new.said }
@@ -334,11 +335,11 @@ impl HostCore {
     #[inline(never)]
     fn hear_beat(&mut self, heard: &Heard<'_>)
         requires beats { is_beating self.old.beside ≡ true }
-        requires fits { Fits (due_call self.old).1 (heard_of heard.now) }
+        requires fits { Fits (due_call self.old).1 (heard_of cluster_version heard.now) }
         ensures leads { (c : Shape) (h : ℕ) (m : Memory) → LeadsTo c h m self.old →
             LeadsTo c h (hears_from c h m m.doing (due_call self.old).0 (device_answer heard.now)) self.new }
         ensures alone { (c : Shape) (h : ℕ) (m : Memory) → LeadsTo c h m self.old →
-            IsAnsweredAlone c h m m.doing (record { disk = (due_call self.old).0; heard = heard_of heard.now }) }
+            IsAnsweredAlone c h m m.doing (record { disk = (due_call self.old).0; heard = heard_of cluster_version heard.now }) }
         ensures few { (c : Shape) (h : ℕ) (m : Memory) → LeadsTo c h m self.old →
             HasHeardFew c m.doing }
         ensures silent { AcknowledgesNone self.new.said }
@@ -367,11 +368,11 @@ impl HostCore {
     #[inline(never)]
     fn hear_marking(&mut self, heard: &Heard<'_>)
         requires marks { is_marking self.old.beside ≡ true }
-        requires fits { Fits (due_call self.old).1 (heard_of heard.now) }
+        requires fits { Fits (due_call self.old).1 (heard_of cluster_version heard.now) }
         ensures leads { (c : Shape) (h : ℕ) (m : Memory) → LeadsTo c h m self.old →
             LeadsTo c h (hears_from c h m m.doing (due_call self.old).0 (device_answer heard.now)) self.new }
         ensures alone { (c : Shape) (h : ℕ) (m : Memory) → LeadsTo c h m self.old →
-            IsAnsweredAlone c h m m.doing (record { disk = (due_call self.old).0; heard = heard_of heard.now }) }
+            IsAnsweredAlone c h m m.doing (record { disk = (due_call self.old).0; heard = heard_of cluster_version heard.now }) }
         ensures few { (c : Shape) (h : ℕ) (m : Memory) → LeadsTo c h m self.old →
             HasHeardFew c m.doing }
         ensures silent { AcknowledgesNone self.new.said }
@@ -469,8 +470,9 @@ fn judge(
     requires offered { offered_of learner.old ≡ Some value.now }
     requires room { vec_len prefix.old < vec_capacity prefix.old }
     requires table { IsPictureOf table.old (table_after prefix.old.items) }
-    ensures leads { (c : Shape) (h : ℕ) (m : log.Memory) → learners.LeadsTo c h m learner.old →
-        learners.LeadsTo c h (log.takes c h m m.doing (is_some (decoded value.now))) learner.new }
+    ensures leads { (c : Shape) (h : ℕ) (m : log.Memory) →
+        learners.LeadsTo cluster_version c h m learner.old →
+        learners.LeadsTo cluster_version c h (log.takes cluster_version c h m m.doing (is_some (decoded value.now))) learner.new }
     ensures judged { offered_of learner.new ≡ None }
     ensures learned { learner.new.learned ≡ learner.old.learned ++ option_list (option_map spelling (decoded value.now)) }
     ensures same { (learner.new.host ≡ learner.old.host) × (learner.new.shape ≡ learner.old.shape) }

@@ -1,5 +1,6 @@
 // Hosts driven over simulated disks, call by call.
 ghost use Rattle.attempt.specs.History.{Fits};
+ghost use Rattle.torn_block.specs.Layout.{cluster_version};
 ghost use Rattle.phases.specs.Calls.{device_call_of, heard_of};
 
 use crate::replies::GRANTED;
@@ -137,7 +138,7 @@ fn recover(host: &mut HostCore) -> Result<(), Fail> {
 }
 
 fn answer<'a>(disk: &mut SimDisk, call: &DeviceCall<'_>, row: &'a mut [u8; ROW_LENGTH]) -> Heard<'a>
-    ensures { Fits (device_call_of call.now) (heard_of result) }
+    ensures { Fits (device_call_of cluster_version call.now) (heard_of cluster_version result) }
 {
     if !is_within(disk.size(), call) {
         return Heard::Fault(DiskFault::Failed);

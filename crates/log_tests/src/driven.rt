@@ -3,7 +3,7 @@ ghost use Rattle.std.specs.Prelude.{◌≤◌, ◌+◌, ℕ, List, length};
 ghost use Rattle.std.specs.Bool.{OnTrue};
 ghost use Rattle.torn_block.specs.Layout.{Version};
 ghost use Rattle.attempt.specs.History.{Fits};
-ghost use Rattle.phases.specs.layouts.Calls.{device_call_of, heard_of};
+ghost use Rattle.phases.specs.Calls.{device_call_of, heard_as};
 
 use disk::{Disk, DiskFault, NoMemory, SimDisk};
 use paxos_block::Value;
@@ -45,7 +45,7 @@ pub(crate) fn answer<'a, const N: usize>(
     call: &DeviceCall<'_>,
     row: &'a mut [u8; N],
 ) -> Heard<'a, [u8; N]>
-    ensures { (v : Version) (bytes_of : List ℕ → List ℕ) → Fits (device_call_of v call.now) (heard_of v bytes_of result) }
+    ensures { (v : Version) (bytes_of : List ℕ → List ℕ) → Fits (device_call_of v call.now) (heard_as v bytes_of result) }
 {
     match call {
         DeviceCall::Attach => match disk.attach() {

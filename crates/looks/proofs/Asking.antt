@@ -5,6 +5,7 @@ use Rattle.std.proofs.Common.{ℕ, zero, suc, ◌+◌, ◌*◌, ◌<◌, ◌≤�
 use Rattle.std.proofs.lemmas.Bool.{cases_eq, cases_lt, lt-ltb, le-ltb, le-leb, lt-leb}
 use Rattle.disk.specs.Disk as device
 use Rattle.disk.specs.declared.boot.Boot.{Boot}
+use Rattle.torn_block.specs.Layout.{cluster_version}
 use Rattle.paxos_block.specs.Row.{DecodedBlock}
 use Rattle.paxos_block.specs.Votes.{marked_in}
 use Rattle.attempt.specs.Answers.{Heard, Booted, Done, Told, Fault, Answers, more, is_bad, all_good}
@@ -246,7 +247,7 @@ module _ (f : Answers) (n : Notes) (is : Follows f n) (going : n.end ≡ None) (
       (stays f n v first asks x (stage.Reading boot) (ap shows_no_mark now ∙ refl) (ap (λ (a : List Heard). not (all_good a)) now ∙ refl) now)
 
   -- a bad answer
-  bad_row : (x : Heard) → is_bad x ≡ true → option_and_then marked_in (row_of (Done ∷ x ∷ [])) ≡ None
+  bad_row : (x : Heard) → is_bad x ≡ true → option_and_then (marked_in cluster_version) (row_of (Done ∷ x ∷ [])) ≡ None
   bad_row (Booted boot) bad = absurd (cc)
   bad_row Done bad = absurd (cc)
   bad_row (Told None) bad = refl
@@ -286,10 +287,10 @@ module _ (f : Answers) (n : Notes) (is : Follows f n) (going : n.end ≡ None) (
     two_are : f (disk_of n) ++ told ∷ [] ≡ Booted boot.number ∷ told ∷ []
     two_are = ap (λ (a : List Heard). a ++ told ∷ []) (at (stage.Reading boot) st)
 
-    pub sees : (value : List ℕ) → marked_in row ≡ Some value → status (setup_of n) (more f (disk_of n) told) ≡ Ended (Decided (disk_of n) value)
+    pub sees : (value : List ℕ) → marked_in cluster_version row ≡ Some value → status (setup_of n) (more f (disk_of n) told) ≡ Ended (Decided (disk_of n) value)
     sees value mark = tells f n v first asks told value (ap mark_of two_are ∙ mark)
 
-    pub sees_none : marked_in row ≡ None → (unmarked : ℕ) → unmarked ≡ n.unmarked + 1 → AreAsked (setup_of n) (more f (disk_of n) told) (n.asked + 1) unmarked
+    pub sees_none : marked_in cluster_version row ≡ None → (unmarked : ℕ) → unmarked ≡ n.unmarked + 1 → AreAsked (setup_of n) (more f (disk_of n) told) (n.asked + 1) unmarked
     sees_none none unmarked is_so =
         passes f n v first asks told true
         (record { done = ap waits two_are ∙ refl; no_mark = ap mark_of two_are ∙ none })

@@ -3,11 +3,11 @@ use Rattle.std.specs.Prelude.{◌&&◌, nat_lt, is_some, is_none, option_and_the
 use Rattle.std.specs.Option.{option_or}
 use Rattle.std.proofs.Common.{ℕ, zero, suc, ◌*◌, ◌<◌, ◌≤◌, ◌≡◌, ◌≢◌, ◌⊎◌, Bool, true, false, not, Option, Some, None, List, [], ◌∷◌, length, refl, sym, subst, ap, ◌∙◌, arith, inl, inr}
 use Rattle.std.proofs.lemmas.Bool.{ltb-true, ltb-false, leb-true, cases_eq}
+use Rattle.torn_block.specs.Layout.{cluster_version}
 use Rattle.torn_block.specs.declared.layout.TheConstants.{HOSTS}
-use Rattle.paxos_block.specs.layouts.Saying.{Said}
+use Rattle.paxos_block.specs.Saying.{Said}
 use Rattle.paxos_block.specs.Row.{DecodedBlock}
-use Rattle.paxos_block.specs.Votes.{says_in, marked, marked_in}
-use Rattle.paxos_block.specs.layouts.Votes.{marked_below}
+use Rattle.paxos_block.specs.Votes.{says_in, marked, marked_in, marked_below}
 use Rattle.attempt.specs.Answers.{Heard, Booted, Told, Answered, Answers, on, all_good}
 use Rattle.attempt.specs.Numbers.{count, first_below}
 use Rattle.attempt.proofs.Firsts.{some_below, none_below, below_some}
@@ -43,7 +43,7 @@ mark_in row (suc n) value l some =
       | inr here ↦ (let both = marked_by (says_in row n) value (says_in row n).mark refl here in record { host = n; below = omega arith; mark = both.0; inp = both.1 })
     ]
 
-read_by : (a : List Heard) (value : List ℕ) (o : Option (List DecodedBlock)) → row_of a ≡ o → option_and_then marked_in o ≡ Some value → IsMarkRead a value
+read_by : (a : List Heard) (value : List ℕ) (o : Option (List DecodedBlock)) → row_of a ≡ o → option_and_then (marked_in cluster_version) o ≡ Some value → IsMarkRead a value
 read_by a value None is some = absurd (cc)
 read_by a value (Some row) is some =
     let has = mark_in row HOSTS value (omega arith) some in
@@ -72,9 +72,9 @@ is_none_so : (o : Option (List ℕ)) → is_none o ≡ true → o ≡ None
 is_none_so None is = refl
 is_none_so (Some value) is = absurd (cc)
 
-none_by : (a : List Heard) (o : Option (List DecodedBlock)) → row_of a ≡ o → (is_some o && is_none (option_and_then marked_in o)) ≡ true → IsNoMarkRead a
+none_by : (a : List Heard) (o : Option (List DecodedBlock)) → row_of a ≡ o → (is_some o && is_none (option_and_then (marked_in cluster_version) o)) ≡ true → IsNoMarkRead a
 none_by a None is shows = absurd (cc)
-none_by a (Some row) is shows = record { row = row; read = is; none = no_mark_in row HOSTS (is_none_so (marked_in row) shows) }
+none_by a (Some row) is shows = record { row = row; read = is; none = no_mark_in row HOSTS (is_none_so (marked_in cluster_version row) shows) }
 
 pub no_mark_read : (a : List Heard) → shows_no_mark a ≡ true → IsNoMarkRead a
 no_mark_read a shows = none_by a (row_of a) refl shows
@@ -184,7 +184,7 @@ too_few s heard first history is =
 
 -- ONE DISK IS ENOUGH
 
-pub one_is_enough : (s : Setup) (boot : ℕ) (row : List DecodedBlock) (value : List ℕ) → s.first < s.disks → marked_in row ≡ Some value → status s (on (record { disk = s.first; heard = Booted boot } ∷ record { disk = s.first; heard = Told (Some row) } ∷ [])) ≡ Ended (Decided s.first value)
+pub one_is_enough : (s : Setup) (boot : ℕ) (row : List DecodedBlock) (value : List ℕ) → s.first < s.disks → marked_in cluster_version row ≡ Some value → status s (on (record { disk = s.first; heard = Booted boot } ∷ record { disk = s.first; heard = Told (Some row) } ∷ [])) ≡ Ended (Decided s.first value)
 one_is_enough s boot row value first mark =
     let heard : List Answered = record { disk = s.first; heard = Booted boot } ∷ record { disk = s.first; heard = Told (Some row) } ∷ [] in
     let f : Answers = on heard in

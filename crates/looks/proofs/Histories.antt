@@ -3,6 +3,7 @@ use Rattle.std.specs.Prelude.{nat_lt, is_some, option_and_then, if◌then◌else
 use Rattle.std.proofs.Common.{ℕ, ◌*◌, ◌<◌, ◌≤◌, ◌≡◌, Bool, true, false, not, Option, Some, None, List, [], ◌∷◌, ◌++◌, length, refl, sym, subst, ap, ◌∙◌, arith, length-append}
 use Rattle.std.proofs.lemmas.Bool.{and_parts, ltb-true, le-ltb}
 use Rattle.disk.specs.Disk as device
+use Rattle.torn_block.specs.Layout.{cluster_version}
 use Rattle.torn_block.specs.declared.layout.TheConstants.{ROW_LENGTH}
 use Rattle.paxos_block.specs.Places.{row_place}
 use Rattle.attempt.specs.Answers.{Heard, Booted, Done, Told, Fault, Answered, Answers, on, is_bad, all_good, boot_of, told}
@@ -81,7 +82,7 @@ reads_in s f d call (Due e) is =
     let pair : (e, call_on s (f e)) ≡ (d, call) = cc in
     let P : ℕ × device.Call → device.Call = λ p. p.1 in
     let same : call_on s (f e) ≡ call = ap P pair in
-    subst OnlyReads same (reads_by (nat_lt (length (f e)) 1) (boot_of (f e)) (row_place s.slot) ROW_LENGTH)
+    subst OnlyReads same (reads_by (nat_lt (length (f e)) 1) (boot_of (f e)) (row_place cluster_version s.slot) ROW_LENGTH)
 reads_in s f d call (Ended end) is = absurd (cc)
 
 pub reads : (s : Setup) (f : Answers) (d : ℕ) (call : device.Call) → next_call s f ≡ Some (d, call) → OnlyReads call
@@ -125,10 +126,10 @@ module _ (s : Setup) (first : s.first < s.disks) where
   read_next a x short fits good long =
       let one : length a ≡ 1 = omega (arith, length-append a (x ∷ []), long) in
       let late : nat_lt (length a) 1 ≡ false = le-ltb (length a) 1 (omega arith) in
-      let read = subst (λ (b : Bool). Fits (if b then device.Attach else device.Read (boot_of a) (row_place s.slot) ROW_LENGTH) x) late fits in
+      let read = subst (λ (b : Bool). Fits (if b then device.Attach else device.Read (boot_of a) (row_place cluster_version s.slot) ROW_LENGTH) x) late fits in
       let parts = and_parts (all_good a) (not (is_bad x)) (sym (good_more a x) ∙ good) in
       ap (λ (o : Option Heard). is_some (option_and_then told o)) (get_last a x 1 (sym one))
-      ∙ row_told (boot_of a) (row_place s.slot) ROW_LENGTH x read (not_true (is_bad x) parts.1)
+      ∙ row_told (boot_of a) (row_place cluster_version s.slot) ROW_LENGTH x read (not_true (is_bad x) parts.1)
     where
       not_true : (b : Bool) → not b ≡ true → b ≡ false
       not_true true is = absurd (cc)

@@ -1,6 +1,7 @@
 -- What a look keeps, and when that is what follows from a list of answers.
 use Rattle.std.specs.Prelude.{◌≡◌, ◌<◌, ◌≤◌, ◌*◌, ◌+◌, ◌==◌, ℕ, zero, suc, false, not, nat_lt, List, [], ◌∷◌, Option, Some, None, if◌then◌else◌}
 use Rattle.disk.specs.Disk as device
+use Rattle.torn_block.specs.Layout.{cluster_version}
 use Rattle.torn_block.specs.declared.layout.TheConstants.{DISKS, ROW_LENGTH}
 use Rattle.paxos_block.specs.Places.{row_place}
 use Rattle.attempt.specs.Answers.{Heard, Booted, Answered, Answers, on, all_good}
@@ -39,14 +40,14 @@ disk_of n = disk_at n.first n.asked
 
 abbrev pub call_at : Stage → ℕ → device.Call
 call_at stage.Attaching slot = device.Attach
-call_at (stage.Reading boot) slot = device.Read boot.number (row_place slot) ROW_LENGTH
+call_at (stage.Reading boot) slot = device.Read boot.number (row_place cluster_version slot) ROW_LENGTH
 
 abbrev pub call_due : Notes → ℕ × device.Call
 call_due n = (disk_of n, call_at n.stage n.slot)
 
 -- an answer to it
 abbrev pub answer_of : Notes → code_heard.Heard (List ℕ) → Answered
-answer_of n heard = record { disk = disk_of n; heard = heard_of heard }
+answer_of n heard = record { disk = disk_of n; heard = heard_of cluster_version heard }
 
 -- an answer of the kind that the call may get
 abbrev pub FitsStage : Stage → code_heard.Heard (List ℕ) → Type 0

@@ -1,6 +1,7 @@
 -- Of the headline. Where a look at a slot stands: the disk on which a call is due, or its end. And the call that is due.
 use Rattle.std.specs.Prelude.{◌*◌, ◌&&◌, ℕ, Bool, not, List, length, nat_lt, nat_le, slice_get, Option, Some, None, option_and_then, is_some, is_none, if◌then◌else◌}
 use Rattle.disk.specs.Disk as device
+use Rattle.torn_block.specs.Layout.{cluster_version}
 use Rattle.torn_block.specs.declared.layout.TheConstants.{ROW_LENGTH}
 use Rattle.paxos_block.specs.Places.{row_place}
 use Rattle.paxos_block.specs.Row.{DecodedBlock}
@@ -26,7 +27,7 @@ row_of a = option_and_then told (slice_get a 1)
 
 -- the input of the first marked block of that row
 abbrev pub mark_of : List Heard → Option (List ℕ)
-mark_of a = option_and_then marked_in (row_of a)
+mark_of a = option_and_then (marked_in cluster_version) (row_of a)
 
 -- a sound row was read there, and no block of it is marked
 abbrev pub shows_no_mark : List Heard → Bool
@@ -87,7 +88,7 @@ status s f = unless_told f (marked_on s f) (asking s f)
 -- THE CALL THAT IS DUE
 
 abbrev pub call_on : Setup → List Heard → device.Call
-call_on s a = if nat_lt (length a) 1 then device.Attach else device.Read (boot_of a) (row_place s.slot) ROW_LENGTH
+call_on s a = if nat_lt (length a) 1 then device.Attach else device.Read (boot_of a) (row_place cluster_version s.slot) ROW_LENGTH
 
 abbrev pub next_in : Setup → Answers → Status → Option (ℕ × device.Call)
 next_in s f (Due d) = Some (d, call_on s (f d))

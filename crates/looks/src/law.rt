@@ -1,6 +1,7 @@
 // What bounds the device calls of a look, and what its ends rest on.
 ghost use Rattle.std.specs.Prelude.{◌≡◌, ◌*◌, ◌<◌, ◌≤◌, ◌∷◌, [], ℕ, List, length, true, not, Some};
 ghost use Rattle.disk.specs.Disk.{Call};
+ghost use Rattle.torn_block.specs.Layout.{cluster_version};
 ghost use Rattle.paxos_block.specs.Row.{DecodedBlock};
 ghost use Rattle.paxos_block.specs.Votes.{marked_in};
 ghost use Rattle.attempt.specs.Answers as answers;
@@ -20,7 +21,8 @@ pub fn two_calls_a_disk()
     ensures due { (s : Setup) (heard : List Answered) (d : ℕ) → s.first < s.disks → status s (on heard) ≡ Due d →
         (d < s.disks) × ((call : Call) × (next_call s (on heard) ≡ Some (d, call))) }
     // A mark on the disk that is asked first makes it two calls in all.
-    ensures one { (s : Setup) (boot : ℕ) (row : List DecodedBlock) (value : List ℕ) → s.first < s.disks → marked_in row ≡ Some value →
+    ensures one { (s : Setup) (boot : ℕ) (row : List DecodedBlock) (value : List ℕ) →
+        s.first < s.disks → marked_in cluster_version row ≡ Some value →
         status s (on (record { disk = s.first; heard = answers.Booted boot } ∷ record { disk = s.first; heard = answers.Told (Some row) } ∷ []))
         ≡ Ended (Decided s.first value) }
 {}

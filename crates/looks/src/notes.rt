@@ -1,5 +1,6 @@
 // What a look keeps of what it has heard, and how each answer changes it.
 ghost use Rattle.std.specs.Prelude.{◌≡◌, ◌<◌, ◌≤◌, ◌+◌, ℕ, List, true, [], Some, None};
+ghost use Rattle.torn_block.specs.Layout.{cluster_version};
 ghost use Rattle.torn_block.specs.declared.layout.TheConstants.{DISKS, ROW_LENGTH};
 ghost use Rattle.paxos_block.specs.Places.{row_place};
 ghost use Rattle.paxos_block.specs.Row.{DecodedBlock, decoded_row};
@@ -75,8 +76,8 @@ impl Notes {
 
     /// The device call that is due, on that disk.
     pub fn call(&self) -> DeviceCall<'_>
-        ensures due { device_call_of result ≡ call_at self.now.stage self.now.slot }
-        ensures range { IsWithin (row_place self.now.slot + ROW_LENGTH) result }
+        ensures due { device_call_of cluster_version result ≡ call_at self.now.stage self.now.slot }
+        ensures range { IsWithin cluster_version (row_place cluster_version self.now.slot + ROW_LENGTH) result }
     {
         match self.stage {
             Stage::Attaching => DeviceCall::Attach,
@@ -95,7 +96,7 @@ impl Notes {
         ensures sound { IsSound self.new }
         ensures same { IsSameLook self.old self.new }
         ensures follows { (f : Answers) → Follows f self.old →
-            Follows (more f (disk_of self.old) (heard_of heard.now)) self.new }
+            Follows (more f (disk_of self.old) (heard_of cluster_version heard.now)) self.new }
     {
         match heard {
             Heard::Booted(boot) => self.stage = Stage::Reading { boot: *boot },
@@ -115,7 +116,7 @@ impl Notes {
         ensures sound { IsSound self.new }
         ensures same { IsSameLook self.old self.new }
         ensures follows { (f : Answers) → Follows f self.old →
-            Follows (more f (disk_of self.old) (answers.Told (decoded_row bytes.now))) self.new }
+            Follows (more f (disk_of self.old) (answers.Told (decoded_row cluster_version bytes.now))) self.new }
     {
         // Of the gist the mark alone is looked at, which is the same for every host and whatever vote was found before.
         match read_gist::<ClusterLayout>(bytes, 0, &PBlock::blank()) {
@@ -131,7 +132,8 @@ impl Notes {
         requires stage { (boot : _) × (self.old.stage ≡ Stage.Reading boot) }
         ensures sound { IsSound self.new }
         ensures same { IsSameLook self.old self.new }
-        ensures follows { (f : Answers) (row : List DecodedBlock) → marked_in row ≡ mark → Follows f self.old →
+        ensures follows { (f : Answers) (row : List DecodedBlock) →
+            marked_in cluster_version row ≡ mark → Follows f self.old →
             Follows (more f (disk_of self.old) (answers.Told (Some row))) self.new }
     {
         match mark {

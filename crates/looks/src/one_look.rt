@@ -1,5 +1,6 @@
 ghost use Rattle.std.specs.Prelude.{◌≡◌, ◌<◌, ◌≤◌, ◌+◌, ◌*◌, ◌++◌, ◌∷◌, [], List, Some, None, length};
 ghost use Rattle.std.specs.Option.{option_map};
+ghost use Rattle.torn_block.specs.Layout.{cluster_version};
 ghost use Rattle.torn_block.specs.declared.layout.TheConstants.{DISKS, ROW_LENGTH};
 ghost use Rattle.paxos_block.specs.Places.{row_place};
 ghost use Rattle.attempt.specs.Answers.{Answered, on};
@@ -54,9 +55,9 @@ impl Look {
         requires { self.now.end ≡ None }
         // The call that the definition names after these answers, with the same boot number.
         ensures next { (s : Setup) (heard : List Answered) → LeadsTo s heard self.now →
-            next_call s (on heard) ≡ Some (call_of_need result) }
-        ensures due { call_of_need result ≡ call_due self.now }
-        ensures range { IsWithin (row_place self.now.slot + ROW_LENGTH) result.call }
+            next_call s (on heard) ≡ Some (call_of_need cluster_version result) }
+        ensures due { call_of_need cluster_version result ≡ call_due self.now }
+        ensures range { IsWithin cluster_version (row_place cluster_version self.now.slot + ROW_LENGTH) result.call }
         ensures disk { result.disk < self.now.disks }
     {
         Need {
@@ -68,7 +69,7 @@ impl Look {
     /// Hears the answer to the call that is due.
     pub fn hear(&mut self, heard: &Heard<'_>)
         requires going { self.old.end ≡ None }
-        requires fits { Fits (call_due self.old).1 (heard_of heard.now) }
+        requires fits { Fits (call_due self.old).1 (heard_of cluster_version heard.now) }
         ensures leads { (s : Setup) (answers : List Answered) → LeadsTo s answers self.old →
             LeadsTo s (answers ++ answer_of self.old heard.now ∷ []) self.new }
         ensures bound { (s : Setup) (answers : List Answered) → LeadsTo s answers self.old →

@@ -3,12 +3,12 @@ use Rattle.std.proofs.Common.{ℕ, ◌<◌, ◌≡◌, true, false, not, Option,
 use Rattle.std.specs.Prelude.{◌&&◌, is_some}
 use Rattle.std.specs.Option.{option_map}
 use Rattle.disk.specs.Disk as device
+use Rattle.torn_block.specs.Layout.{cluster_version}
 use Rattle.torn_block.specs.declared.block.Block128.{Block128}
 use Rattle.torn_block.specs.Plan.{IsReading, told_number}
 use Rattle.paxos_block.specs.Places.{place_of, VoteOf, row_place}
-use Rattle.paxos_block.specs.Saying.{Said as PBlock, MaySay, body_saying}
+use Rattle.paxos_block.specs.Saying.{Said as PBlock, MaySay, body_saying, said_as}
 use Rattle.paxos_block.specs.Row.{DecodedBlock, IsSaid, seen_at, number_or_zero, decoded_row}
-use Rattle.paxos_block.specs.layouts.Saying.{said_as}
 use Rattle.attempt.specs.Answers.{Heard, Told, Answered, Answers, heard_as, more, on}
 use Rattle.attempt.specs.History.{Fits, IsAnswerTo}
 use Rattle.attempt.specs.Numbers.{count}
@@ -43,7 +43,8 @@ has_input None value holds = absurd (cc)
 has_input (Some inp) value holds = refl
 
 -- a block that was read may be said with a mark where it holds a value
-pub may_mark_it : (host : ℕ) (read : Option (ℕ × List ℕ)) (says : PBlock) (value : List ℕ) → IsSaid host read says → is_value says.inp value ≡ true → MaySay host (with_mark says)
+pub may_mark_it : (host : ℕ) (read : Option (ℕ × List ℕ)) (says : PBlock) (value : List ℕ) → IsSaid cluster_version host read says → is_value says.inp value ≡ true
+    → MaySay cluster_version host (with_mark says)
 may_mark_it host None says value said holds =
     let none : false ≡ true = sym (ap (λ (x : PBlock). is_value x.inp value) said) ∙ holds in
     absurd (cc)
@@ -62,7 +63,7 @@ pub says_shown : (says seen : PBlock) → said_as (λ value. value) says ≡ see
 says_shown says seen is = sym (said_same says) ∙ is
 
 -- an answer as the definitions of an attempt see it
-heard_same : (x : code_heard.Heard (List ℕ)) → heard_as (device_answer x) ≡ heard_of x
+heard_same : (x : code_heard.Heard (List ℕ)) → heard_as (device_answer x) ≡ heard_of cluster_version x
 heard_same (answer.Booted boot) = refl
 heard_same answer.Done = refl
 heard_same (answer.Told bytes) = refl
@@ -99,16 +100,16 @@ module _ (host slot : ℕ) (value : List ℕ) (r : Round) where
         }
 
     -- the answer did not tell what was read
-    pub hears : (x : code_heard.Heard (List ℕ)) → Fits (call_due n).1 (heard_of x) → ((bytes : _) → x ≡ answer.Told bytes → ⊥) → (new : Round) → new ≡ rounds.hears r x → new.disks ≡ r.disks → LeadsTo of (answers ++ answer_of n x ∷ []) (notes_in host slot value new)
+    pub hears : (x : code_heard.Heard (List ℕ)) → Fits (call_due n).1 (heard_of cluster_version x) → ((bytes : _) → x ≡ answer.Told bytes → ⊥) → (new : Round) → new ≡ rounds.hears r x → new.disks ≡ r.disks → LeadsTo of (answers ++ answer_of n x ∷ []) (notes_in host slot value new)
     hears x fits other new step disks =
         subst (λ (y : Heard). LeadsTo of (answers ++ record { disk = r.disk; heard = y } ∷ []) (notes_in host slot value new)) (heard_same x)
         (let fits_too = subst (Fits (call_due n).1) (sym (heard_same x)) fits in
-        leads (heard_as (device_answer x)) fits_too (rounds.hears r x) new step disks (rounds_on.heard (duty s) f r led.follows going below decoded_row x fits_too other))
+        leads (heard_as (device_answer x)) fits_too (rounds.hears r x) new step disks (rounds_on.heard (duty s) f r led.follows going below (decoded_row cluster_version) x fits_too other))
 
     module _ (st : r.stage ≡ stage.Reading) where
       -- what was read fits
       fits_read : (o : Option (List DecodedBlock)) → Fits (call_due n).1 (Told o)
-      fits_read o = subst (λ (q : Stage). Fits (rounds.call_at q (row_place slot) (place_of (VoteOf slot host)) r) (Told o)) (sym st) tt
+      fits_read o = subst (λ (q : Stage). Fits (rounds.call_at q (row_place cluster_version slot) (place_of cluster_version (VoteOf slot host)) r) (Told o)) (sym st) tt
 
       -- nothing sound
       pub reads_damage : (new : Round) → new ≡ rounds.drops r → new.disks ≡ r.disks → LeadsTo of (answers ++ record { disk = r.disk; heard = Told None } ∷ []) (notes_in host slot value new)
@@ -116,12 +117,12 @@ module _ (host slot : ℕ) (value : List ℕ) (r : Round) where
 
       -- a row with this block, which is to be written or not
       module _ (row : List DecodedBlock) (says : PBlock) (shown : says ≡ (seen_at row host).says) (new : Round) (disks : new.disks ≡ r.disks) where
-        pub writes : (block : Block128) → IsReading (seen_at row host).bytes block → number_or_zero (told_number block) ≡ (seen_at row host).sequence → (not says.mark && is_value says.inp value) ≡ true → new ≡ rounds.begins r block (body_saying (with_mark says))
+        pub writes : (block : Block128) → IsReading cluster_version (seen_at row host).bytes block → number_or_zero (told_number block) ≡ (seen_at row host).sequence → (not says.mark && is_value says.inp value) ≡ true → new ≡ rounds.begins r block (body_saying cluster_version (with_mark says))
             → LeadsTo of (answers ++ record { disk = r.disk; heard = Told (Some row) } ∷ []) (notes_in host slot value new)
         writes block read sequence due step =
-            leads (Told (Some row)) (fits_read (Some row)) (rounds.begins r block (body_saying (with_mark says))) new step disks
-            (rounds_on.write (duty s) f r led.follows going below st row block (body_saying (with_mark says))
-            (record { due = ap (λ (x : PBlock). not x.mark && is_value x.inp value) (sym shown) ∙ due; read = read; sequence = sequence; writes = ap (λ (x : PBlock). body_saying (with_mark x)) shown }))
+            leads (Told (Some row)) (fits_read (Some row)) (rounds.begins r block (body_saying cluster_version (with_mark says))) new step disks
+            (rounds_on.write (duty s) f r led.follows going below st row block (body_saying cluster_version (with_mark says))
+            (record { due = ap (λ (x : PBlock). not x.mark && is_value x.inp value) (sym shown) ∙ due; read = read; sequence = sequence; writes = ap (λ (x : PBlock). body_saying cluster_version (with_mark x)) shown }))
 
         pub passes : (not says.mark && is_value says.inp value) ≡ false → new ≡ rounds.passes r says.mark → LeadsTo of (answers ++ record { disk = r.disk; heard = Told (Some row) } ∷ []) (notes_in host slot value new)
         passes none step =

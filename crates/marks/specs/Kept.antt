@@ -1,6 +1,7 @@
 -- What a marking keeps, and when that is what follows from a list of answers.
 use Rattle.std.specs.Prelude.{◌≡◌, ℕ, List}
 use Rattle.disk.specs.Disk as device
+use Rattle.torn_block.specs.Layout.{cluster_version}
 use Rattle.paxos_block.specs.Places.{place_of, VoteOf, row_place}
 use Rattle.attempt.specs.Answers.{Answered, Answers, on}
 use Rattle.phases.specs.Calls.{heard_of}
@@ -19,11 +20,12 @@ setup_of n = record { host = n.host; slot = n.slot; disks = n.disks; value = n.v
 
 -- the call that is due, on the disk that is visited
 abbrev pub call_due : Notes → ℕ × device.Call
-call_due n = (n.disk, rounds.call_at n.round.stage (row_place n.slot) (place_of (VoteOf n.slot n.host)) n.round)
+call_due n =
+    (n.disk, rounds.call_at n.round.stage (row_place cluster_version n.slot) (place_of cluster_version (VoteOf n.slot n.host)) n.round)
 
 -- an answer to it
 abbrev pub answer_of : Notes → code_heard.Heard (List ℕ) → Answered
-answer_of n heard = record { disk = n.disk; heard = heard_of heard }
+answer_of n heard = record { disk = n.disk; heard = heard_of cluster_version heard }
 
 abbrev pub end_of : code_end.End → End
 end_of (end.Marked count) = Marked count

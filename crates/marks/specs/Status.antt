@@ -1,6 +1,7 @@
 -- Of the headline. Where a marking stands: the disk on which a call is due, or its end. And the call that is due.
 use Rattle.std.specs.Prelude.{◌&&◌, ℕ, Bool, true, false, not, List, Option, Some, None, bytes_eq}
 use Rattle.disk.specs.Disk as device
+use Rattle.torn_block.specs.Layout.{cluster_version}
 use Rattle.torn_block.specs.Stage.{Write128}
 use Rattle.paxos_block.specs.Saying.{Said as PBlock, body_saying}
 use Rattle.paxos_block.specs.Places.{place_of, VoteOf, row_place}
@@ -29,13 +30,13 @@ with_mark says = record { mbal = says.mbal; bal = says.bal; inp = says.inp; mark
 abbrev pub duty : Setup → Duty (List DecodedBlock)
 duty s = record {
   disks = s.disks;
-  reads = row_place s.slot;
-  place = place_of (VoteOf s.slot s.host);
+  reads = row_place cluster_version s.slot;
+  place = place_of cluster_version (VoteOf s.slot s.host);
   is_due = λ row. not (seen_block row s.host).says.mark && is_value (seen_block row s.host).says.inp s.value;
   is_so = λ row. (seen_block row s.host).says.mark;
   sequence = λ row. (seen_block row s.host).sequence;
   block = λ row. (seen_block row s.host).bytes;
-  body = λ row. body_saying (with_mark (seen_block row s.host).says);
+  body = λ row. body_saying cluster_version (with_mark (seen_block row s.host).says);
 }
 
 -- DISKS

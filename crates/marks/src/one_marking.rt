@@ -66,9 +66,9 @@ impl Marking {
         requires { self.now.end ≡ None }
         // The call that the definition names after these answers, with the same boot number and bytes.
         ensures next { (s : Setup) (heard : List Answered) → LeadsTo s heard self.now →
-            next_call s (on heard) ≡ Some (call_of_need result) }
-        ensures due { call_of_need result ≡ call_due self.now }
-        ensures range { IsWithin (row_place self.now.slot + ROW_LENGTH) result.call }
+            next_call s (on heard) ≡ Some (call_of_need cluster_version result) }
+        ensures due { call_of_need cluster_version result ≡ call_due self.now }
+        ensures range { IsWithin cluster_version (row_place cluster_version self.now.slot + ROW_LENGTH) result.call }
         ensures disk { result.disk < self.now.disks }
     {
         let slot = u32::from(self.slot);
@@ -81,7 +81,7 @@ impl Marking {
     /// Hears the answer to the call that is due.
     pub fn hear(&mut self, heard: &Heard<'_>)
         requires going { self.old.end ≡ None }
-        requires fits { Fits (call_due self.old).1 (heard_of heard.now) }
+        requires fits { Fits (call_due self.old).1 (heard_of cluster_version heard.now) }
         ensures leads { (s : Setup) (answers : List Answered) → LeadsTo s answers self.old →
             LeadsTo s (answers ++ answer_of self.old heard.now ∷ []) self.new }
         ensures bound { (s : Setup) (answers : List Answered) → LeadsTo s answers self.old →
@@ -102,7 +102,8 @@ impl Marking {
         requires stage { self.old.round.stage ≡ Stage.Reading }
         ensures same { IsSameMarking self.old self.new }
         ensures leads { (s : Setup) (answers : List Answered) → LeadsTo s answers self.old →
-            LeadsTo s (answers ++ record { disk = self.old.disk; heard = Told (decoded_row bytes.now) } ∷ []) self.new }
+            LeadsTo s (answers ++
+            record { disk = self.old.disk; heard = Told (decoded_row cluster_version bytes.now) } ∷ []) self.new }
     {
         let mut row = Row::blank();
         match read_row::<ClusterLayout>(&mut row, bytes) {
@@ -118,7 +119,8 @@ impl Marking {
         requires row { (bytes : List ℕ) × ReadsAs cluster_version (λ value. value) bytes row.now }
         ensures same { IsSameMarking self.old self.new }
         ensures leads { (s : Setup) (answers : List Answered) (bytes : List ℕ) → ReadsAs cluster_version (λ value. value) bytes row.now → LeadsTo s answers self.old →
-            LeadsTo s (answers ++ record { disk = self.old.disk; heard = Told (decoded_row bytes) } ∷ []) self.new }
+            LeadsTo s (answers ++
+            record { disk = self.old.disk; heard = Told (decoded_row cluster_version bytes) } ∷ []) self.new }
     {
         let cell = row.cell(self.host);
         if is_to_mark(&cell.says, &self.value) {

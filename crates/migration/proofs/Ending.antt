@@ -7,9 +7,10 @@ use Rattle.std.proofs.lemmas.Bool.{cases_eq, cond-true, cond-false, eq-eqb, ne_e
 use Rattle.disk.specs.declared.fault.DiskFault.{DiskFault}
 use Rattle.disk.specs.Disk.{DiskState, Booted, done_by}
 use Rattle.disk.specs.Simulated.{fresh_disk, refusal_of, refusal_under}
+use Rattle.torn_block.specs.Layout.{cluster_version}
 use Rattle.torn_block.specs.declared.block.TheConstants.{OPEN_GATE}
 use Rattle.paxos_block.specs.Places.{image_length}
-use Rattle.paxos_block.specs.layouts.Saying.{zeros}
+use Rattle.paxos_block.specs.Saying.{zeros}
 use Rattle.migration.specs.Events.{Step, answered_by, happens, happen, run}
 use Rattle.migration.specs.Fits.{Fits}
 use Rattle.migration.specs.Heard.{with_boot}
@@ -240,13 +241,13 @@ makes_all s (due ∷ rest) disk boots known fine =
 
 module _ (s : Setup) (fits : Fits s) where
   abbrev fresh : DiskState
-  fresh = fresh_disk (image_length s.slots)
+  fresh = fresh_disk (image_length cluster_version s.slots)
 
   fresh_fine : IsFine fresh
   unfolding fresh_disk
   fresh_fine = record { there = refl; first = refl }
 
-  fresh_bytes : fresh.bytes ≡ zeros (image_length s.slots)
+  fresh_bytes : fresh.bytes ≡ zeros (image_length cluster_version s.slots)
   unfolding fresh_disk zeros
   fresh_bytes = refl
 

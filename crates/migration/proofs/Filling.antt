@@ -8,9 +8,10 @@ use Rattle.disk.specs.Simulated.{fresh_disk}
 use Rattle.disk.specs.Steps.{WritesOn, HasShape}
 use Rattle.disk.proofs.CrashLemmas.{may_leave_now, may_leave_synced}
 use Rattle.disk.proofs.StepLemmas.{shape_keeps, shape_fresh, shape_written}
+use Rattle.torn_block.specs.Layout.{cluster_version}
 use Rattle.torn_block.specs.declared.block.TheConstants.{OPEN_GATE}
 use Rattle.paxos_block.specs.Places.{image_length}
-use Rattle.paxos_block.specs.layouts.Saying.{zeros}
+use Rattle.paxos_block.specs.Saying.{zeros}
 use Rattle.migration.specs.Heard.{Progress, with_boot, given_up, answered, hears, next_in, next}
 use Rattle.migration.specs.Image.{Setup}
 use Rattle.migration.specs.Plan.{Put, heading, blocks_from, Kind, Attaching, Putting, Syncing, Opening, Due, on, fills, filling, opening, each, call_of}
@@ -48,7 +49,7 @@ OpensOnly (due ∷ rest) = IsOpens due.kind × OpensOnly rest
 
 module _ (s : Setup) where
   abbrev pub size : ℕ
-  size = image_length s.slots
+  size = image_length cluster_version s.slots
 
   -- a log that fits
   abbrev pub FitsImages : Type 0

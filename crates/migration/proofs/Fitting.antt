@@ -1,6 +1,7 @@
 -- A log that fits the images is written within them, behind the gate; and how many calls that takes.
 use Rattle.std.specs.Prelude.{All}
 use Rattle.std.proofs.Common.{ℕ, zero, suc, ◌+◌, ◌*◌, ◌≤◌, ◌≡◌, List, [], ◌∷◌, ◌++◌, length, map, refl, ap, ◌∙◌, arith, length-append, length-drop}
+use Rattle.torn_block.specs.Layout.{cluster_version}
 use Rattle.torn_block.specs.declared.layout.TheConstants.{VALUE_LENGTH}
 use Rattle.paxos_block.specs.Headers.{header_saying}
 use Rattle.paxos_block.specs.Places.{image_length}
@@ -10,7 +11,7 @@ use Rattle.migration.specs.Plan.{blocks_from, heading, Kind, Attaching, Putting,
 use Rattle.migration.proofs.Filling.{IsTodo, FitsImages}
 use Rattle.migration.proofs.Lengths.{length-block, length-header}
 
-todo_from : (slots k : ℕ) (log : List (List ℕ)) (kinds : List Kind) → k + length log ≤ slots → All (λ value. length value ≡ VALUE_LENGTH) log → IsTodo (image_length slots) kinds → IsTodo (image_length slots) (map Putting (blocks_from k log) ++ kinds)
+todo_from : (slots k : ℕ) (log : List (List ℕ)) (kinds : List Kind) → k + length log ≤ slots → All (λ value. length value ≡ VALUE_LENGTH) log → IsTodo (image_length cluster_version slots) kinds → IsTodo (image_length cluster_version slots) (map Putting (blocks_from k log) ++ kinds)
 todo_from slots k [] kinds within long rest = rest
 todo_from slots k (value ∷ log) kinds within long rest =
     (omega arith, omega (arith, within, length-block value (long 0 [] (omega arith))), todo_from slots (suc k) log kinds (omega (arith, within)) (λ i d inside. long (suc i) d (omega arith)) rest)
@@ -19,7 +20,7 @@ pub fits_images : (s : Setup) → Fits s → FitsImages s
 fits_images s fits = (
   fits.room.some_disks,
   λ d.
-      let tail = length-drop 1 (header_saying (header_of s d)) in
+      let tail = length-drop 1 (header_saying cluster_version (header_of s d)) in
       let whole = length-header (header_of s d) in
       todo_from s.slots 0 s.log (Syncing ∷ Putting (heading s d) ∷ Syncing ∷ []) (let n = fits.room.log in omega (arith, n)) fits.values
       (omega arith, omega (arith, tail, whole), tt),

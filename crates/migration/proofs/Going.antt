@@ -8,6 +8,7 @@ use Rattle.attempt.specs.Answers.{heard_as}
 use Rattle.attempt.specs.Heard.{Fits}
 use Rattle.disk.specs.Disk.{Call, Write, Answer, Booted, Told, Done, Fault}
 use Rattle.disk.specs.declared.boot.Boot.{Boot}
+use Rattle.torn_block.specs.Layout.{cluster_version}
 use Rattle.paxos_block.specs.Headers.{header_saying}
 use Rattle.paxos_block.specs.Places.{place_of, VoteOf}
 use Rattle.phases.specs.Calls.{heard_of}
@@ -40,7 +41,7 @@ succeeds_at n at due rest going is left = ap (λ (p : Progress). hears p Done) (
 -- some call is left on it
 some_left_from : (n : Notes) (slot : ℕ) (log : List (List ℕ)) → (kind : Kind) × (kinds : List Kind) × (map Putting (blocks_from slot log) ++ Syncing ∷ header_calls (setup_of n) n.disk ≡ kind ∷ kinds)
 some_left_from n slot [] = (Syncing, header_calls (setup_of n) n.disk, refl)
-some_left_from n slot (value ∷ log) = (Putting (place_of (VoteOf slot 0), block_for value), map Putting (blocks_from (suc slot) log) ++ Syncing ∷ header_calls (setup_of n) n.disk, refl)
+some_left_from n slot (value ∷ log) = (Putting (place_of cluster_version (VoteOf slot 0), block_for value), map Putting (blocks_from (suc slot) log) ++ Syncing ∷ header_calls (setup_of n) n.disk, refl)
 
 some_left : (n : Notes) (at : stages.Stage) → (kind : Kind) × (kinds : List Kind) × (left_here at n ≡ kind ∷ kinds)
 some_left n stage.Attaching = (Attaching, left_from n 0, refl)
@@ -57,12 +58,13 @@ drop_found (first ∷ log) zero value is = let same : first ≡ value = cc in ap
 drop_found (first ∷ log) (suc k) value is = let more : suc k + 1 ≡ suc (k + 1) = omega arith in drop_found log k value is ∙ ap (λ (j : ℕ). value ∷ drop j (first ∷ log)) (sym more)
 
 -- what is left from a slot on begins with its block
-pub block_left : (n : Notes) (slot : ℕ) (value : List ℕ) → slice_get n.log.items slot ≡ Some value → left_from n slot ≡ Putting (place_of (VoteOf slot 0), block_for value) ∷ left_from n (slot + 1)
+pub block_left : (n : Notes) (slot : ℕ) (value : List ℕ) → slice_get n.log.items slot ≡ Some value
+    → left_from n slot ≡ Putting (place_of cluster_version (VoteOf slot 0), block_for value) ∷ left_from n (slot + 1)
 block_left n slot value is =
     let rest = Syncing ∷ header_calls (setup_of n) n.disk in
     let next : suc slot ≡ slot + 1 = omega arith in
     ap (λ (l : List (List ℕ)). map Putting (blocks_from slot l) ++ rest) (drop_found n.log.items slot value is)
-    ∙ ap (λ (k : ℕ). Putting (place_of (VoteOf slot 0), block_for value) ∷ (map Putting (blocks_from k (drop (slot + 1) n.log.items)) ++ rest)) next
+    ∙ ap (λ (k : ℕ). Putting (place_of cluster_version (VoteOf slot 0), block_for value) ∷ (map Putting (blocks_from k (drop (slot + 1) n.log.items)) ++ rest)) next
 
 pub no_block_left : (n : Notes) (slot : ℕ) → length n.log.items ≤ slot → left_from n slot ≡ Syncing ∷ header_calls (setup_of n) n.disk
 no_block_left n slot all = ap (λ (l : List (List ℕ)). map Putting (blocks_from slot l) ++ Syncing ∷ header_calls (setup_of n) n.disk) (drop_all slot n.log.items all)
@@ -139,7 +141,7 @@ opens_last n going is last =
 pub puts_next : (n : Notes) → n.end ≡ None → n.stage ≡ stage.PuttingBlock → HasBytes n.stage n → hears (progress_of n) Done ≡ going_on n (on n.disk (left_from n (n.slot + 1)) ++ fills_later n)
 puts_next n going is bytes =
     let (value, found, block) = subst (λ (at : stages.Stage). HasBytes at n) is bytes in
-    succeeds_at n stage.PuttingBlock (record { disk = n.disk; kind = Putting (place_of (VoteOf n.slot 0), block_for value) }) (on n.disk (left_from n (n.slot + 1)) ++ fills_later n) going is
+    succeeds_at n stage.PuttingBlock (record { disk = n.disk; kind = Putting (place_of cluster_version (VoteOf n.slot 0), block_for value) }) (on n.disk (left_from n (n.slot + 1)) ++ fills_later n) going is
     (ap (λ (l : List Kind). on n.disk l ++ fills_later n) (block_left n n.slot value found))
 
 -- BOOT NUMBERS
@@ -159,13 +161,13 @@ boots_now boots d boot within = λ i. λ e. (boot_at boots d boot within e) i
 
 -- THE CALL THAT IS DUE
 
-header_due : (n : Notes) → n.header ≡ header_saying (header_of (setup_of n) n.disk) → heading (setup_of n) n.disk ≡ (1, drop 1 n.header)
+header_due : (n : Notes) → n.header ≡ header_saying cluster_version (header_of (setup_of n) n.disk) → heading (setup_of n) n.disk ≡ (1, drop 1 n.header)
 header_due n is = ap (λ (l : List ℕ). let put : Put = (1, drop 1 l) in put) (sym is)
 
 -- the bytes behind the gate, as the code cuts them out
 pub header_call : (n : Notes) (d : ℕ) → d ≡ n.disk → n.stage ≡ stage.PuttingHeader → HasBytes n.stage n → ◌≡◌ {A = ℕ × Call} (n.disk, Write (boot_in n.boots d) 1 (take 1023 (drop 1 n.header))) (call_due n)
 header_call n d same is bytes =
-    let spelled : n.header ≡ header_saying (header_of (setup_of n) n.disk) = subst (λ (at : stages.Stage). HasBytes at n) is bytes in
+    let spelled : n.header ≡ header_saying cluster_version (header_of (setup_of n) n.disk) = subst (λ (at : stages.Stage). HasBytes at n) is bytes in
     let long : length (drop 1 n.header) ≤ 1023 = omega (arith, length-drop 1 n.header, ap length spelled, length-header (header_of (setup_of n) n.disk)) in
     ap (λ (e : ℕ). (n.disk, Write (boot_in n.boots e) 1 (take 1023 (drop 1 n.header)))) same
     ∙ ap (λ (l : List ℕ). (n.disk, Write (boot_in n.boots n.disk) 1 l)) (take_all 1023 (drop 1 n.header) long)
@@ -175,7 +177,7 @@ pub next_at : (n : Notes) (at : stages.Stage) → n.end ≡ None → n.stage ≡
 next_at n stage.Attaching going is bytes = ap next (stands_at n stage.Attaching going is)
 next_at n stage.PuttingBlock going is (value, found, block) =
     ap next (stands_at n stage.PuttingBlock going is ∙ ap (λ (l : List Kind). going_on n (on n.disk l ++ fills_later n)) (block_left n n.slot value found))
-    ∙ ap (λ (l : List ℕ). Some (n.disk, Write (boot_in n.boots n.disk) (place_of (VoteOf n.slot 0)) l)) (sym block)
+    ∙ ap (λ (l : List ℕ). Some (n.disk, Write (boot_in n.boots n.disk) (place_of cluster_version (VoteOf n.slot 0)) l)) (sym block)
 next_at n stage.SyncingBlocks going is bytes = ap next (stands_at n stage.SyncingBlocks going is)
 next_at n stage.PuttingHeader going is bytes =
     ap next (stands_at n stage.PuttingHeader going is) ∙ ap (λ (put : Put). Some (n.disk, call_of (boot_in n.boots n.disk) (Putting put))) (header_due n bytes)
@@ -239,14 +241,14 @@ bounded p (Done ∷ answers) is =
     omega (arith, bounded (hears p Done) answers is.1, ap length some, ap length (one_less p Done due rest some))
 
 -- an answer as the code has it
-answer_fits : (call : Call) (x : code_heard.Heard (List ℕ)) → Fits call (heard_of x) → Fits call (heard_as (device_answer x))
+answer_fits : (call : Call) (x : code_heard.Heard (List ℕ)) → Fits call (heard_of cluster_version x) → Fits call (heard_as (device_answer x))
 answer_fits call (answer.Booted boot) fits = fits
 answer_fits call answer.Done fits = fits
 answer_fits call (answer.Told bytes) fits = fits
 answer_fits call (answer.Fault fault) fits = fits
 
 -- one answer more leads on
-pub leads_on : (s : Setup) (answers : List Answer) (old new : Notes) (x : code_heard.Heard (List ℕ)) → IsSound old → old.end ≡ None → setup_of new ≡ setup_of old → Fits (call_due old).1 (heard_of x) → progress_of new ≡ hears (progress_of old) (device_answer x)
+pub leads_on : (s : Setup) (answers : List Answer) (old new : Notes) (x : code_heard.Heard (List ℕ)) → IsSound old → old.end ≡ None → setup_of new ≡ setup_of old → Fits (call_due old).1 (heard_of cluster_version x) → progress_of new ≡ hears (progress_of old) (device_answer x)
     → LeadsTo s answers old → LeadsTo s (answers ++ device_answer x ∷ []) new
 leads_on s answers old new x sound going same fits goes leads =
     let next_is : next (heard (at_first s) answers) ≡ Some (call_due old) = ap next (sym leads.progress) ∙ next_due old sound going in

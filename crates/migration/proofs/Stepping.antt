@@ -20,6 +20,7 @@ use Rattle.migration.specs.Running.{is_write, calm, disk_in, AreDisks, HasHeard,
 use Rattle.migration.specs.declared.end.End.{End}
 use Rattle.migration.specs.declared.end.End.TheVariants.{MigrationFailed}
 use Rattle.migration.specs.declared.notes.Notes.{Notes}
+use Rattle.torn_block.specs.Layout.{cluster_version}
 use Rattle.paxos_block.specs.Headers.{IsFormatted}
 use Rattle.paxos_block.specs.Places.{image_length}
 use Rattle.migration.proofs.Fitting.{fits_images}
@@ -327,11 +328,11 @@ module _ (s : Setup) (events : List Event) (n : Notes) (sims : List SimState) (l
   pub disk_below : (d : ℕ) → d < n.config.disks → d < s.disks
   disk_below d below = omega (arith, below, ap (λ (t : Setup). t.disks) leads.comes.leads.of)
 
-  pub long_disk : (d i : ℕ) (x : SimState) → i ≡ d → d < n.config.disks → x ≡ slice_index_or sims i x → image_length n.config.slots ≡ length x.disk.bytes
+  pub long_disk : (d i : ℕ) (x : SimState) → i ≡ d → d < n.config.disks → x ≡ slice_index_or sims i x → image_length cluster_version n.config.slots ≡ length x.disk.bytes
   long_disk d i x same below is =
       let now : x ≡ calm ((run s events).disk d) = disk_is s (run s events) sims d i x leads.shows same (disk_below d below) is in
       let long = ((runs_hold s (fits_images s leads.fits) events).shape d).1 in
-      ap (λ (t : Setup). image_length t.slots) leads.comes.leads.of ∙ sym long ∙ ap (λ (y : SimState). length y.disk.bytes) (sym now)
+      ap (λ (t : Setup). image_length cluster_version t.slots) leads.comes.leads.of ∙ sym long ∙ ap (λ (y : SimState). length y.disk.bytes) (sym now)
 
 -- THE DISKS AT THE END
 

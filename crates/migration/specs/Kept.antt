@@ -2,6 +2,7 @@
 use Rattle.std.specs.Prelude.{◌≡◌, ◌<◌, ◌-◌, ◌+◌, ℕ, Bool, true, false, List, [], ◌∷◌, ◌++◌, map, drop, Option, Some, None, slice_get, slice_index_or, if◌then◌else◌}
 use Rattle.disk.specs.Disk as device
 use Rattle.disk.specs.declared.boot.Boot.{Boot}
+use Rattle.torn_block.specs.Layout.{cluster_version}
 use Rattle.paxos_block.specs.Headers.{header_saying}
 use Rattle.paxos_block.specs.Places.{place_of, VoteOf}
 use Rattle.phases.specs.declared.heard.Heard as code_heard
@@ -83,7 +84,7 @@ progress_of n = record { rest = left_by n.end n; boot = boot_in n.boots; failed 
 -- the bytes that are written next are at hand
 abbrev pub HasBytes : stages.Stage → Notes → Type 0
 HasBytes stage.PuttingBlock n = (value : List ℕ) × (slice_get n.log.items n.slot ≡ Some value) × (n.block ≡ block_for value)
-HasBytes stage.PuttingHeader n = n.header ≡ header_saying (header_of (setup_of n) n.disk)
+HasBytes stage.PuttingHeader n = n.header ≡ header_saying cluster_version (header_of (setup_of n) n.disk)
 HasBytes other n = Unit {0}
 
 pub record IsSound (n : Notes) : Type 0 where
@@ -95,7 +96,7 @@ pub record IsSound (n : Notes) : Type 0 where
 
 abbrev pub kind_at : stages.Stage → Notes → Kind
 kind_at stage.Attaching n = Attaching
-kind_at stage.PuttingBlock n = Putting (place_of (VoteOf n.slot 0), n.block)
+kind_at stage.PuttingBlock n = Putting (place_of cluster_version (VoteOf n.slot 0), n.block)
 kind_at stage.SyncingBlocks n = Syncing
 kind_at stage.PuttingHeader n = Putting (1, drop 1 n.header)
 kind_at stage.SyncingHeader n = Syncing

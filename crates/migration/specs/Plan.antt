@@ -1,6 +1,7 @@
 -- The device calls of a migration, in their order.
 use Rattle.std.specs.Prelude.{ℕ, zero, suc, List, [], ◌∷◌, ◌++◌, map, drop}
 use Rattle.disk.specs.Disk.{Call, Attach, Write, Sync}
+use Rattle.torn_block.specs.Layout.{cluster_version}
 use Rattle.torn_block.specs.declared.block.TheConstants.{OPEN_GATE}
 use Rattle.paxos_block.specs.Headers.{header_saying}
 use Rattle.paxos_block.specs.Places.{place_of, VoteOf}
@@ -13,11 +14,11 @@ Put = ℕ × List ℕ
 -- host 0's blocks of the slots from slot k on
 abbrev pub blocks_from : ℕ → List (List ℕ) → List Put
 blocks_from k [] = []
-blocks_from k (value ∷ log) = (place_of (VoteOf k 0), block_for value) ∷ blocks_from (suc k) log
+blocks_from k (value ∷ log) = (place_of cluster_version (VoteOf k 0), block_for value) ∷ blocks_from (suc k) log
 
 -- all of the header but its gate
 abbrev pub heading : Setup → ℕ → Put
-heading s d = (1, drop 1 (header_saying (header_of s d)))
+heading s d = (1, drop 1 (header_saying cluster_version (header_of s d)))
 
 -- a call on a disk; the gate of its header is opened last
 pub data Kind : Type 0 where

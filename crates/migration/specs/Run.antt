@@ -2,6 +2,7 @@
 use Rattle.std.specs.Prelude.{◌≡◌, ◌⊎◌, ◌<◌, ◌==◌, ℕ, false, List, [], ◌∷◌, drop, Some, length, replicate, if◌then◌else◌}
 use Rattle.disk.specs.Disk.{DiskState, Call, Attach, Read, Write, Sync, Answer, Step, Torn, Crashes, lost}
 use Rattle.disk.specs.Simulated.{fresh_disk}
+use Rattle.torn_block.specs.Layout.{cluster_version}
 use Rattle.paxos_block.specs.Headers.{IsFormatted}
 use Rattle.paxos_block.specs.Places.{image_length}
 use Rattle.migration.specs.Heard.{Progress, at_first, given_up, hears, next}
@@ -14,7 +15,7 @@ pub record Migration : Type 0 where
 
 -- it begins on images of zeros
 abbrev pub begun : Setup → Migration
-begun s = record { disk = λ d. fresh_disk (image_length s.slots); progress = at_first s }
+begun s = record { disk = λ d. fresh_disk (image_length cluster_version s.slots); progress = at_first s }
 
 -- WHAT MAY HAPPEN
 

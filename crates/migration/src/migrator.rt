@@ -1,5 +1,6 @@
 ghost use Rattle.std.specs.Prelude.{◌≡◌, ◌<◌, ◌≤◌, ◌+◌, ◌*◌, ◌++◌, ◌∷◌, [], List, Some, None, length};
 ghost use Rattle.disk.specs.Disk.{Answer};
+ghost use Rattle.torn_block.specs.Layout.{cluster_version};
 ghost use Rattle.paxos_block.specs.Places.{image_length};
 ghost use Rattle.attempt.specs.Heard.{Fits};
 ghost use Rattle.phases.specs.Calls.{IsWithin, call_of_need, heard_of};
@@ -52,9 +53,9 @@ impl Migrator {
         requires { self.now.end ≡ None }
         // The call that the definition names after these answers, with the same boot number and bytes.
         ensures next { (s : Setup) (answers : List Answer) → LeadsTo s answers self.now →
-            next (heard (at_first s) answers) ≡ Some (call_of_need result) }
-        ensures due { call_of_need result ≡ call_due self.now }
-        ensures range { IsWithin (image_length self.now.config.slots) result.call }
+            next (heard (at_first s) answers) ≡ Some (call_of_need cluster_version result) }
+        ensures due { call_of_need cluster_version result ≡ call_due self.now }
+        ensures range { IsWithin cluster_version (image_length cluster_version self.now.config.slots) result.call }
         ensures disk { result.disk < self.now.config.disks }
     {
         Need {
@@ -66,7 +67,7 @@ impl Migrator {
     /// Hears the answer to the call that is due.
     pub fn hear(&mut self, heard: &Heard<'_>)
         requires going { self.old.end ≡ None }
-        requires fits { Fits (call_due self.old).1 (heard_of heard.now) }
+        requires fits { Fits (call_due self.old).1 (heard_of cluster_version heard.now) }
         ensures leads { (s : Setup) (answers : List Answer) → LeadsTo s answers self.old →
             LeadsTo s (answers ++ device_answer heard.now ∷ []) self.new }
         ensures bound { (s : Setup) (answers : List Answer) → LeadsTo s answers self.old →

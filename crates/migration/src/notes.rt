@@ -82,8 +82,8 @@ impl Notes {
     /// The device call that is due, on the disk that is visited.
     pub fn call(&self) -> DeviceCall<'_>
         requires { IsSound self.now }
-        ensures due { (self.now.disk, device_call_of result) ≡ call_due self.now }
-        ensures range { IsWithin (image_length self.now.config.slots) result }
+        ensures due { (self.now.disk, device_call_of cluster_version result) ≡ call_due self.now }
+        ensures range { IsWithin cluster_version (image_length cluster_version self.now.config.slots) result }
     {
         let boot = self.boots[usize::from(self.disk)];
         match self.stage {

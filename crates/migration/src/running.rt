@@ -1,5 +1,6 @@
 // A migrator over simulated disks, and how each event changes them.
 ghost use Rattle.std.specs.Prelude.{◌≡◌, ◌≤◌, ◌++◌, ◌∷◌, [], ℕ, List, All, IfOk, length, replicate};
+ghost use Rattle.torn_block.specs.Layout.{cluster_version};
 ghost use Rattle.torn_block.specs.declared.layout.TheConstants.{VALUE_LENGTH};
 ghost use Rattle.paxos_block.specs.Places.{image_length};
 ghost use Rattle.disk.specs.Simulated.{fresh_disk};
@@ -165,7 +166,8 @@ impl Running {
 }
 
 fn fresh_disks(alloc: Global, config: Config) -> Result<Vec<SimDisk>, NoMemory>
-    ensures { IfOk result (λ disks. disks.items ≡ replicate config.disks (calm (fresh_disk (image_length config.slots)))) }
+    ensures { IfOk result (λ disks. disks.items ≡
+        replicate config.disks (calm (fresh_disk (image_length cluster_version config.slots)))) }
 {
     let count = usize::from(config.disks());
     let mut disks = Vec::with_capacity(alloc, count)?;

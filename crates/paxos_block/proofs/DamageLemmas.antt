@@ -15,19 +15,20 @@ use Rattle.paxos_block.specs.Damage.{AreDamagedBlocks, damaged_in}
 use Rattle.paxos_block.proofs.RowLemmas.{sound_tells, sound_since, length-block_of}
 
 -- the test decides whether a block is damaged
-test_decides : (host : ℕ) (block : List ℕ) → length block ≡ BLOCK_LENGTH → AreBytes block → (is_damaged_block host block ≡ true) ↔ IsDamagedBlock (IsSound host) block
+test_decides : (host : ℕ) (block : List ℕ) → length block ≡ BLOCK_LENGTH → AreBytes block
+    → (is_damaged_block cluster_version host block ≡ true) ↔ IsDamagedBlock cluster_version (IsSound cluster_version host) block
 test_decides host block long fits = (
-  (λ t. damaged_tells cluster_version (IsSound host) (is_sound host) (sound_since cluster_version host) block long t),
+  (λ t. damaged_tells cluster_version (IsSound cluster_version host) (is_sound cluster_version host) (sound_since cluster_version host) block long t),
   (λ damage.
-      elim (cases_Bool (is_damaged_block host block)) [
+      elim (cases_Bool (is_damaged_block cluster_version host block)) [
         | inl t ↦ t
-        | inr f ↦ absurd (sound_is_not_damaged cluster_version (IsSound host) (is_sound host) block (sound_block_tells cluster_version (IsSound host) (is_sound host) (sound_tells cluster_version host) block long fits f) damage)
+        | inr f ↦ absurd (sound_is_not_damaged cluster_version (IsSound cluster_version host) (is_sound cluster_version host) block (sound_block_tells cluster_version (IsSound cluster_version host) (is_sound cluster_version host) (sound_tells cluster_version host) block long fits f) damage)
       ]),
 )
 
 module _ (row : List ℕ) where
   abbrev is_damaged_at : ℕ → Bool
-  is_damaged_at host = is_damaged_block host (block_of host row)
+  is_damaged_at host = is_damaged_block cluster_version host (block_of cluster_version host row)
 
   length-damaged_in : length (damaged_in row) ≡ HOSTS
   length-damaged_in = length-map-range_with_len is_damaged_at 0 HOSTS
@@ -46,7 +47,7 @@ module _ (row : List ℕ) where
         count = length-damaged_in;
         each =
             λ host below.
-            let block = block_of host row in
+            let block = block_of cluster_version host row in
             let bytes : AreBytes block = AreBytes-take _ (drop (BLOCK_LENGTH * host) row) (AreBytes-drop (BLOCK_LENGTH * host) row fits) in
             let decides = test_decides host block (length-block_of cluster_version host row below long) bytes in
             let is = damaged_in-at host below in
@@ -54,7 +55,7 @@ module _ (row : List ℕ) where
       }
 
   -- one of them is where the row is
-  pub some_damaged : (damaged : List Bool) → AreDamagedBlocks row damaged → Contains damaged true ↔ IsDamagedRow row
+  pub some_damaged : (damaged : List Bool) → AreDamagedBlocks row damaged → Contains damaged true ↔ IsDamagedRow cluster_version row
   some_damaged damaged told = (
     (λ some.
         let below : some.0 < length damaged = some.1 in

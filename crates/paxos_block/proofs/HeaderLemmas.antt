@@ -6,17 +6,17 @@ use Rattle.std.proofs.lemmas.List.{drop_at, drop-drop, take-append-drop}
 use Rattle.std.proofs.lemmas.Bool.{and_parts, and_from, ltb-true, lt-ltb, leb-true, le-leb, eqb-true, eq-eqb}
 use Rattle.byteorder.specs.Endian.{big_number}
 use Rattle.byteorder.specs.Numbers.{big_number-reads_back, length-bytes_high_first, big_from-lt}
-use Rattle.torn_block.specs.layouts.Block.{number_bytes}
+use Rattle.torn_block.specs.Block.{number_bytes}
 use Rattle.torn_block.specs.declared.layout.TheConstants.{DISKS, SLOTS, HEADER_LENGTH}
 use Rattle.torn_block.specs.declared.block.TheConstants.{OPEN_GATE}
 use Rattle.paxos_block.specs.declared.header.TheConstants.{SLOTS_AT, CLUSTER_AT, ZEROS_AT}
 use Rattle.paxos_block.specs.declared.header.Header.{Header}
 use Rattle.torn_block.specs.Numbers.{AreBytes}
 use Rattle.torn_block.proofs.NumberLaws.{AreBytes-drop, spelled_8, spelled_4}
-use Rattle.paxos_block.specs.layouts.Saying.{zeros, number_at}
+use Rattle.paxos_block.specs.Saying.{zeros, number_at}
 use Rattle.paxos_block.proofs.SayingLemmas.{zero_tells, zero_since, length-number}
-use Rattle.paxos_block.specs.layouts.Places.{image_length}
-use Rattle.paxos_block.specs.layouts.Headers.{IsHeader, short_bytes, short_at, header_end, header_saying, IsRight, header_in, is_header, is_right}
+use Rattle.paxos_block.specs.Places.{image_length}
+use Rattle.paxos_block.specs.Headers.{IsHeader, short_bytes, short_at, header_end, header_saying, IsRight, header_in, is_header, is_right}
 use Rattle.torn_block.specs.Layout.{Version, hosts_in, copy_length, block_length, body_length, row_length, value_length, padding, number_of, area_place}
 use Rattle.torn_block.proofs.LayoutLaws.{long_copy, long_value, some_hosts, few_hosts, blocks_follow, row_holds, rows_follow}
 

@@ -4,8 +4,8 @@ use Rattle.disk.specs.Disk.{DiskState, Call, Attach, Read, Write, Sync, Answer, 
 use Rattle.disk.specs.Crash.{MayLeave}
 use Rattle.disk.proofs.CrashLemmas.{may_leave_now, may_leave_synced}
 use Rattle.disk.proofs.StepLemmas.{step_keeps}
-use Rattle.torn_block.specs.layouts.Place.{block_in}
-use Rattle.torn_block.specs.layouts.Register.{IsAtRest}
+use Rattle.torn_block.specs.Place.{block_in}
+use Rattle.torn_block.specs.Register.{IsAtRest}
 use Rattle.torn_block.specs.Layout.{Version, hosts_in, copy_length, block_length, body_length, row_length, value_length, padding, number_of, area_place}
 use Rattle.torn_block.proofs.LayoutLaws.{long_copy, long_value, some_hosts, few_hosts, blocks_follow, row_holds, rows_follow}
 

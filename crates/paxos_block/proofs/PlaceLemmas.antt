@@ -8,21 +8,21 @@ use Rattle.disk.proofs.CrashLemmas.{may_leave_now, may_leave_synced, may_leave_w
 use Rattle.disk.specs.Steps.{WritesOn}
 use Rattle.disk.proofs.StepLemmas.{shape_keeps, step_keeps}
 use Rattle.torn_block.specs.declared.write_steps.WriteCall.{WriteCall}
-use Rattle.torn_block.specs.layouts.Block.{value_of}
+use Rattle.torn_block.specs.Block.{value_of}
 use Rattle.torn_block.specs.Stage.{Write128, IsDue, IsPlaced}
 use Rattle.torn_block.proofs.StageLaws.{due_elsewhere}
-use Rattle.torn_block.specs.layouts.Place.{block_in}
+use Rattle.torn_block.specs.Place.{block_in}
 use Rattle.torn_block.proofs.PlaceLaws.{block_elsewhere}
-use Rattle.torn_block.specs.layouts.Register.{Register, Reads, LiesOn, LeavesBlock}
+use Rattle.torn_block.specs.Register.{Register, Reads, LiesOn, LeavesBlock}
 use Rattle.torn_block.proofs.RegisterLaws.{ranges, stands_elsewhere}
 use Rattle.std.specs.Prelude.{slice_index_or}
 use Rattle.std.specs.List.{HoldsAt}
 use Rattle.paxos_block.specs.declared.row.Row.{Row}
-use Rattle.paxos_block.specs.layouts.Row.{IsRow, says_of, DecodedBlock, seen_in, seen_at, decoded_row}
+use Rattle.paxos_block.specs.Row.{IsRow, says_of, DecodedBlock, seen_in, seen_at, decoded_row}
 use Rattle.paxos_block.proofs.Outcomes.{Outcomes}
 use Rattle.paxos_block.proofs.RowLemmas.{said_sees}
-use Rattle.torn_block.specs.layouts.Damage.{block_of}
-use Rattle.paxos_block.specs.layouts.Places.{CellReads, SeenReads, Spot, BeatOf, VoteOf, place_of, row_place, image_length, IsSpot, IsImage, IsWithin, Holds, row_of, area_of}
+use Rattle.torn_block.specs.Damage.{block_of}
+use Rattle.paxos_block.specs.Places.{CellReads, SeenReads, Spot, BeatOf, VoteOf, place_of, row_place, image_length, IsSpot, IsImage, IsWithin, Holds, row_of, area_of}
 use Rattle.torn_block.specs.Layout.{Version, hosts_in, copy_length, block_length, body_length, row_length, value_length, padding, number_of, area_place}
 use Rattle.torn_block.proofs.LayoutLaws.{long_copy, long_value, some_hosts, few_hosts, blocks_follow, row_holds, rows_follow}
 

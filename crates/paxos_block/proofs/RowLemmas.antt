@@ -10,20 +10,19 @@ use Rattle.std.proofs.lemmas.Bool.{cases_lt, and_parts, and_from, or_cases, or_p
 use Rattle.torn_block.specs.declared.block.Half.{Half}
 use Rattle.torn_block.specs.declared.block.Half.TheVariants.{First, Second}
 use Rattle.torn_block.specs.declared.block.Block128.{Block128}
-use Rattle.torn_block.specs.layouts.Block.{is_open, sequence_of, body_of, tail_with, value_of, value_at, choice, copy_of, current_of, target_at, number_in}
-use Rattle.torn_block.specs.layouts.Damage.{IsSoundBlock, IsDamagedBlock, block_of, first_of, second_of, is_sequence, has_fault, has_twins}
+use Rattle.torn_block.specs.Block.{is_open, sequence_of, body_of, tail_with, value_of, value_at, choice, copy_of, current_of, target_at, number_in}
+use Rattle.torn_block.specs.Damage.{IsSoundBlock, IsDamagedBlock, block_of, first_of, second_of, is_sequence, has_fault, has_twins}
 use Rattle.torn_block.proofs.DamageLaws.{is_sequence_tells, is_sequence_since, open_copy_spelled, long_body, damaged_tells, sound_block_tells, sound_is_not_damaged}
 use Rattle.torn_block.specs.Numbers.{AreBytes}
 use Rattle.torn_block.proofs.NumberLaws.{AreBytes-drop, AreBytes-take}
 use Rattle.torn_block.proofs.PlaceLaws.{reads_sequence, reads_body, length-block_in}
-use Rattle.torn_block.specs.layouts.Plan.{IsReading}
+use Rattle.torn_block.specs.Plan.{IsReading}
 use Rattle.torn_block.specs.declared.block.TheConstants.{OPEN_GATE}
-use Rattle.paxos_block.specs.layouts.Saying.{Said}
+use Rattle.paxos_block.specs.Saying.{Said, zeros, body_saying, claim_of, is_said}
 use Rattle.paxos_block.specs.declared.cell.Cell.{Cell}
 use Rattle.paxos_block.specs.declared.row.Row.{Row}
-use Rattle.paxos_block.specs.layouts.Saying.{zeros, body_saying, claim_of, is_said}
 use Rattle.paxos_block.proofs.SayingLemmas.{said_back, said_spelled}
-use Rattle.paxos_block.specs.layouts.Row.{copy_saying, Says, IsSound, is_sound, blank, says_of, IsSaid, IsDamagedRow, IsCell, IsRow, blank_cell, DecodedBlock, number_or_zero, seen_in, seen_at, hosts, row_seen, decoded_row, is_damaged_block, blank_seen, IsSeenAs, AreSeenAs}
+use Rattle.paxos_block.specs.Row.{copy_saying, Says, IsSound, is_sound, blank, says_of, IsSaid, IsDamagedRow, IsCell, IsRow, blank_cell, DecodedBlock, number_or_zero, seen_in, seen_at, hosts, row_seen, decoded_row, is_damaged_block, blank_seen, IsSeenAs, AreSeenAs}
 use Rattle.torn_block.specs.declared.layout.TheConstants.{HOSTS_ROOM}
 use Rattle.torn_block.specs.Layout.{Version, Version1, Version2, hosts_in, copy_length, block_length, body_length, row_length}
 use Rattle.torn_block.proofs.LayoutLaws.{row_holds}

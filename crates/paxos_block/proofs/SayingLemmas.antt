@@ -10,14 +10,13 @@ use Rattle.byteorder.specs.Endian.{big_number, big_bytes}
 use Rattle.byteorder.specs.Numbers.{big_number-reads_back, length-bytes_high_first}
 use Rattle.torn_block.specs.Numbers.{AreBytes}
 use Rattle.torn_block.proofs.NumberLaws.{AreBytes-drop, spelled_8, spelled_4}
-use Rattle.torn_block.specs.layouts.Block.{number_bytes}
+use Rattle.torn_block.specs.Block.{number_bytes}
 use Rattle.torn_block.specs.declared.layout.TheConstants.{HEADING_LENGTH}
 use Rattle.paxos_block.specs.declared.block.TheConstants.{BALLOTS_LENGTH, VERSION_PLACE, VOTED, MARKED}
 use Rattle.paxos_block.specs.declared.number.TheConstants.{NUMBER_LENGTH}
-use Rattle.paxos_block.specs.layouts.Saying.{Said, said_as}
-use Rattle.paxos_block.specs.layouts.Ballot.{IsBallotOf, is_ballot_of, may_vote, may_promise, owner_of}
-use Rattle.paxos_block.specs.layouts.Headers.{short_at}
-use Rattle.paxos_block.specs.layouts.Saying.{zeros, MaySay, IsVoteOf, IsMarkOf, flag_of, heading, value_bytes, body_saying, number_at, value_at, claim_of, may_mark, may_say, is_said, said_by}
+use Rattle.paxos_block.specs.Saying.{Said, said_as, zeros, MaySay, IsVoteOf, IsMarkOf, flag_of, heading, value_bytes, body_saying, number_at, value_at, claim_of, may_mark, may_say, is_said, said_by}
+use Rattle.paxos_block.specs.Ballot.{IsBallotOf, is_ballot_of, may_vote, may_promise, owner_of}
+use Rattle.paxos_block.specs.Headers.{short_at}
 use Rattle.torn_block.specs.Layout.{Version, Version1, Version2, body_length, value_length, padding, number_of}
 
 and-true : (b : Bool) → (b && true) ≡ b

@@ -10,16 +10,16 @@ use Rattle.torn_block.specs.declared.block.Half.{Half}
 use Rattle.torn_block.specs.declared.block.Half.TheVariants.{First, Second}
 use Rattle.torn_block.specs.declared.write_steps.WriteCall.{WriteCall}
 use Rattle.torn_block.specs.declared.write_steps.WriteCall.TheVariants.{CloseGate, SyncClosed, PutBody, SyncBody, OpenGate, SyncOpened}
-use Rattle.torn_block.specs.layouts.Block.{is_open, sequence_of, tail_with, other, copy_of, choice, value_at, target_at, target_of, next_sequence_at, next_sequence, value_of}
-use Rattle.torn_block.specs.layouts.Damage.{IsSoundBlock, first_of, second_of}
-use Rattle.torn_block.specs.layouts.Place.{block_in, copy_in}
+use Rattle.torn_block.specs.Block.{is_open, sequence_of, tail_with, other, copy_of, choice, value_at, target_at, target_of, next_sequence_at, next_sequence, value_of}
+use Rattle.torn_block.specs.Damage.{IsSoundBlock, first_of, second_of}
+use Rattle.torn_block.specs.Place.{block_in, copy_in}
 use Rattle.torn_block.proofs.PlaceLaws.{offset_fits, length-copy_in, length-tail_with, reads_sequence}
 use Rattle.torn_block.specs.Stage.{Write128, MayBe, IsWritten, Copies, IsDue, IsDone, IsPlaced, Stands, gate_of, closing, new_tail, call_of, next_call}
 use Rattle.torn_block.proofs.StageLaws.{done_leads_on}
 use Rattle.torn_block.specs.declared.block.TheConstants.{OPEN_GATE}
-use Rattle.paxos_block.specs.layouts.Saying.{Said, said_as}
-use Rattle.paxos_block.specs.layouts.Row.{copy_saying, IsSound}
-use Rattle.paxos_block.specs.layouts.Places.{IsSoundAt, IsWriteOf}
+use Rattle.paxos_block.specs.Saying.{Said, said_as}
+use Rattle.paxos_block.specs.Row.{copy_saying, IsSound}
+use Rattle.paxos_block.specs.Places.{IsSoundAt, IsWriteOf}
 use Rattle.torn_block.specs.Layout.{Version, hosts_in, copy_length, block_length, body_length, row_length, value_length, padding, number_of, area_place}
 use Rattle.torn_block.proofs.LayoutLaws.{long_copy, long_value, some_hosts, few_hosts, blocks_follow, row_holds, rows_follow}
 

@@ -1,8 +1,8 @@
 ghost use Rattle.std.specs.Prelude.{◌≡◌, ◌↔◌, ◌<◌, ◌≤◌, ◌^◌, IsTrue, IfSome, IfNone};
 ghost use Rattle.torn_block.specs.Layout.{hosts_in};
-ghost use Rattle.paxos_block.specs.layouts.Ballot;
-ghost use Rattle.paxos_block.specs.layouts.Ballot.{IsBallotOf, IsLeastAbove, HasNoneAbove};
-ghost use Rattle.paxos_block.specs.layouts.Votes;
+ghost use Rattle.paxos_block.specs.Ballot;
+ghost use Rattle.paxos_block.specs.Ballot.{IsBallotOf, IsLeastAbove, HasNoneAbove};
+ghost use Rattle.paxos_block.specs.Votes;
 
 use torn_block::Layout;
 

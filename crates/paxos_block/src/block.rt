@@ -1,11 +1,11 @@
 ghost use Rattle.std.specs.Prelude.{◌≡◌, ◌≢◌, ◌↔◌, ◌+◌, ◌++◌, ◌==◌, if◌then◌else◌, Bool, List, ℕ, true, false, is_some, IsTrue, length, drop, Some, IfSome, MatchOption, None, option_map};
 ghost use Rattle.std.specs.List.{list_all};
 ghost use Rattle.torn_block.specs.Layout.{value_length, body_length, padding};
-ghost use Rattle.torn_block.specs.layouts.Plan.{body_in};
-ghost use Rattle.paxos_block.specs.layouts.Ballot;
-ghost use Rattle.paxos_block.specs.layouts.Saying;
-ghost use Rattle.paxos_block.specs.layouts.Saying.{Said as Claim, MaySay, body_saying, claim_of, said_by, said_as, flag_of, may_mark, value_bytes, zeros};
-ghost use Rattle.paxos_block.specs.layouts.Votes.{later_of, marked};
+ghost use Rattle.torn_block.specs.Plan.{body_in};
+ghost use Rattle.paxos_block.specs.Ballot;
+ghost use Rattle.paxos_block.specs.Saying;
+ghost use Rattle.paxos_block.specs.Saying.{Said as Claim, MaySay, body_saying, claim_of, said_by, said_as, flag_of, may_mark, value_bytes, zeros};
+ghost use Rattle.paxos_block.specs.Votes.{later_of, marked};
 
 use crate::ballot::is_ballot_of;
 use crate::number::{NUMBER_LENGTH, SHORT_LENGTH, number_in, short_in};

@@ -1,12 +1,12 @@
 ghost use Rattle.std.specs.Prelude.{◌≡◌, ℕ, List, IsTrue, length, IfOk, OnErr};
-ghost use Rattle.torn_block.specs.layouts.Block.{value_of, body_of, copy_of};
+ghost use Rattle.torn_block.specs.Block.{value_of, body_of, copy_of};
 ghost use Rattle.torn_block.specs.Layout.{copy_length, block_length};
-ghost use Rattle.torn_block.specs.layouts.Damage;
-ghost use Rattle.torn_block.specs.layouts.Damage.{IsDamagedBlock, first_of, second_of};
-ghost use Rattle.torn_block.specs.layouts.Plan.{IsReading};
-ghost use Rattle.paxos_block.specs.layouts.Saying.{claim_of, said_as};
-ghost use Rattle.paxos_block.specs.layouts.Row as rows;
-ghost use Rattle.paxos_block.specs.layouts.Row.{IsCell, IsSound, blank_cell, says_of};
+ghost use Rattle.torn_block.specs.Damage;
+ghost use Rattle.torn_block.specs.Damage.{IsDamagedBlock, first_of, second_of};
+ghost use Rattle.torn_block.specs.Plan.{IsReading};
+ghost use Rattle.paxos_block.specs.Saying.{claim_of, said_as};
+ghost use Rattle.paxos_block.specs.Row as rows;
+ghost use Rattle.paxos_block.specs.Row.{IsCell, IsSound, blank_cell, says_of};
 
 use crate::block::{PBlock, claim, is_said};
 use crate::damaged::Damaged;

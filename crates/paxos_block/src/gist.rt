@@ -1,10 +1,10 @@
 ghost use Rattle.std.specs.Prelude.{◌≡◌, ◌<◌, ℕ, List, length, max, None, IfOk, IsErr, option_map, if◌then◌else◌, ◌↔◌};
 ghost use Rattle.std.specs.Option.{IsSomeAnd, option_or};
 ghost use Rattle.torn_block.specs.Layout.{hosts_in, row_length};
-ghost use Rattle.paxos_block.specs.layouts.Gist.{IsGist};
-ghost use Rattle.paxos_block.specs.layouts.Row.{decoded_row, blank_cell};
-ghost use Rattle.paxos_block.specs.layouts.Saying.{said_as};
-ghost use Rattle.paxos_block.specs.layouts.Votes.{later_of, marked};
+ghost use Rattle.paxos_block.specs.Gist.{IsGist};
+ghost use Rattle.paxos_block.specs.Row.{decoded_row, blank_cell};
+ghost use Rattle.paxos_block.specs.Saying.{said_as};
+ghost use Rattle.paxos_block.specs.Votes.{later_of, marked};
 
 use crate::block::PBlock;
 use crate::cell::{Cell, is_blank, read_cell};

@@ -1,7 +1,7 @@
 ghost use Rattle.std.specs.Prelude.{◌≡◌, ◌≢◌, ◌⊎◌, ◌≤◌, ◌<◌, ◌↔◌, IsTrue, length, IfOk, Err, Ok};
-ghost use Rattle.paxos_block.specs.layouts.Headers;
-ghost use Rattle.paxos_block.specs.layouts.Places;
-ghost use Rattle.paxos_block.specs.layouts.Headers.{IsHeader, IsFormatted, IsRight, HasNoHeader, header_saying, header_in};
+ghost use Rattle.paxos_block.specs.Headers;
+ghost use Rattle.paxos_block.specs.Places;
+ghost use Rattle.paxos_block.specs.Headers.{IsHeader, IsFormatted, IsRight, HasNoHeader, header_saying, header_in};
 
 use crate::number::{
     NUMBER_LENGTH, SHORT_LENGTH, is_zero, number_in, put_short, put_zeros, short_in,

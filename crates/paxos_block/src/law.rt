@@ -5,17 +5,17 @@ ghost use Rattle.disk.specs.Crash.{MayLeave};
 ghost use Rattle.disk.specs.Disk.{DiskState, Call, Answer, Step, FailureLeaves};
 ghost use Rattle.torn_block.specs.declared.write_steps.WriteCall.{WriteCall};
 ghost use Rattle.torn_block.specs.Layout.{Version, hosts_in, block_length, row_length};
-ghost use Rattle.torn_block.specs.layouts.Block.{value_of};
-ghost use Rattle.torn_block.specs.layouts.Damage.{IsSoundBlock, IsDamagedBlock, block_of};
+ghost use Rattle.torn_block.specs.Block.{value_of};
+ghost use Rattle.torn_block.specs.Damage.{IsSoundBlock, IsDamagedBlock, block_of};
 ghost use Rattle.torn_block.specs.Numbers.{AreBytes};
-ghost use Rattle.torn_block.specs.layouts.Place.{block_in};
-ghost use Rattle.torn_block.specs.layouts.Register.{Register};
+ghost use Rattle.torn_block.specs.Place.{block_in};
+ghost use Rattle.torn_block.specs.Register.{Register};
 ghost use Rattle.torn_block.specs.Stage.{Write128, call_of, IsDone, IsDue, IsPlaced};
 ghost use Rattle.paxos_block.specs.declared.row.Row.{Row};
-ghost use Rattle.paxos_block.specs.layouts.Ballot.{IsBallotOf, majority};
-ghost use Rattle.paxos_block.specs.layouts.Places.{place_of, Spot, BeatOf, VoteOf, IsSpot, IsImage, IsWithin, IsSoundAt, IsWriteOf, Holds, CellReads, SeenReads, row_of, area_of};
-ghost use Rattle.paxos_block.specs.layouts.Row.{IsRow, IsSound, IsSaid, IsDamagedRow, says_of, DecodedBlock, seen_in, seen_at, row_seen, decoded_row};
-ghost use Rattle.paxos_block.specs.layouts.Saying.{Said, MaySay, body_saying};
+ghost use Rattle.paxos_block.specs.Ballot.{IsBallotOf, majority};
+ghost use Rattle.paxos_block.specs.Places.{place_of, Spot, BeatOf, VoteOf, IsSpot, IsImage, IsWithin, IsSoundAt, IsWriteOf, Holds, CellReads, SeenReads, row_of, area_of};
+ghost use Rattle.paxos_block.specs.Row.{IsRow, IsSound, IsSaid, IsDamagedRow, says_of, DecodedBlock, seen_in, seen_at, row_seen, decoded_row};
+ghost use Rattle.paxos_block.specs.Saying.{Said, MaySay, body_saying};
 
 /// A ballot has one owner, and two majorities have a disk in common.
 pub fn ballots_and_majorities()

@@ -1,8 +1,8 @@
 // Numbers among bytes, the highest byte first, and runs of zeros.
 ghost use Rattle.std.specs.Prelude.{◌≡◌, ◌≤◌, ◌==◌, length};
 ghost use Rattle.std.specs.List.{list_all};
-ghost use Rattle.paxos_block.specs.layouts.Saying.{number_at, zeros};
-ghost use Rattle.paxos_block.specs.layouts.Headers.{short_at, short_bytes};
+ghost use Rattle.paxos_block.specs.Saying.{number_at, zeros};
+ghost use Rattle.paxos_block.specs.Headers.{short_at, short_bytes};
 
 use byteorder::{BigEndian, ByteOrder};
 

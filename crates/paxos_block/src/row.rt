@@ -1,14 +1,13 @@
 ghost use Rattle.std.specs.Prelude.{◌≡◌, ◌↔◌, ◌<◌, ℕ, List, true, length, replicate, None, Contains, IfOk, OnOk, IsErr, option_map};
 ghost use Rattle.std.specs.Option.{IsSomeAnd};
-ghost use Rattle.torn_block.specs.layouts.Damage;
-ghost use Rattle.torn_block.specs.Layout.{hosts_in, block_length, row_length};
+ghost use Rattle.torn_block.specs.Damage;
+ghost use Rattle.torn_block.specs.Layout.{hosts_in, block_length, row_length, cluster_version};
 ghost use Rattle.paxos_block.specs.Damage.{AreDamagedBlocks, damaged_in};
-ghost use Rattle.paxos_block.specs.Row as cluster;
-ghost use Rattle.paxos_block.specs.layouts.Row.{IsRow, IsDamagedRow, DecodedBlock, decoded_row, seen_at, IsSeenAs, AreSeenAs, blank_cell};
+ghost use Rattle.paxos_block.specs.Row.{IsRow, IsDamagedRow, DecodedBlock, decoded_row, seen_at, IsSeenAs, AreSeenAs, blank_cell};
 ghost use Rattle.torn_block.specs.declared.layout.TheConstants.{HOSTS, HOSTS_ROOM};
 ghost use Rattle.torn_block.specs.Layout.{Version};
-ghost use Rattle.paxos_block.specs.layouts.Saying.{said_as};
-ghost use Rattle.paxos_block.specs.layouts.Votes.{highest_mbal, highest_mbal_of_others, latest_in, marked_in};
+ghost use Rattle.paxos_block.specs.Saying.{said_as};
+ghost use Rattle.paxos_block.specs.Votes.{highest_mbal, highest_mbal_of_others, latest_in, marked_in};
 
 use crate::block::PBlock;
 use crate::cell::{Cell, is_blank, is_damaged_block, read_cell};
@@ -156,7 +155,7 @@ pub fn decode_row<L: Layout>(bytes: &[u8]) -> Result<Row<L::Value>, Damaged>
 /// row damaged exactly where one of them is.
 pub fn damaged_hosts(bytes: &[u8; ROW_LENGTH]) -> [bool; HOSTS]
     ensures each { AreDamagedBlocks bytes.now result }
-    ensures row { Contains result true ↔ cluster.IsDamagedRow bytes.now }
+    ensures row { Contains result true ↔ IsDamagedRow cluster_version bytes.now }
     ensures exact { result ≡ damaged_in bytes.now }
 {
     let mut damaged = [false; HOSTS];

@@ -6,15 +6,14 @@ use Rattle.std.proofs.lemmas.List.{get_or-set_same, get_or-set_other}
 use Rattle.disk.specs.declared.boot.Boot.{Boot}
 use Rattle.torn_block.specs.declared.write_steps.WriteCall.{WriteCall}
 use Rattle.torn_block.specs.declared.write_steps.WriteCall.TheVariants.{CloseGate, SyncClosed, PutBody, SyncBody, OpenGate, SyncOpened}
-use Rattle.torn_block.specs.layouts.Plan.{Plan, IsReading, plan_by, next_after}
-use Rattle.paxos_block.specs.layouts.Saying.{Said}
+use Rattle.torn_block.specs.Plan.{Plan, IsReading, plan_by, next_after}
+use Rattle.paxos_block.specs.Saying.{Said, body_saying}
 use Rattle.paxos_block.specs.declared.cell.Cell.{Cell}
-use Rattle.paxos_block.specs.layouts.Row.{DecodedBlock, seen_at, decoded_row, IsSeenAs, AreSeenAs}
+use Rattle.paxos_block.specs.Row.{DecodedBlock, seen_at, decoded_row, IsSeenAs, AreSeenAs}
 use Rattle.paxos_block.specs.declared.row.Row.{Row}
 use Rattle.paxos_block.specs.declared.gist.Gist.{Gist}
-use Rattle.paxos_block.specs.layouts.Gist.{IsGist}
+use Rattle.paxos_block.specs.Gist.{IsGist}
 use Rattle.std.specs.Option.{IsSomeAnd}
-use Rattle.paxos_block.specs.layouts.Saying.{body_saying}
 use Rattle.attempt.specs.Calls.{Phase, Opening, One, Two, start, goal}
 use Rattle.attempt.specs.Answers.{Heard, Booted, Done, Told, Answers, more, is_bad, all_good, row_in, boot_of, last_row, seen_block}
 use Rattle.attempt.specs.Setup.{Setup}
@@ -29,7 +28,7 @@ use Rattle.phases.specs.declared.phase.Stage.{Stage}
 use Rattle.phases.specs.declared.phase.Stage.TheVariants as stage
 use Rattle.phases.specs.declared.heard.Heard.TheVariants as answer
 use Rattle.phases.specs.declared.visit.Visit.{Visit}
-use Rattle.phases.specs.layouts.Calls.{phase_in}
+use Rattle.phases.specs.Calls.{phase_in}
 use Rattle.torn_block.specs.Layout.{Version}
 use Rattle.phases.specs.Notes.{Notes, no_visit, visit_at}
 use Rattle.phases.specs.Steps.{made, answered, Suits, FitsStage, write_then, stage_then}

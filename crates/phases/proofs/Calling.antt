@@ -9,11 +9,10 @@ use Rattle.torn_block.proofs.LayoutLaws.{row_holds}
 use Rattle.torn_block.specs.declared.write_steps.WriteCall.{WriteCall}
 use Rattle.torn_block.specs.declared.write_steps.WriteCall.TheVariants.{CloseGate, SyncClosed, PutBody, SyncBody, OpenGate, SyncOpened}
 use Rattle.torn_block.specs.Stage.{call_of}
-use Rattle.torn_block.specs.layouts.Plan.{Plan, plan_by, need_at, device_call}
+use Rattle.torn_block.specs.Plan.{Plan, plan_by, need_at, device_call}
 use Rattle.torn_block.proofs.PlanLaws.{plan_calls}
-use Rattle.paxos_block.specs.layouts.Places.{row_place}
-use Rattle.paxos_block.specs.layouts.Saying.{body_saying}
-use Rattle.paxos_block.specs.layouts.Saying.{Said}
+use Rattle.paxos_block.specs.Places.{row_place}
+use Rattle.paxos_block.specs.Saying.{body_saying, Said}
 use Rattle.attempt.specs.Calls.{Opening, Reading, Putting, seventeen, start}
 use Rattle.attempt.specs.Answers.{Heard, Answered, Answers, on, all_good, row_in}
 use Rattle.attempt.specs.Setup.{Setup}
@@ -31,7 +30,7 @@ use Rattle.phases.specs.declared.phase.Phase.TheVariants as phase
 use Rattle.phases.specs.declared.phase.Stage.{Stage}
 use Rattle.phases.specs.declared.phase.Stage.TheVariants as stage
 use Rattle.phases.specs.declared.visit.Visit.{Visit}
-use Rattle.phases.specs.layouts.Calls.{phase_in, IsWithin, Ending, end_in}
+use Rattle.phases.specs.Calls.{phase_in, IsWithin, Ending, end_in}
 use Rattle.phases.specs.Notes.{Notes, visit_at}
 use Rattle.phases.specs.Steps.{made, answered, Suits, write_due}
 use Rattle.phases.specs.Kept.{call_at, call_due, Remembers, Writes, IsVisiting, Stands, end_of_status, Follows, LeadsTo}

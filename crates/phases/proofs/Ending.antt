@@ -2,7 +2,7 @@
 use Rattle.std.specs.Prelude.{nat_lt, nat_le}
 use Rattle.std.proofs.Common.{◌≡◌, ◌*◌, ◌<◌, ◌≤◌, ◌&&◌, not, ℕ, Bool, true, false, Option, Some, None, length, refl, sym, ap, ◌∙◌, arith}
 use Rattle.std.proofs.lemmas.Bool.{lt-ltb, and_parts, leb-true}
-use Rattle.paxos_block.specs.layouts.Saying.{Said}
+use Rattle.paxos_block.specs.Saying.{Said}
 use Rattle.attempt.specs.Calls.{Phase, Opening, One, Two}
 use Rattle.attempt.specs.Answers.{Answers, all_good}
 use Rattle.attempt.specs.Setup.{Setup}
@@ -15,7 +15,7 @@ use Rattle.attempt.proofs.Visitors.{waiting_is, left_if, part_if, not_stuck}
 use Rattle.attempt.proofs.Statuses as statuses
 use Rattle.phases.specs.declared.end.End.TheVariants as end
 use Rattle.phases.specs.declared.phase.Phase as code_phase
-use Rattle.phases.specs.layouts.Calls.{phase_in}
+use Rattle.phases.specs.Calls.{phase_in}
 use Rattle.phases.specs.Notes.{Notes, visit_at}
 use Rattle.phases.specs.Kept.{Follows}
 use Rattle.phases.specs.Moves.{IsOpenedIn, IsPassed, IsBegun, IsOver, keeps_majority}

@@ -2,11 +2,11 @@
 use Rattle.std.specs.Prelude.{nat_lt, nat_le}
 use Rattle.std.proofs.Common.{◌≡◌, ◌≢◌, ◌+◌, ◌*◌, ◌<◌, ◌≤◌, ◌&&◌, not, ℕ, Bool, true, false, Option, Some, None, List, [], ◌∷◌, ◌++◌, length, is_some, inl, inr, refl, sym, subst, ap, ap₂, ◌∙◌, arith}
 use Rattle.std.proofs.lemmas.Bool.{cases_eq, and_from, and_left, and_right, le-leb, lt-leb}
-use Rattle.paxos_block.specs.layouts.Saying.{Said}
-use Rattle.paxos_block.specs.layouts.Row.{DecodedBlock, number_or_zero}
+use Rattle.paxos_block.specs.Saying.{Said}
+use Rattle.paxos_block.specs.Row.{DecodedBlock, number_or_zero}
 use Rattle.torn_block.specs.Layout.{Version}
 use Rattle.torn_block.specs.declared.block.Block128.{Block128}
-use Rattle.torn_block.specs.layouts.Plan.{IsReading, told_number}
+use Rattle.torn_block.specs.Plan.{IsReading, told_number}
 use Rattle.attempt.specs.Calls.{Phase, Opening, One, Two, start, goal}
 use Rattle.attempt.specs.Answers.{Heard, Told, Answers, more, is_bad, all_good, told, row_in, last_row, later_row, seen_block, boot_of}
 use Rattle.attempt.specs.Setup.{Setup}
@@ -24,7 +24,7 @@ use Rattle.attempt.proofs.Statuses as statuses
 use Rattle.phases.specs.declared.phase.Phase as code_phase
 use Rattle.phases.specs.declared.phase.Stage.{Stage}
 use Rattle.phases.specs.declared.visit.Visit.{Visit}
-use Rattle.phases.specs.layouts.Calls.{phase_in}
+use Rattle.phases.specs.Calls.{phase_in}
 use Rattle.phases.specs.Notes.{Notes, visit_at}
 use Rattle.phases.specs.Steps.{answered, Suits}
 use Rattle.phases.specs.Kept.{Remembers, KeepsRows, Writes, IsVisiting, Stands, Follows}

@@ -1,9 +1,9 @@
 -- What an attempt keeps that has heard nothing.
 use Rattle.std.proofs.Common.{◌≡◌, ◌*◌, ◌<◌, ℕ, zero, suc, true, Option, None, List, [], refl, sym, subst, ap, ◌∙◌, arith}
 use Rattle.std.proofs.lemmas.Bool.{lt-ltb}
-use Rattle.paxos_block.specs.layouts.Saying.{Said}
-use Rattle.paxos_block.specs.layouts.Row.{blank}
-use Rattle.paxos_block.specs.layouts.Votes.{greatest}
+use Rattle.paxos_block.specs.Saying.{Said}
+use Rattle.paxos_block.specs.Row.{blank}
+use Rattle.paxos_block.specs.Votes.{greatest}
 use Rattle.attempt.specs.Calls.{Opening}
 use Rattle.attempt.specs.Answers.{Answers}
 use Rattle.attempt.specs.Numbers.{count}

@@ -3,12 +3,11 @@ use Rattle.std.specs.Prelude.{nat_lt, slice_set, if◌then◌else◌}
 use Rattle.std.proofs.Common.{◌≡◌, ◌≢◌, ◌+◌, ◌<◌, ◌≤◌, max, ℕ, Bool, true, false, Option, Some, None, List, [], ◌∷◌, ◌++◌, length, refl, sym, subst, ap, ◌∙◌, arith}
 use Rattle.std.proofs.lemmas.Bool.{le-ltb, lt-ltb, ltb-false, ltb-true}
 use Rattle.torn_block.specs.Layout.{Version, hosts_in}
-use Rattle.torn_block.specs.layouts.Block.{value_of}
-use Rattle.paxos_block.specs.layouts.Saying.{Said}
+use Rattle.torn_block.specs.Block.{value_of}
+use Rattle.paxos_block.specs.Saying.{Said, IsVoteOf}
 use Rattle.paxos_block.specs.declared.cell.Cell.{Cell}
-use Rattle.paxos_block.specs.layouts.Row.{DecodedBlock, seen_at, decoded_row, IsSeenAs}
-use Rattle.paxos_block.specs.layouts.Saying.{IsVoteOf}
-use Rattle.paxos_block.specs.layouts.Votes.{says_in, highest_mbal, highest_mbal_of_others, later_of, latest_in, marked_in}
+use Rattle.paxos_block.specs.Row.{DecodedBlock, seen_at, decoded_row, IsSeenAs}
+use Rattle.paxos_block.specs.Votes.{says_in, highest_mbal, highest_mbal_of_others, later_of, latest_in, marked_in}
 use Rattle.paxos_block.proofs.RowLemmas.{said_is_said}
 use Rattle.paxos_block.proofs.VoteLemmas.{greatest_is_greatest, vote_at, vote_in, later_vote}
 use Rattle.attempt.specs.Calls.{Phase, Opening, One, start, goal}
@@ -28,7 +27,7 @@ use Rattle.phases.specs.declared.end.End.TheVariants as end
 use Rattle.phases.specs.declared.phase.Phase as code_phase
 use Rattle.phases.specs.declared.phase.Phase.TheVariants as phase
 use Rattle.phases.specs.declared.phase.Stage.TheVariants as stage
-use Rattle.phases.specs.layouts.Calls.{phase_in}
+use Rattle.phases.specs.Calls.{phase_in}
 use Rattle.phases.specs.Notes.{Notes, IsSound, SaysWell, visit_at}
 use Rattle.phases.specs.Kept.{IsVisiting, Follows}
 use Rattle.phases.specs.Moves.{IsOpenedIn, IsInOrder, IsPassed, above, outruns, noted}

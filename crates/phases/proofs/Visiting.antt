@@ -5,9 +5,9 @@ use Rattle.std.proofs.lemmas.Bool.{cases_eq, cases_lt, le-ltb, lt-ltb, and_left,
 use Rattle.std.proofs.lemmas.List.{get_or-set_same, get_or-set_other}
 use Rattle.torn_block.specs.declared.layout.TheConstants.{LAST_SEQUENCE}
 use Rattle.torn_block.specs.declared.write_steps.WriteCall.TheVariants.{CloseGate}
-use Rattle.torn_block.specs.layouts.Block.{next_number}
-use Rattle.torn_block.specs.layouts.Plan.{plan_by, told_number}
-use Rattle.paxos_block.specs.layouts.Saying.{body_saying}
+use Rattle.torn_block.specs.Block.{next_number}
+use Rattle.torn_block.specs.Plan.{plan_by, told_number}
+use Rattle.paxos_block.specs.Saying.{body_saying}
 use Rattle.paxos_block.proofs.VoteLemmas.{spent, unspent}
 use Rattle.attempt.specs.Calls.{Phase, Opening, start, goal}
 use Rattle.attempt.specs.Answers.{Heard, Answers, last_row, seen_block}
@@ -19,7 +19,7 @@ use Rattle.phases.specs.declared.phase.Phase.TheVariants as phase
 use Rattle.phases.specs.declared.phase.Stage.{Stage}
 use Rattle.phases.specs.declared.phase.Stage.TheVariants as stage
 use Rattle.phases.specs.declared.visit.Visit.{Visit}
-use Rattle.phases.specs.layouts.Calls.{phase_in}
+use Rattle.phases.specs.Calls.{phase_in}
 use Rattle.phases.specs.Notes.{Notes, no_visit, visit_at}
 use Rattle.phases.specs.Steps.{answered, Suits}
 use Rattle.phases.specs.Kept.{Remembers, Writes}

@@ -1,27 +1,55 @@
--- Calls and answers of the code, as the definitions of an attempt see them, in the cluster's layout.
-use Rattle.std.specs.Prelude.{ℕ, List}
+-- Calls and answers of the code, as the definitions of an attempt see them, in each layout.
+use Rattle.std.specs.Prelude.{◌+◌, ◌≤◌, ℕ, List, length, Option}
+use Rattle.std.specs.Option.{option_map}
 use Rattle.disk.specs.Disk as device
-use Rattle.torn_block.specs.Layout.{cluster_version}
-use Rattle.attempt.specs.Answers.{Heard}
+use Rattle.torn_block.specs.Layout.{Version, row_length}
+use Rattle.paxos_block.specs.Row.{decoded_row}
+use Rattle.attempt.specs.Calls.{Phase, Opening, One, Two}
+use Rattle.attempt.specs.Answers.{Heard, Booted, Done, Told, Fault}
+use Rattle.attempt.specs.Status.{End, Committed, Decided, Empty, Outrun, NoMajority, BallotsSpent}
+use Rattle.phases.specs.declared.phase.Phase as code_phase
+use Rattle.phases.specs.declared.phase.Phase.TheVariants as phase
 use Rattle.phases.specs.declared.heard.Heard as code_heard
 use Rattle.phases.specs.declared.heard.Heard.TheVariants as answer
 use Rattle.phases.specs.declared.need.DeviceCall as code_call
+use Rattle.phases.specs.declared.need.DeviceCall.TheVariants as call
 use Rattle.phases.specs.declared.need.Need.{Need}
-use Rattle.phases.specs.layouts.Calls as by
-pub use Rattle.phases.specs.layouts.Calls.{phase_in, Ending, end_as, end_of, end_in}
+use Rattle.phases.specs.declared.end.End as code_end
+use Rattle.phases.specs.declared.end.End.TheVariants as end
 
-abbrev pub device_call_of : code_call.DeviceCall → device.Call
-device_call_of = by.device_call_of cluster_version
+abbrev pub phase_in : code_phase.Phase → Phase
+phase_in phase.Opening = Opening
+phase_in phase.One = One
+phase_in phase.Two = Two
 
-abbrev pub IsWithin : ℕ → code_call.DeviceCall → Type 0
-IsWithin = by.IsWithin cluster_version
+-- the device call that is asked for; a read is of a whole row
+abbrev pub device_call_of : Version → code_call.DeviceCall → device.Call
+device_call_of v call.Attach = device.Attach
+device_call_of v (call.Sync boot) = device.Sync boot.number
+device_call_of v (call.Read boot at) = device.Read boot.number at (row_length v)
+device_call_of v (call.Write boot at bytes) = device.Write boot.number at bytes.now
 
-abbrev pub call_of_need : Need → ℕ × device.Call
-call_of_need = by.call_of_need cluster_version
+-- its range ends at this place at the latest
+abbrev pub IsWithin : Version → ℕ → code_call.DeviceCall → Type 0
+IsWithin v n call.Attach = Unit {0}
+IsWithin v n (call.Sync boot) = Unit {0}
+IsWithin v n (call.Read boot at) = at + row_length v ≤ n
+IsWithin v n (call.Write boot at bytes) = at + length bytes.now ≤ n
 
--- a row is its bytes
-abbrev pub heard_of : code_heard.Heard (List ℕ) → Heard
-heard_of = by.heard_of cluster_version (λ row. row)
+-- with its disk
+abbrev pub call_of_need : Version → Need → ℕ × device.Call
+call_of_need v need = (need.disk, device_call_of v need.call)
+
+-- of a row, by its bytes
+abbrev pub heard_as : {R : Type 0} → Version → (R → List ℕ) → code_heard.Heard R → Heard
+heard_as v bytes_of (answer.Booted boot) = Booted boot.number
+heard_as v bytes_of answer.Done = Done
+heard_as v bytes_of (answer.Told row) = Told (decoded_row v (bytes_of row.now))
+heard_as v bytes_of (answer.Fault fault) = Fault fault
+
+-- of a row that is its bytes
+abbrev pub heard_of : Version → code_heard.Heard (List ℕ) → Heard
+heard_of v = heard_as v (λ row. row)
 
 -- the answer of a device
 abbrev pub device_answer : code_heard.Heard (List ℕ) → device.Answer
@@ -29,3 +57,27 @@ device_answer (answer.Booted boot) = device.Booted boot.number
 device_answer answer.Done = device.Done
 device_answer (answer.Told row) = device.Told row.now
 device_answer (answer.Fault fault) = device.Fault fault
+
+-- an end, with the bytes of its value
+abbrev pub Ending : Type 0
+Ending = code_end.End (List ℕ)
+
+-- the same of one whose values have their bytes by a layout
+abbrev pub end_as : {V : Type 0} → (V → List ℕ) → code_end.End V → Ending
+end_as spelled (end.Committed value) = end.Committed (spelled value)
+end_as spelled (end.Decided value) = end.Decided (spelled value)
+end_as spelled end.Empty = end.Empty
+end_as spelled (end.Outrun mbal) = end.Outrun mbal
+end_as spelled end.NoMajority = end.NoMajority
+end_as spelled end.BallotsSpent = end.BallotsSpent
+
+abbrev pub end_of : Ending → End
+end_of (end.Committed value) = Committed value
+end_of (end.Decided value) = Decided value
+end_of end.Empty = Empty
+end_of (end.Outrun mbal) = Outrun mbal
+end_of end.NoMajority = NoMajority
+end_of end.BallotsSpent = BallotsSpent
+
+abbrev pub end_in : Option Ending → Option End
+end_in end = option_map end_of end

@@ -2,9 +2,9 @@
 use Rattle.std.specs.Prelude.{ℕ, List}
 use Rattle.std.specs.Option.{option_map}
 use Rattle.torn_block.specs.Layout.{Version}
-use Rattle.paxos_block.specs.layouts.Saying.{said_as}
+use Rattle.paxos_block.specs.Saying.{said_as}
 use Rattle.phases.specs.declared.one_attempt.Attempt.TheInside.{Inside}
-use Rattle.phases.specs.layouts.Calls.{end_as}
+use Rattle.phases.specs.Calls.{end_as}
 use Rattle.phases.specs.Notes.{Notes, setup_in}
 
 abbrev pub notes_in : {L V R : Type 0} → Version → (V → List ℕ) → Inside L V R → Notes

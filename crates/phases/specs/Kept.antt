@@ -3,11 +3,10 @@ use Rattle.std.specs.Prelude.{◌≡◌, ◌<◌, ℕ, Bool, true, List, length,
 use Rattle.disk.specs.Disk as device
 use Rattle.torn_block.specs.Layout.{Version, row_length}
 use Rattle.torn_block.specs.declared.write_steps.WriteCall.{WriteCall}
-use Rattle.torn_block.specs.layouts.Plan.{Plan, IsReading, told_number, plan_by}
-use Rattle.paxos_block.specs.layouts.Saying.{Said}
-use Rattle.paxos_block.specs.layouts.Row.{number_or_zero}
-use Rattle.paxos_block.specs.layouts.Saying.{body_saying}
-use Rattle.paxos_block.specs.layouts.Places.{place_of, VoteOf, row_place}
+use Rattle.torn_block.specs.Plan.{Plan, IsReading, told_number, plan_by}
+use Rattle.paxos_block.specs.Saying.{Said, body_saying}
+use Rattle.paxos_block.specs.Row.{number_or_zero}
+use Rattle.paxos_block.specs.Places.{place_of, VoteOf, row_place}
 use Rattle.attempt.specs.Answers.{Heard, Answered, Answers, on, last_row, seen_block, boot_of}
 use Rattle.attempt.specs.Setup.{Setup}
 use Rattle.attempt.specs.Visits.{is_left}
@@ -15,7 +14,7 @@ use Rattle.attempt.specs.Proposal.{highest, best, decided}
 use Rattle.attempt.specs.Status.{End, Status, Due, Ended, status, taken}
 use Rattle.attempt.specs.NextCall.{says_for}
 use Rattle.attempt.specs.History.{IsHistory}
-use Rattle.phases.specs.layouts.Calls.{phase_in, Ending, end_of}
+use Rattle.phases.specs.Calls.{phase_in, Ending, end_of}
 use Rattle.phases.specs.Notes.{Notes, visit_at}
 use Rattle.phases.specs.Steps.{answered, Suits, write_due}
 use Rattle.phases.specs.declared.phase.Phase as code_phase

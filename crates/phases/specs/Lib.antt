@@ -5,4 +5,3 @@ pub mod Moves
 pub mod Notes
 pub mod Room
 pub mod Steps
-pub mod layouts

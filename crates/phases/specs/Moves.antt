@@ -1,12 +1,12 @@
 -- What one answer more makes of what is kept, and between an answer and the next call how far an attempt is with the
 -- disks of its phase.
 use Rattle.std.specs.Prelude.{◌≡◌, ◌<◌, ◌≤◌, ◌*◌, ◌&&◌, ℕ, Bool, true, false, max, List, length, nat_lt, nat_le, slice_get, Option, Some, None, if◌then◌else◌}
-use Rattle.paxos_block.specs.layouts.Saying.{Said}
+use Rattle.paxos_block.specs.Saying.{Said}
 use Rattle.paxos_block.specs.declared.row.Row.{Row}
 use Rattle.paxos_block.specs.declared.gist.Gist.{Gist}
-use Rattle.paxos_block.specs.layouts.Gist.{IsGist}
-use Rattle.paxos_block.specs.layouts.Row.{DecodedBlock, AreSeenAs, decoded_row}
-use Rattle.paxos_block.specs.layouts.Votes.{says_in, highest_mbal, highest_mbal_of_others, later_of, latest_in, marked_in}
+use Rattle.paxos_block.specs.Gist.{IsGist}
+use Rattle.paxos_block.specs.Row.{DecodedBlock, AreSeenAs, decoded_row}
+use Rattle.paxos_block.specs.Votes.{says_in, highest_mbal, highest_mbal_of_others, later_of, latest_in, marked_in}
 use Rattle.attempt.specs.Calls.{Phase, Opening, One, Two, start, goal}
 use Rattle.attempt.specs.Answers.{Heard, Booted, Answers, more, all_good, row_in}
 use Rattle.attempt.specs.Numbers.{count}
@@ -20,7 +20,7 @@ use Rattle.phases.specs.declared.phase.Phase as code_phase
 use Rattle.phases.specs.declared.phase.Phase.TheVariants as phase
 use Rattle.phases.specs.declared.visit.Visit.{Visit}
 use Rattle.torn_block.specs.Layout.{Version}
-use Rattle.phases.specs.layouts.Calls.{phase_in}
+use Rattle.phases.specs.Calls.{phase_in}
 use Rattle.phases.specs.Notes.{Notes, visit_at}
 use Rattle.phases.specs.Steps.{answered, Suits}
 use Rattle.phases.specs.Kept.{KeepsRows, KeepsVisits, Writes, Follows}

@@ -3,10 +3,9 @@ use Rattle.std.specs.Prelude.{◌≡◌, ◌<◌, ◌≤◌, ℕ, true, false, i
 use Rattle.std.specs.Option.{option_map}
 use Rattle.torn_block.specs.declared.layout.TheConstants.{DISKS}
 use Rattle.torn_block.specs.Layout.{Version, hosts_in}
-use Rattle.paxos_block.specs.layouts.Saying.{Said}
-use Rattle.paxos_block.specs.layouts.Saying.{IsVoteOf, MaySay}
+use Rattle.paxos_block.specs.Saying.{Said, IsVoteOf, MaySay}
 use Rattle.attempt.specs.Setup.{Setup}
-use Rattle.phases.specs.layouts.Calls.{Ending}
+use Rattle.phases.specs.Calls.{Ending}
 use Rattle.phases.specs.declared.phase.Phase.{Phase}
 use Rattle.phases.specs.declared.phase.Phase.TheVariants.{Opening, One, Two}
 use Rattle.phases.specs.declared.phase.Stage.{Stage}

@@ -3,7 +3,7 @@ use Rattle.std.specs.Prelude.{◌≡◌, ◌+◌, ℕ, pred, true, Option, Some,
 use Rattle.disk.specs.Disk as device
 use Rattle.torn_block.specs.declared.write_steps.WriteCall.{WriteCall}
 use Rattle.torn_block.specs.declared.write_steps.WriteCall.TheVariants.{CloseGate, SyncClosed, PutBody, SyncBody, OpenGate, SyncOpened}
-use Rattle.torn_block.specs.layouts.Plan.{Plan, next_after, need_at, device_call}
+use Rattle.torn_block.specs.Plan.{Plan, next_after, need_at, device_call}
 use Rattle.torn_block.specs.Layout.{Version, copy_length}
 use Rattle.attempt.specs.Calls.{Phase, start, goal}
 use Rattle.phases.specs.declared.heard.Heard as code_heard

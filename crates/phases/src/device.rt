@@ -1,6 +1,7 @@
 ghost use Rattle.std.specs.Prelude.{◌≡◌, ◌+◌, ◌≤◌, ◌↔◌, IsTrue};
 ghost use Rattle.disk.specs.Disk.{done_answer};
 ghost use Rattle.attempt.specs.History.{Fits};
+ghost use Rattle.torn_block.specs.Layout.{cluster_version};
 ghost use Rattle.phases.specs.Calls.{IsWithin, device_answer, device_call_of, heard_of};
 
 use crate::heard::Heard;
@@ -16,9 +17,9 @@ pub fn answer_of<'a, D: Disk>(
     call: &DeviceCall<'_>,
     row: &'a mut [u8; ROW_LENGTH],
 ) -> Heard<'a>
-    requires { IsWithin (D.device disk.old).size call.now }
-    ensures fits { Fits (device_call_of call.now) (heard_of result) }
-    ensures gave { D.gives disk.old (device_call_of call.now) (device_answer result) disk.new }
+    requires { IsWithin cluster_version (D.device disk.old).size call.now }
+    ensures fits { Fits (device_call_of cluster_version call.now) (heard_of cluster_version result) }
+    ensures gave { D.gives disk.old (device_call_of cluster_version call.now) (device_answer result) disk.new }
     ensures device { D.device disk.new ≡ D.device disk.old }
 {
     match call {
@@ -47,7 +48,7 @@ fn done<'a>(answer: Result<(), DiskFault>) -> Heard<'a>
 
 /// Whether the range of a call, in the cluster's layout, ends on a disk of so many bytes.
 pub fn is_within(size: u64, call: &DeviceCall<'_>) -> bool
-    ensures { IsTrue result ↔ IsWithin size call.now }
+    ensures { IsTrue result ↔ IsWithin cluster_version size call.now }
 {
     match call {
         DeviceCall::Attach | DeviceCall::Sync { .. } => true,

@@ -2,8 +2,8 @@ ghost use Rattle.std.specs.Prelude.{◌≡◌, ◌≢◌, ◌<◌, ◌≤◌, �
 ghost use Rattle.std.specs.Bool.{OnTrue, OnFalse};
 ghost use Rattle.torn_block.specs.declared.layout.TheConstants.{COPY_ROOM, DISKS};
 ghost use Rattle.torn_block.specs.Layout.{Version, hosts_in, row_length};
-ghost use Rattle.paxos_block.specs.layouts.Places.{place_of, row_place, VoteOf};
-ghost use Rattle.paxos_block.specs.layouts.Row.{decoded_row};
+ghost use Rattle.paxos_block.specs.Places.{place_of, row_place, VoteOf};
+ghost use Rattle.paxos_block.specs.Row.{decoded_row};
 ghost use Rattle.attempt.specs.Answers as answers;
 ghost use Rattle.attempt.specs.Answers.{Answers, Answered, on};
 ghost use Rattle.attempt.specs.History.{Fits};
@@ -11,7 +11,7 @@ ghost use Rattle.attempt.specs.Laws.{IsServedAlone};
 ghost use Rattle.attempt.specs.NextCall.{next_call};
 ghost use Rattle.attempt.specs.Setup as attempt;
 ghost use Rattle.attempt.specs.Status.{status, taken};
-ghost use Rattle.phases.specs.layouts.Calls.{call_of_need, device_call_of, heard_of, end_as, end_in, IsWithin};
+ghost use Rattle.phases.specs.Calls.{call_of_need, device_call_of, heard_as, end_as, end_in, IsWithin};
 ghost use Rattle.phases.specs.Kept.{answer_of, IsSameAttempt, LeadsTo, Follows, call_due, end_of_status};
 ghost use Rattle.phases.specs.Moves.{Takes, ReadsGist, IsPassed, IsBegun, IsOver, outruns, noted, phases_left, keeps_majority};
 ghost use Rattle.phases.specs.Notes.{visit_at};
@@ -118,14 +118,14 @@ impl<L: Layout> Attempt<L> {
     #[inline(always)]
     pub fn hear(&mut self, heard: &Heard<'_, L::Row>)
         requires going { self.old.end ≡ None }
-        requires fits { Fits (call_due self.old).1 (heard_of L.version L.row_bytes heard.now) }
+        requires fits { Fits (call_due self.old).1 (heard_as L.version L.row_bytes heard.now) }
         requires room { RowFits L.Value.row }
         ensures leads { (s : attempt.Setup) (answers : List Answered) → LeadsTo s answers self.old →
-            LeadsTo s (answers ++ answer_of self.old (heard_of L.version L.row_bytes heard.now) ∷ []) self.new }
+            LeadsTo s (answers ++ answer_of self.old (heard_as L.version L.row_bytes heard.now) ∷ []) self.new }
         ensures bound { (s : attempt.Setup) (answers : List Answered) → LeadsTo s answers self.old →
-            length (answers ++ answer_of self.old (heard_of L.version L.row_bytes heard.now) ∷ []) ≤ 17 * s.disks }
+            length (answers ++ answer_of self.old (heard_as L.version L.row_bytes heard.now) ∷ []) ≤ 17 * s.disks }
         ensures alone { (s : attempt.Setup) (answers : List Answered) → LeadsTo s answers self.old →
-            IsServedAlone s (answers ++ answer_of self.old (heard_of L.version L.row_bytes heard.now) ∷ []) }
+            IsServedAlone s (answers ++ answer_of self.old (heard_as L.version L.row_bytes heard.now) ∷ []) }
         ensures same { IsSameAttempt self.old self.new }
     {
         self.take(heard);
@@ -175,7 +175,7 @@ impl<L: Layout> Attempt<L> {
         requires fits { FitsStage self.old.stage heard.now }
         requires room { RowFits L.Value.row }
         ensures of { self.new.of ≡ self.old.of }
-        ensures follows { Takes (heard_of L.version L.row_bytes heard.now) self.old self.new }
+        ensures follows { Takes (heard_as L.version L.row_bytes heard.now) self.old self.new }
     {
         match heard {
             Heard::Booted(boot) => self.attach(*boot),

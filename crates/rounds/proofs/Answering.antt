@@ -139,9 +139,9 @@ module _ {A : Type 0} (w : Duty A) where
       pub write : (block : Block128) (body : List ℕ) → IsToWrite w said block body → Follows w (more f n.disk (Told (Some said))) (begins n block body)
       write block body to = by (nat_le (next_number (told_number block)) LAST_SEQUENCE) refl
         where
-          by : (b : Bool) → nat_le (next_number (told_number block)) LAST_SEQUENCE ≡ b → Follows w (more f n.disk (Told (Some said))) (if b then record n { steps = plan_by block body; stage = stage.Writing } else drops n)
+          by : (b : Bool) → nat_le (next_number (told_number block)) LAST_SEQUENCE ≡ b → Follows w (more f n.disk (Told (Some said))) (if b then record n { steps = plan_by cluster_version block body; stage = stage.Writing } else drops n)
           by true fits =
-              still (Told (Some said)) (record n { steps = plan_by block body; stage = stage.Writing }) going refl refl refl refl
+              still (Told (Some said)) (record n { steps = plan_by cluster_version block body; stage = stage.Writing }) going refl refl refl refl
               (record {
                 said = said;
                 block = block;
@@ -149,7 +149,7 @@ module _ {A : Type 0} (w : Duty A) where
                 heard = three_are;
                 begun = subst (IsToWrite w said block) to.writes to;
                 unspent = unspent (told_number block) (w.sequence (Some said)) to.sequence (leb-true (next_number (told_number block)) LAST_SEQUENCE fits);
-                plan = ap (plan_by block) to.writes;
+                plan = ap (plan_by cluster_version block) to.writes;
               })
           by false none =
               let over = leb-false (next_number (told_number block)) LAST_SEQUENCE none in
@@ -163,7 +163,7 @@ module _ {A : Type 0} (w : Duty A) where
       u = at stage.Writing st
 
       abbrev plan : Option WriteCall → Plan
-      plan due = record (plan_by u.block (w.body (Some u.said))) { due = due }
+      plan due = record (plan_by cluster_version u.block (w.body (Some u.said))) { due = due }
 
       heard_then : f n.disk ++ Done ∷ [] ≡ so_far n.boot.number u.said (call_behind u.call)
       heard_then = ap (λ (a : List (Heard A)). a ++ Done ∷ []) u.heard ∙ one_more n.boot.number u.said u.call
@@ -267,7 +267,7 @@ module _ {A : Type 0} (w : Duty A) where
           let own : Write128 = record { version = cluster_version; place = w.place; block = w.block (Some said); body = w.body (Some said) } in
           let boot = n.boot.number in
           let due : due_now ≡ call_of at_write.call own boot =
-          ap (λ (p : Plan). write_due w.place boot p p.due) at_write.plan ∙ ap (device_call w.place boot) (need_same (plan_by at_write.block (w.body (Some said))) (Some at_write.call) at_write.call)
+          ap (λ (p : Plan). write_due w.place boot p p.due) at_write.plan ∙ ap (device_call w.place boot) (need_same (plan_by cluster_version at_write.block (w.body (Some said))) (Some at_write.call) at_write.call)
           ∙ plan_calls own at_write.block at_write.begun.read at_write.call boot in
           subst (λ (a : List (Heard A)). IsThere a due_now) (sym at_write.heard) (there_by at_write.call (sym due))
 

@@ -1,6 +1,7 @@
 -- What a round keeps, how each answer changes it, and when that is what follows from the answers.
 use Rattle.std.specs.Prelude.{◌≡◌, ◌<◌, ◌≤◌, ◌+◌, ◌*◌, ◌==◌, ℕ, Bool, true, false, cond, nat_le, List, [], ◌∷◌, replicate, Option, Some, None, if◌then◌else◌}
 use Rattle.disk.specs.Disk as device
+use Rattle.torn_block.specs.Layout.{cluster_version}
 use Rattle.torn_block.specs.declared.layout.TheConstants.{DISKS, COPY_LENGTH, ROW_LENGTH, LAST_SEQUENCE}
 use Rattle.torn_block.specs.declared.block.Block128.{Block128}
 use Rattle.torn_block.specs.declared.write_steps.WriteCall.{WriteCall}
@@ -53,7 +54,7 @@ passes n held = goes_on n n.lost (n.held + cond held 1 0)
 -- a write begins, if there is a sequence number left
 abbrev pub begins : Round → Block128 → (body : List ℕ) → Round
 begins n block body =
-    if nat_le (next_number (told_number block)) LAST_SEQUENCE then record n { steps = plan_by block body; stage = stage.Writing } else drops n
+    if nat_le (next_number (told_number block)) LAST_SEQUENCE then record n { steps = plan_by cluster_version block body; stage = stage.Writing } else drops n
 
 -- a call of the write succeeded, and this one comes next
 abbrev pub writes_on : Round → Option WriteCall → Round
@@ -85,7 +86,7 @@ pub record IsSound (n : Round) : Type 0 where
 -- this was read, by which the own block is to be written, and a writer goes by these
 pub record IsToWrite {A : Type 0} (w : Duty A) (said : A) (block : Block128) (body : List ℕ) : Type 0 where
   pub due : w.is_due (Some said) ≡ true
-  pub read : IsReading (w.block (Some said)) block
+  pub read : IsReading cluster_version (w.block (Some said)) block
   pub sequence : number_or_zero (told_number block) ≡ w.sequence (Some said)
   pub writes : body ≡ w.body (Some said)
 
@@ -97,7 +98,7 @@ pub record IsWriting {A : Type 0} (w : Duty A) (n : Round) (a : List (Heard A)) 
   pub heard : a ≡ Booted n.boot.number ∷ Done ∷ Told (Some said) ∷ replicate (made (Some call)) Done
   pub begun : IsToWrite w said block (w.body (Some said))
   pub unspent : nat_le LAST_SEQUENCE (w.sequence (Some said)) ≡ false
-  pub plan : n.steps ≡ record (plan_by block (w.body (Some said))) { due = Some call }
+  pub plan : n.steps ≡ record (plan_by cluster_version block (w.body (Some said))) { due = Some call }
 
 -- what the disk that is visited has answered
 abbrev pub IsAt : {A : Type 0} → Duty A → Stage → Round → List (Heard A) → Type 0

@@ -1,5 +1,6 @@
 // What a round of the disks keeps of what it has heard, and how each answer changes it.
 ghost use Rattle.std.specs.Prelude.{◌≡◌, ◌<◌, ◌≤◌, ◌+◌, ◌*◌, ◌^◌, cond};
+ghost use Rattle.torn_block.specs.Layout.{cluster_version};
 ghost use Rattle.torn_block.specs.declared.layout.TheConstants.{DISKS, BLOCK_LENGTH, ROW_LENGTH, COPY_LENGTH};
 ghost use Rattle.torn_block.specs.Plan.{body_in};
 ghost use Rattle.phases.specs.Calls.{IsWithin, call_of_need, device_call_of};
@@ -65,8 +66,8 @@ impl Round {
         requires sound { IsSound self.now }
         requires inside { place + BLOCK_LENGTH ≤ reads + ROW_LENGTH }
         requires fits { reads + ROW_LENGTH < 2 ^ 64 }
-        ensures due { call_of_need result ≡ call_due reads place self.now }
-        ensures range { IsWithin (reads + ROW_LENGTH) result.call }
+        ensures due { call_of_need cluster_version result ≡ call_due reads place self.now }
+        ensures range { IsWithin cluster_version (reads + ROW_LENGTH) result.call }
         ensures disk { result.disk < self.now.disks }
     {
         let boot = self.boot;
@@ -86,9 +87,9 @@ impl Round {
     fn write_call(&self, place: u64) -> DeviceCall<'_>
         requires sound { IsSound self.now }
         requires fits { place + BLOCK_LENGTH < 2 ^ 64 }
-        ensures due { device_call_of result ≡
+        ensures due { device_call_of cluster_version result ≡
             write_due place self.now.boot.number self.now.steps self.now.steps.due }
-        ensures range { IsWithin (place + BLOCK_LENGTH) result }
+        ensures range { IsWithin cluster_version (place + BLOCK_LENGTH) result }
     {
         let boot = self.boot;
         match self.steps.next() {
@@ -141,7 +142,7 @@ impl Round {
         requires { IsSound self.old }
         ensures sound { IsSound self.new }
         ensures disks { self.new.disks ≡ self.old.disks }
-        ensures step { self.new ≡ begins self.old block.now (body_in body.now) }
+        ensures step { self.new ≡ begins self.old block.now (body_in cluster_version body.now) }
     {
         match WriteSteps::new::<ClusterLayout>(block, body) {
             Ok(steps) => {

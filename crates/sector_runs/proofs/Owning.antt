@@ -31,20 +31,20 @@ use Rattle.sector_runs.specs.Owning.{host_of, IsOwn, IsOwnEntry, AllOwn, HostsWr
 
 -- ONE CALL
 
-module _ (place h : ℕ) (spot : Spot) (is : place ≡ place_of spot) (own : host_of spot ≡ h) (below : h < HOSTS) where
+module _ (place h : ℕ) (spot : Spot) (is : place ≡ place_of cluster_version spot) (own : host_of spot ≡ h) (below : h < HOSTS) where
   -- a call of the write of a block begins within it
   puts_own : (block body : List ℕ) (boot : ℕ) (call : WriteCall) → IsOwn h (call_of call (record { version = cluster_version; place = place; block = block; body = body }) boot)
   puts_own block body boot CloseGate =
-      let fits = offset_fits cluster_version (target_of block) in
-      record { spot = spot; own = own; below = below; offset = offset_of (target_of block); here = ap (λ (p : ℕ). p + offset_of (target_of block)) is; begins = omega (arith, fits) }
+      let fits = offset_fits cluster_version (target_of cluster_version block) in
+      record { spot = spot; own = own; below = below; offset = offset_of cluster_version (target_of cluster_version block); here = ap (λ (p : ℕ). p + offset_of cluster_version (target_of cluster_version block)) is; begins = omega (arith, fits) }
   puts_own block body boot SyncClosed = tt
   puts_own block body boot PutBody =
-      let fits = offset_fits cluster_version (target_of block) in
-      record { spot = spot; own = own; below = below; offset = offset_of (target_of block) + 1; here = omega (arith, is); begins = omega (arith, fits) }
+      let fits = offset_fits cluster_version (target_of cluster_version block) in
+      record { spot = spot; own = own; below = below; offset = offset_of cluster_version (target_of cluster_version block) + 1; here = omega (arith, is); begins = omega (arith, fits) }
   puts_own block body boot SyncBody = tt
   puts_own block body boot OpenGate =
-      let fits = offset_fits cluster_version (target_of block) in
-      record { spot = spot; own = own; below = below; offset = offset_of (target_of block); here = ap (λ (p : ℕ). p + offset_of (target_of block)) is; begins = omega (arith, fits) }
+      let fits = offset_fits cluster_version (target_of cluster_version block) in
+      record { spot = spot; own = own; below = below; offset = offset_of cluster_version (target_of cluster_version block); here = ap (λ (p : ℕ). p + offset_of cluster_version (target_of cluster_version block)) is; begins = omega (arith, fits) }
   puts_own block body boot SyncOpened = tt
 
 same_call : (h d k : ℕ) (call due : Call) → ◌≡◌ {A = Option (ℕ × Call)} (Some (d, call)) (Some (k, due)) → IsOwn h call → IsOwn h due
@@ -101,7 +101,7 @@ module _ (h : ℕ) (below : h < HOSTS) (k : ℕ) (call : Call) where
   beat_in s f (beat.Due d) is due = beat_by s (f d) d (slice_get seventeen (length (f d))) is due
   beat_in s f (beat.Ended end) is due = absurd (cc)
 
-  look_kind : (s : look.Setup) (a : List Heard) (b : Bool) → IsOwn h (if b then Attach else Read (boot_of a) (row_place s.slot) ROW_LENGTH)
+  look_kind : (s : look.Setup) (a : List Heard) (b : Bool) → IsOwn h (if b then Attach else Read (boot_of a) (row_place cluster_version s.slot) ROW_LENGTH)
   look_kind s a true = tt
   look_kind s a false = tt
 

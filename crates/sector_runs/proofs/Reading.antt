@@ -2,7 +2,7 @@
 use Rattle.std.specs.Prelude.{◌≡◌, ◌+◌, ◌<◌, ℕ, List, length, slice_range}
 use Rattle.std.proofs.Common.{sym, ◌∙◌, ap, arith}
 use Rattle.disk.specs.Disk.{DiskState}
-use Rattle.torn_block.specs.Layout.{cluster_version}
+use Rattle.torn_block.specs.Layout.{cluster_version, area_place}
 use Rattle.paxos_block.specs.Places as images
 use Rattle.paxos_block.specs.Places.{Spot, BeatOf, VoteOf}
 use Rattle.paxos_block.proofs.PlaceLemmas as places
@@ -25,8 +25,8 @@ module _ (geometry : Geometry) (is : IsGeometry geometry) (device : Device) (dis
   row_is BeatsRow is_row has =
       record {
         as_long =
-            ap (λ (l : List ℕ). length l) (part_is images.area_place 4096 disk.bytes)
-            ∙ length-part images.area_place 4096 disk.bytes (omega (arith, shows.shape.1));
+            ap (λ (l : List ℕ). length l) (part_is (area_place cluster_version) 4096 disk.bytes)
+            ∙ length-part (area_place cluster_version) 4096 disk.bytes (omega (arith, shows.shape.1));
         blocks =
             λ host below.
             places.block_of-area_of cluster_version host disk.bytes (omega (arith, below, is.hosts.1))
@@ -40,8 +40,8 @@ module _ (geometry : Geometry) (is : IsGeometry geometry) (device : Device) (dis
   row_is (SlotRow slot) is_row has =
       record {
         as_long =
-            ap (λ (l : List ℕ). length l) (part_is (images.row_place slot) 4096 disk.bytes)
-            ∙ length-part (images.row_place slot) 4096 disk.bytes (omega (arith, shows.shape.1, is_row));
+            ap (λ (l : List ℕ). length l) (part_is (images.row_place cluster_version slot) 4096 disk.bytes)
+            ∙ length-part (images.row_place cluster_version slot) 4096 disk.bytes (omega (arith, shows.shape.1, is_row));
         blocks =
             λ host below.
             places.block_of-row_of cluster_version slot host disk.bytes (omega (arith, below, is.hosts.1))

@@ -32,12 +32,13 @@ number_at : Geometry → ℕ → ℕ
 number_at geometry p = geometry.hosts * (p / 4096 - 1) + p % 4096 / 256
 
 -- a byte of a block that an image has
-spot_host : (slots : ℕ) (spot : Spot) (o : ℕ) → images.IsSpot slots spot → o < 256 → 4096 ≤ images.place_of spot + o
+spot_host : (slots : ℕ) (spot : Spot) (o : ℕ) → images.IsSpot cluster_version slots spot → o < 256 → 4096 ≤ images.place_of cluster_version spot + o
 spot_host slots (BeatOf h) o is below = omega arith
 spot_host slots (VoteOf slot h) o is below = omega arith
 
 -- it is in a sector that the device has, or in none
-has_host : (geometry : Geometry) (spot : Spot) (o : ℕ) → images.IsSpot geometry.slots spot → o < 256 → host_at (images.place_of spot + o) < geometry.hosts → IsSpot geometry spot
+has_host : (geometry : Geometry) (spot : Spot) (o : ℕ) → images.IsSpot cluster_version geometry.slots spot → o < 256 → host_at (images.place_of cluster_version spot + o) < geometry.hosts
+    → IsSpot geometry spot
 unfolding host_at
 has_host g (BeatOf h) o is below few = omega (arith, few, is, below)
 has_host g (VoteOf slot h) o is below few = (is.0, let short = is.1 in omega (arith, few, short, below))
@@ -48,11 +49,11 @@ record IsAt (geometry : Geometry) (p : ℕ) (spot : Spot) (o : ℕ) : Type 0 whe
   number : number_at geometry p ≡ sector_of geometry spot
   offset : p % 256 ≡ o
 
-is_at : (geometry : Geometry) → IsGeometry geometry → (spot : Spot) (o : ℕ) → IsSpot geometry spot → o < 256 → IsAt geometry (images.place_of spot + o) spot o
+is_at : (geometry : Geometry) → IsGeometry geometry → (spot : Spot) (o : ℕ) → IsSpot geometry spot → o < 256 → IsAt geometry (images.place_of cluster_version spot + o) spot o
 unfolding host_at number_at
 is_at g is (BeatOf h) o spot below =
     let few = is.hosts.1 in
-    let p = images.place_of (BeatOf h) + o in
+    let p = images.place_of cluster_version (BeatOf h) + o in
     let row : p / 4096 - 1 ≡ 0 = omega (arith, spot, few, below) in
     record {
       host = omega (arith, spot, few, below);
@@ -62,7 +63,7 @@ is_at g is (BeatOf h) o spot below =
 is_at g is (VoteOf slot h) o spot below =
     let few = is.hosts.1 in
     let own = spot.1 in
-    let p = images.place_of (VoteOf slot h) + o in
+    let p = images.place_of cluster_version (VoteOf slot h) + o in
     let row : p / 4096 - 1 ≡ slot + 1 = omega (arith, own, few, below) in
     let place : p % 4096 / 256 ≡ h = omega (arith, own, few, below) in
     record {
@@ -77,9 +78,9 @@ record InSome (geometry : Geometry) (p : ℕ) : Type 0 where
   o : ℕ
   is_spot : IsSpot geometry spot
   below : o < 256
-  here : p ≡ images.place_of spot + o
+  here : p ≡ images.place_of cluster_version spot + o
 
-in_some : (geometry : Geometry) (p : ℕ) → 4096 ≤ p → p < images.image_length geometry.slots → host_at p < geometry.hosts → InSome geometry p
+in_some : (geometry : Geometry) (p : ℕ) → 4096 ≤ p → p < images.image_length cluster_version geometry.slots → host_at p < geometry.hosts → InSome geometry p
 unfolding host_at
 in_some g p behind inside few =
     elim (cases_eq (p / 4096) 1) [
@@ -126,14 +127,14 @@ module _ (geometry : Geometry) (is : IsGeometry geometry) (disk : DiskState) (ol
   stayed p (inr high) (inl below) none = absurd (omega (arith, none, below))
   stayed p (inr high) (inr more) none = refl
 
-  in_image : (spot : Spot) (o : ℕ) → images.IsSpot geometry.slots spot → o < 256 → images.place_of spot + o < length disk.bytes
+  in_image : (spot : Spot) (o : ℕ) → images.IsSpot cluster_version geometry.slots spot → o < 256 → images.place_of cluster_version spot + o < length disk.bytes
   in_image spot o is_spot below = omega (arith, shows.shape.1, places.spot_fits cluster_version geometry.slots spot is_spot, below)
 
   -- each block is that of its sector
-  left_in : (spot : Spot) (o : ℕ) → IsSpot geometry spot → o < 256 → get_or left (images.place_of spot + o) 0 ≡ get_or (new.now (sector_of geometry spot)) o 0
+  left_in : (spot : Spot) (o : ℕ) → IsSpot geometry spot → o < 256 → get_or left (images.place_of cluster_version spot + o) 0 ≡ get_or (new.now (sector_of geometry spot)) o 0
   unfolding byte_at
   left_in spot o is_spot below =
-      let p = images.place_of spot + o in
+      let p = images.place_of cluster_version spot + o in
       let there = image_spot geometry is spot is_spot in
       let where_it_is = is_at geometry is spot o is_spot below in
       left_at p (in_image spot o there below)
@@ -146,13 +147,13 @@ module _ (geometry : Geometry) (is : IsGeometry geometry) (disk : DiskState) (ol
       let at_least = long_sector geometry.sector_size is.sector_size in
       length-take-le 256 (new.now s) (omega (arith, size_of, at_least))
 
-  long_in : (spot : Spot) → images.IsSpot geometry.slots spot → images.place_of spot + 256 ≤ length left
+  long_in : (spot : Spot) → images.IsSpot cluster_version geometry.slots spot → images.place_of cluster_version spot + 256 ≤ length left
   long_in spot is_spot = omega (arith, size, shows.shape.1, places.spot_fits cluster_version geometry.slots spot is_spot)
 
-  blocks : (spot : Spot) → IsSpot geometry spot → at.block_in (images.place_of spot) left ≡ block_of (new.now (sector_of geometry spot))
+  blocks : (spot : Spot) → IsSpot geometry spot → at.block_in cluster_version (images.place_of cluster_version spot) left ≡ block_of (new.now (sector_of geometry spot))
   blocks spot is_spot =
       let s = sector_of geometry spot in
-      let q = images.place_of spot in
+      let q = images.place_of cluster_version spot in
       let there = image_spot geometry is spot is_spot in
       let part_long = length-part q 256 left (long_in spot there) in
       part_is q 256 left
@@ -161,10 +162,10 @@ module _ (geometry : Geometry) (is : IsGeometry geometry) (disk : DiskState) (ol
       get_or-part q 256 left k below ∙ left_in spot k is_spot below ∙ sym (get_or-take 256 (new.now s) k 0 below))
 
   -- a block of no host is as it was
-  others : (spot : Spot) → images.IsSpot geometry.slots spot → ¬ IsSpot geometry spot → at.block_in (images.place_of spot) left ≡ at.block_in (images.place_of spot) disk.bytes
+  others : (spot : Spot) → images.IsSpot cluster_version geometry.slots spot → ¬ IsSpot geometry spot → at.block_in cluster_version (images.place_of cluster_version spot) left ≡ at.block_in cluster_version (images.place_of cluster_version spot) disk.bytes
   unfolding byte_at
   others spot is_spot none =
-      let q = images.place_of spot in
+      let q = images.place_of cluster_version spot in
       let fits_left = long_in spot is_spot in
       let fits : q + 256 ≤ length disk.bytes = omega (arith, fits_left, size) in
       let part_long = length-part q 256 left fits_left in
@@ -183,14 +184,14 @@ module _ (geometry : Geometry) (is : IsGeometry geometry) (disk : DiskState) (ol
 
   -- WHAT STAYS
 
-  was_in : (spot : Spot) (o : ℕ) → IsSpot geometry spot → o < 256 → get_or (old.now (sector_of geometry spot)) o 0 ≡ get_or disk.bytes (images.place_of spot + o) 0
+  was_in : (spot : Spot) (o : ℕ) → IsSpot geometry spot → o < 256 → get_or (old.now (sector_of geometry spot)) o 0 ≡ get_or disk.bytes (images.place_of cluster_version spot + o) 0
   was_in spot o is_spot below =
-      let q = images.place_of spot in
+      let q = images.place_of cluster_version spot in
       sym (get_or-take 256 (old.now (sector_of geometry spot)) o 0 below)
       ∙ ap (λ (l : List ℕ). get_or l o 0) (sym (shows.blocks spot is_spot) ∙ part_is q 256 disk.bytes)
       ∙ get_or-part q 256 disk.bytes o below
 
-  synced_in : (spot : Spot) (o : ℕ) → IsSpot geometry spot → o < 256 → get_or disk.unsynced (images.place_of spot + o) false ≡ false → get_or (new.now (sector_of geometry spot)) o 0 ≡ get_or (old.now (sector_of geometry spot)) o 0
+  synced_in : (spot : Spot) (o : ℕ) → IsSpot geometry spot → o < 256 → get_or disk.unsynced (images.place_of cluster_version spot + o) false ≡ false → get_or (new.now (sector_of geometry spot)) o 0 ≡ get_or (old.now (sector_of geometry spot)) o 0
   synced_in spot o is_spot below is_synced =
       elim (restarts.kept (sector_of geometry spot)) [
         | inl same ↦ ap (λ (l : List ℕ). get_or l o 0) same

@@ -3,6 +3,7 @@ use Rattle.std.specs.Prelude.{◌≡◌, ◌≢◌, ◌==◌, ◌+◌, ◌*◌, 
 use Rattle.std.proofs.Common.{refl, sym, ◌∙◌, ap, arith, inl, inr}
 use Rattle.std.proofs.lemmas.Bool.{cases_order, eqb-true}
 use Rattle.std.proofs.lemmas.Bool.Decides.{nat_tests}
+use Rattle.torn_block.specs.Layout.{cluster_version}
 use Rattle.paxos_block.specs.Places.{Spot, BeatOf, VoteOf, place_of}
 use Rattle.sectors.specs.declared.geometry.Geometry.{Geometry}
 use Rattle.sectors.specs.Moments.{Sectors, Touch, Sees, Puts, Tries, Keeps, changed}
@@ -78,7 +79,7 @@ hosts_apart geometry a b is_a is_b differ = sectors_apart geometry a b is_a is_b
 pub own_block : (geometry : Geometry) → IsGeometry geometry → (a : Spot) (offset at long h : ℕ) → IsSpot geometry a → IsWithin a offset at long → IsOfHost h at → host_of a ≡ h
 own_block geometry is a offset at long h is_a within own = by a own.spot is_a within.here within.begins own.here own.begins own.below own.own
   where
-    by : (a b : Spot) → IsSpot geometry a → at ≡ place_of a + offset → offset < 256 → at ≡ place_of b + own.offset → own.offset < 256 → h < 16 → host_of b ≡ h → host_of a ≡ h
+    by : (a b : Spot) → IsSpot geometry a → at ≡ place_of cluster_version a + offset → offset < 256 → at ≡ place_of cluster_version b + own.offset → own.offset < 256 → h < 16 → host_of b ≡ h → host_of a ≡ h
     by (BeatOf g) (BeatOf k) is_a here begins there begin below same = (let few = is.hosts.1 in omega (arith, is_a, few, here, begins, there, begin, below, same))
     by (BeatOf g) (VoteOf t k) is_a here begins there begin below same = (let few = is.hosts.1 in absurd (omega (arith, is_a, few, here, begins, there, begin, below, same)))
     by (VoteOf s g) (BeatOf k) is_a here begins there begin below same = (let few = is.hosts.1 in absurd (omega (arith, is_a, few, here, begins, there, begin, below, same)))

@@ -8,7 +8,7 @@ use Rattle.disk.specs.Simulated.{fresh_disk}
 use Rattle.disk.proofs.StepLemmas.{shape_fresh}
 use Rattle.torn_block.specs.Layout.{cluster_version}
 use Rattle.torn_block.specs.Place as at
-use Rattle.paxos_block.specs.layouts.Saying.{zeros}
+use Rattle.paxos_block.specs.Saying.{zeros}
 use Rattle.paxos_block.specs.Places as images
 use Rattle.paxos_block.specs.Places.{Spot, BeatOf, VoteOf}
 use Rattle.paxos_block.proofs.PlaceLemmas as places
@@ -57,7 +57,7 @@ module _ (geometry : Geometry) (old new : Device) (disk : DiskState) (spot : Spo
   abbrev s : ℕ
   s = sector_of geometry spot
 
-  abbrev to_put : IsToPut geometry (host_of spot) (Reads s (old.now s) ∷ []) (images.place_of spot + offset) from s (sector_put geometry old spot offset from)
+  abbrev to_put : IsToPut geometry (host_of spot) (Reads s (old.now s) ∷ []) (images.place_of cluster_version spot + offset) from s (sector_put geometry old spot offset from)
   to_put =
       record {
         block = record { spot = spot; offset = offset; is_spot = may.is_spot; within = record { here = refl; begins = may.begins; ends = may.ends } };
@@ -69,13 +69,13 @@ module _ (geometry : Geometry) (old new : Device) (disk : DiskState) (spot : Spo
       }
 
   abbrev put_it : IsPut geometry (host_of spot) (Reads s (old.now s) ∷ []) s (sector_put geometry old spot offset from)
-  put_it = record { at = images.place_of spot + offset; from = from; put = to_put; own = refl }
+  put_it = record { at = images.place_of cluster_version spot + offset; from = from; put = to_put; own = refl }
 
-  one_put : GoesBy (Some (Puts s (sector_put geometry old spot offset from))) old new → ShowsDisk geometry new (written disk (images.place_of spot + offset) from)
+  one_put : GoesBy (Some (Puts s (sector_put geometry old spot offset from))) old new → ShowsDisk geometry new (written disk (images.place_of cluster_version spot + offset) from)
   one_put goes =
       puts geometry is (host_of spot) (Reads s (old.now s) ∷ []) old new disk (known_now geometry old disk s shows) shows s (sector_put geometry old spot offset from) put_it goes
 
-  one_try : GoesBy (Some (Tries s (sector_put geometry old spot offset from))) old new → (left : DiskState) × Torn (images.place_of spot + offset) (length from) disk left × ShowsDisk geometry new left
+  one_try : GoesBy (Some (Tries s (sector_put geometry old spot offset from))) old new → (left : DiskState) × Torn (images.place_of cluster_version spot + offset) (length from) disk left × ShowsDisk geometry new left
   one_try goes =
       let n = tries geometry is (host_of spot) (Reads s (old.now s) ∷ []) old new disk (known_now geometry old disk s shows) shows s (sector_put geometry old spot offset from) put_it goes in
       (n.disk, n.to, n.shows)
@@ -105,7 +105,7 @@ sectors_serve c k geometry device disk calls is shows own serves = serves_on c k
 
 -- A DEVICE OF ZEROS
 
-zero_block : (n place : ℕ) → place + 256 ≤ n → at.block_in place (replicate n 0) ≡ zeros 256
+zero_block : (n place : ℕ) → place + 256 ≤ n → at.block_in cluster_version place (replicate n 0) ≡ zeros 256
 unfolding zeros
 zero_block n place fits =
     let size = length-replicate {A = ℕ} n 0 in
@@ -120,16 +120,16 @@ zero_block n place fits =
 pub blank_devices_show : BlankDevicesShow
 unfolding fresh_disk
 blank_devices_show geometry device is blank =
-    let n = images.image_length geometry.slots in
+    let n = images.image_length cluster_version geometry.slots in
     let none : (s : ℕ) (had : List ℕ) → Contains (device.since s) had → ⊥ = (λ s had in_it. none_in had (subst (λ (f : ℕ → List (List ℕ)). Contains (f s) had) blank.synced in_it)) in (
       record {
         shape = shape_fresh n;
         sized = (blank.sized, λ s had in_it. absurd (none s had in_it));
         blocks =
             λ spot is_spot.
-            zero_block n (images.place_of spot) (places.spot_fits cluster_version geometry.slots spot (image_spot geometry is spot is_spot))
+            zero_block n (images.place_of cluster_version spot) (places.spot_fits cluster_version geometry.slots spot (image_spot geometry is spot is_spot))
             ∙ sym (blank.zero (sector_of geometry spot));
-        others = λ spot is_spot none_there. zero_block n (images.place_of spot) (places.spot_fits cluster_version geometry.slots spot is_spot);
+        others = λ spot is_spot none_there. zero_block n (images.place_of cluster_version spot) (places.spot_fits cluster_version geometry.slots spot is_spot);
         synced = λ spot o had is_spot below is_synced in_it. absurd (none (sector_of geometry spot) had in_it);
         boot = refl;
         gone = sym blank.there;

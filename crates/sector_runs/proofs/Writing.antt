@@ -39,7 +39,7 @@ module _ (geometry : Geometry) (is : IsGeometry geometry) (disk : DiskState) (ol
   s = sector_of geometry spot
 
   abbrev q : ℕ
-  q = images.place_of spot
+  q = images.place_of cluster_version spot
 
   abbrev flags : List Bool
   flags = replicate (length some) true
@@ -57,7 +57,7 @@ module _ (geometry : Geometry) (is : IsGeometry geometry) (disk : DiskState) (ol
   flag_room = omega (arith, room, many, shows.shape.0)
 
   -- the block that is written
-  mine : at.block_in q (put_at disk.bytes (q + offset) some) ≡ block_of (new.now s)
+  mine : at.block_in cluster_version q (put_at disk.bytes (q + offset) some) ≡ block_of (new.now s)
   mine =
       part_is q 256 (put_at disk.bytes (q + offset) some)
       ∙ part_around disk.bytes some q 256 offset in_image within
@@ -65,24 +65,24 @@ module _ (geometry : Geometry) (is : IsGeometry geometry) (disk : DiskState) (ol
       ∙ sym writes.here
 
   -- two blocks of an image have no byte in common
-  apart : (other : Spot) → images.IsSpot geometry.slots other → spot ≢ other → (q + 256 ≤ images.place_of other) ⊎ (images.place_of other + 256 ≤ q)
+  apart : (other : Spot) → images.IsSpot cluster_version geometry.slots other → spot ≢ other → (q + 256 ≤ images.place_of cluster_version other) ⊎ (images.place_of cluster_version other + 256 ≤ q)
   apart other is_other differ = places.spots_apart cluster_version geometry.slots spot other (image_spot geometry is spot is_spot) is_other differ
 
   -- another block
-  kept : (other : Spot) → images.IsSpot geometry.slots other → spot ≢ other → at.block_in (images.place_of other) (put_at disk.bytes (q + offset) some) ≡ at.block_in (images.place_of other) disk.bytes
+  kept : (other : Spot) → images.IsSpot cluster_version geometry.slots other → spot ≢ other → at.block_in cluster_version (images.place_of cluster_version other) (put_at disk.bytes (q + offset) some) ≡ at.block_in cluster_version (images.place_of cluster_version other) disk.bytes
   kept other is_other differ =
-      part_is (images.place_of other) 256 (put_at disk.bytes (q + offset) some)
-      ∙ part_elsewhere disk.bytes some (q + offset) room (images.place_of other) 256 (omega (arith, shows.shape.1, places.spot_fits cluster_version geometry.slots other is_other))
+      part_is (images.place_of cluster_version other) 256 (put_at disk.bytes (q + offset) some)
+      ∙ part_elsewhere disk.bytes some (q + offset) room (images.place_of cluster_version other) 256 (omega (arith, shows.shape.1, places.spot_fits cluster_version geometry.slots other is_other))
       (elim (apart other is_other differ) [
         | inl before ↦ inl (omega (arith, before, within))
         | inr behind ↦ inr (omega (arith, behind))
       ])
-      ∙ sym (part_is (images.place_of other) 256 disk.bytes)
+      ∙ sym (part_is (images.place_of cluster_version other) 256 disk.bytes)
 
-  blocks : (other : Spot) → IsSpot geometry other → at.block_in (images.place_of other) (put_at disk.bytes (q + offset) some) ≡ block_of (new.now (sector_of geometry other))
+  blocks : (other : Spot) → IsSpot geometry other → at.block_in cluster_version (images.place_of cluster_version other) (put_at disk.bytes (q + offset) some) ≡ block_of (new.now (sector_of geometry other))
   blocks other is_other =
       elim (same_or_not spot other) [
-        | inl same ↦ subst (λ (x : Spot). at.block_in (images.place_of x) (put_at disk.bytes (q + offset) some) ≡ block_of (new.now (sector_of geometry x))) same mine
+        | inl same ↦ subst (λ (x : Spot). at.block_in cluster_version (images.place_of cluster_version x) (put_at disk.bytes (q + offset) some) ≡ block_of (new.now (sector_of geometry x))) same mine
         | inr differ ↦
             kept other (image_spot geometry is other is_other) differ
             ∙ shows.blocks other is_other
@@ -147,27 +147,27 @@ module _ (geometry : Geometry) (is : IsGeometry geometry) (disk : DiskState) (ol
       ]
       ∙ sym (as_before o below where_it_is)
 
-  elsewhere : (other : Spot) (o : ℕ) → images.IsSpot geometry.slots other → spot ≢ other → o < 256 → (images.place_of other + o < q + offset) ⊎ (q + offset + length some ≤ images.place_of other + o)
+  elsewhere : (other : Spot) (o : ℕ) → images.IsSpot cluster_version geometry.slots other → spot ≢ other → o < 256 → (images.place_of cluster_version other + o < q + offset) ⊎ (q + offset + length some ≤ images.place_of cluster_version other + o)
   elsewhere other o is_other differ below =
       elim (apart other is_other differ) [
         | inl before ↦ inr (omega (arith, before, within))
         | inr behind ↦ inl (omega (arith, behind, below))
       ]
 
-  synced_there : (other : Spot) (o : ℕ) (had : List ℕ) → IsSpot geometry other → spot ≢ other → o < 256 → get_or new_flags (images.place_of other + o) false ≡ false → Contains (new.since (sector_of geometry other)) had →
+  synced_there : (other : Spot) (o : ℕ) (had : List ℕ) → IsSpot geometry other → spot ≢ other → o < 256 → get_or new_flags (images.place_of cluster_version other + o) false ≡ false → Contains (new.since (sector_of geometry other)) had →
       get_or had o 0 ≡ get_or (new.now (sector_of geometry other)) o 0
   synced_there other o had is_other differ below is_synced in_it =
       let t = sector_of geometry other in
       let off = sectors_apart geometry spot other is_spot is_other differ in
       shows.synced other o had is_other below
-      (sym (flag_kept (images.place_of other + o) (elsewhere other o (image_spot geometry is other is_other) differ below)) ∙ is_synced)
+      (sym (flag_kept (images.place_of cluster_version other + o) (elsewhere other o (image_spot geometry is other is_other) differ below)) ∙ is_synced)
       (subst (λ (l : List (List ℕ)). Contains l had) (writes.had_there t off) in_it)
       ∙ ap (λ (l : List ℕ). get_or l o 0) (sym (writes.there t off))
 
   pub shows_written : ShowsDisk geometry new (written disk (q + offset) some)
   shows_written =
       record {
-        shape = shape_written (images.image_length geometry.slots) disk (q + offset) some room shows.shape;
+        shape = shape_written (images.image_length cluster_version geometry.slots) disk (q + offset) some room shows.shape;
         sized = sized;
         blocks = blocks;
         others =
@@ -184,6 +184,6 @@ module _ (geometry : Geometry) (is : IsGeometry geometry) (disk : DiskState) (ol
         gone = shows.gone ∙ sym writes.gone;
       }
     where
-      synced_at : {other : Spot} → spot ≡ other → (o : ℕ) (had : List ℕ) → o < 256 → get_or new_flags (images.place_of other + o) false ≡ false → Contains (new.since (sector_of geometry other)) had → get_or had o 0 ≡ get_or (new.now (sector_of geometry other)) o 0
+      synced_at : {other : Spot} → spot ≡ other → (o : ℕ) (had : List ℕ) → o < 256 → get_or new_flags (images.place_of cluster_version other + o) false ≡ false → Contains (new.since (sector_of geometry other)) had → get_or had o 0 ≡ get_or (new.now (sector_of geometry other)) o 0
       synced_at {other} same o had =
-          subst (λ (x : Spot). o < 256 → get_or new_flags (images.place_of x + o) false ≡ false → Contains (new.since (sector_of geometry x)) had → get_or had o 0 ≡ get_or (new.now (sector_of geometry x)) o 0) same (synced_here o had)
+          subst (λ (x : Spot). o < 256 → get_or new_flags (images.place_of cluster_version x + o) false ≡ false → Contains (new.since (sector_of geometry x)) had → get_or had o 0 ≡ get_or (new.now (sector_of geometry x)) o 0) same (synced_here o had)

@@ -1,6 +1,7 @@
 -- Whose blocks a host writes.
 use Rattle.std.specs.Prelude.{◌≡◌, ◌+◌, ◌<◌, ℕ, List, [], ◌∷◌}
 use Rattle.disk.specs.Disk.{Call, Attach, Read, Write, Sync}
+use Rattle.torn_block.specs.Layout.{cluster_version}
 use Rattle.torn_block.specs.declared.layout.TheConstants.{HOSTS, BLOCK_LENGTH}
 use Rattle.paxos_block.specs.Places.{Spot, BeatOf, VoteOf, place_of}
 use Rattle.slot_log.specs.Shape.{Shape}
@@ -19,7 +20,7 @@ pub record IsOfHost (h at : ℕ) : Type 0 where
   pub own : host_of spot ≡ h
   pub below : h < HOSTS
   pub offset : ℕ
-  pub here : at ≡ place_of spot + offset
+  pub here : at ≡ place_of cluster_version spot + offset
   pub begins : offset < BLOCK_LENGTH
 
 -- a call of host h writes a block of its own, or nothing

@@ -2,9 +2,10 @@
 use Rattle.std.specs.Prelude.{◌≡◌, ◌+◌, ◌<◌, ℕ, false, List, Contains, length, slice_index, slice_index_or}
 use Rattle.disk.specs.Disk.{DiskState}
 use Rattle.disk.specs.Steps.{HasShape}
+use Rattle.torn_block.specs.Layout.{cluster_version}
 use Rattle.torn_block.specs.declared.layout.TheConstants.{BLOCK_LENGTH}
 use Rattle.torn_block.specs.Place.{block_in}
-use Rattle.paxos_block.specs.layouts.Saying.{zeros}
+use Rattle.paxos_block.specs.Saying.{zeros}
 use Rattle.paxos_block.specs.Places as images
 use Rattle.paxos_block.specs.Places.{Spot}
 use Rattle.sectors.specs.declared.geometry.Geometry.{Geometry}
@@ -20,11 +21,14 @@ IsSized geometry device =
 -- The disk has in each block what its sector has, and zeros for hosts that there are not. What is synced of a block is the same in all
 -- that its sector has had since the last sync.
 pub record ShowsDisk (geometry : Geometry) (device : Device) (disk : DiskState) : Type 0 where
-  pub shape : HasShape (images.image_length geometry.slots) disk
+  pub shape : HasShape (images.image_length cluster_version geometry.slots) disk
   pub sized : IsSized geometry device
-  pub blocks : (spot : Spot) → IsSpot geometry spot → block_in (images.place_of spot) disk.bytes ≡ block_of (device.now (sector_of geometry spot))
-  pub others : (spot : Spot) → images.IsSpot geometry.slots spot → ¬ IsSpot geometry spot → block_in (images.place_of spot) disk.bytes ≡ zeros BLOCK_LENGTH
-  pub synced : (spot : Spot) (o : ℕ) (had : List ℕ) → IsSpot geometry spot → o < BLOCK_LENGTH → slice_index_or disk.unsynced (images.place_of spot + o) false ≡ false →
+  pub blocks : (spot : Spot) → IsSpot geometry spot →
+      block_in cluster_version (images.place_of cluster_version spot) disk.bytes ≡ block_of (device.now (sector_of geometry spot))
+  pub others : (spot : Spot) → images.IsSpot cluster_version geometry.slots spot → ¬ IsSpot geometry spot →
+      block_in cluster_version (images.place_of cluster_version spot) disk.bytes ≡ zeros BLOCK_LENGTH
+  pub synced : (spot : Spot) (o : ℕ) (had : List ℕ) → IsSpot geometry spot → o < BLOCK_LENGTH →
+      slice_index_or disk.unsynced (images.place_of cluster_version spot + o) false ≡ false →
       Contains (device.since (sector_of geometry spot)) had → slice_index had o ≡ slice_index (device.now (sector_of geometry spot)) o
   pub boot : disk.boot ≡ 1
   pub gone : disk.gone ≡ device.gone

@@ -2,8 +2,9 @@
 use Rattle.std.specs.Prelude.{◌≡◌, ◌+◌, ◌*◌, ◌≤◌, ◌<◌, ◌^◌, ℕ, false, List, [], length, Some, slice_range}
 use Rattle.disk.specs.Disk.{DiskState, Torn, written, synced}
 use Rattle.disk.specs.Simulated.{fresh_disk}
+use Rattle.torn_block.specs.Layout.{cluster_version}
 use Rattle.torn_block.specs.declared.layout.TheConstants.{BLOCK_LENGTH, ROW_LENGTH}
-use Rattle.paxos_block.specs.layouts.Saying.{zeros}
+use Rattle.paxos_block.specs.Saying.{zeros}
 use Rattle.paxos_block.specs.Places as images
 use Rattle.paxos_block.specs.Places.{Spot}
 use Rattle.slot_log.specs.Shape.{Shape}
@@ -45,13 +46,15 @@ sector_put geometry old spot offset from = sector_with offset from (old.now (sec
 abbrev pub PutsAreWrites : Type 0
 PutsAreWrites =
     (geometry : Geometry) (old new : Device) (disk : DiskState) (spot : Spot) (offset : ℕ) (from : List ℕ) → IsGeometry geometry → ShowsDisk geometry old disk → MayWrite geometry old spot offset from →
-    GoesBy (Some (Puts (sector_of geometry spot) (sector_put geometry old spot offset from))) old new → ShowsDisk geometry new (written disk (images.place_of spot + offset) from)
+    GoesBy (Some (Puts (sector_of geometry spot) (sector_put geometry old spot offset from))) old new →
+    ShowsDisk geometry new (written disk (images.place_of cluster_version spot + offset) from)
 
 -- and where that failed or was cut off, a torn one
 abbrev pub TriesAreTorn : Type 0
 TriesAreTorn =
     (geometry : Geometry) (old new : Device) (disk : DiskState) (spot : Spot) (offset : ℕ) (from : List ℕ) → IsGeometry geometry → ShowsDisk geometry old disk → MayWrite geometry old spot offset from →
-    GoesBy (Some (Tries (sector_of geometry spot) (sector_put geometry old spot offset from))) old new → ShowsNext geometry new (Torn (images.place_of spot + offset) (length from) disk)
+    GoesBy (Some (Tries (sector_of geometry spot) (sector_put geometry old spot offset from))) old new →
+    ShowsNext geometry new (Torn (images.place_of cluster_version spot + offset) (length from) disk)
 
 -- a sync is the model's
 abbrev pub KeepsAreSyncs : Type 0
@@ -87,4 +90,5 @@ pub record IsBlank (geometry : Geometry) (device : Device) : Type 0 where
 abbrev pub BlankDevicesShow : Type 0
 BlankDevicesShow =
     (geometry : Geometry) (device : Device) → IsGeometry geometry → IsBlank geometry device →
-    ShowsDisk geometry device (fresh_disk (images.image_length geometry.slots)) × HoldsNothing geometry.slots (fresh_disk (images.image_length geometry.slots))
+    ShowsDisk geometry device (fresh_disk (images.image_length cluster_version geometry.slots)) ×
+    HoldsNothing geometry.slots (fresh_disk (images.image_length cluster_version geometry.slots))

@@ -6,7 +6,7 @@ use Rattle.sectors.specs.declared.fault.DeviceFault.{DeviceFault}
 use Rattle.sectors.specs.declared.fault.DeviceFault.TheVariants.{NotFormatted, WrongVersion, WrongDisk, WrongSlots, WrongSectorSize, WrongParts, WrongHosts, WrongWrites, WrongRest, TooShort}
 use Rattle.sectors.specs.Headers.{IsNamed, Has, IsFirst, rank, header_in}
 use Rattle.sectors.specs.Geometry.{IsSectorSize, IsHostCount, IsSlotCount}
-use Rattle.paxos_block.specs.layouts.Saying.{zeros}
+use Rattle.paxos_block.specs.Saying.{zeros}
 
 abbrev all : List DeviceFault
 all =

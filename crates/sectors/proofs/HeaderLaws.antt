@@ -7,12 +7,12 @@ use Rattle.byteorder.specs.Endian.{big_number}
 use Rattle.byteorder.specs.Numbers.{big_number-reads_back, length-bytes_high_first, big_from-lt}
 use Rattle.torn_block.specs.Layout.{Version, Version1, Version2, number_of}
 use Rattle.torn_block.specs.Numbers.{AreBytes}
-use Rattle.torn_block.specs.layouts.Block.{number_bytes}
+use Rattle.torn_block.specs.Block.{number_bytes}
 use Rattle.torn_block.proofs.NumberLaws.{AreBytes-drop, spelled_8, spelled_4}
 use Rattle.paxos_block.specs.declared.header.Header.{Header}
-use Rattle.paxos_block.specs.layouts.Headers as older
-use Rattle.paxos_block.specs.layouts.Headers.{short_bytes, short_at}
-use Rattle.paxos_block.specs.layouts.Saying.{zeros, number_at, flag_of}
+use Rattle.paxos_block.specs.Headers as older
+use Rattle.paxos_block.specs.Headers.{short_bytes, short_at}
+use Rattle.paxos_block.specs.Saying.{zeros, number_at, flag_of}
 use Rattle.sectors.specs.declared.fault.DeviceFault.{DeviceFault}
 use Rattle.sectors.specs.declared.fault.DeviceFault.TheVariants.{NotFormatted, WrongVersion, WrongDisk, WrongSlots, WrongSectorSize, WrongParts, WrongHosts, WrongWrites, WrongRest, TooShort}
 use Rattle.sectors.specs.declared.header.DeviceHeader.{DeviceHeader}

@@ -5,7 +5,7 @@ use Rattle.std.proofs.lemmas.Bool.{eqb-true}
 use Rattle.byteorder.specs.Endian.{big_number}
 use Rattle.byteorder.specs.Numbers.{big_from-take}
 use Rattle.std.proofs.lemmas.List.{drop-take}
-use Rattle.paxos_block.specs.layouts.Saying.{number_at}
+use Rattle.paxos_block.specs.Saying.{number_at}
 use Rattle.sectors.specs.declared.geometry.Geometry.{Geometry}
 use Rattle.sectors.specs.Moments.{Sectors, Touch, Sees, Puts, Tries, Keeps, Goes, IsStamped, WritesStamped, Raises, Leads, IsSeen}
 use Rattle.sectors.specs.Row.{sector_in, Agree}

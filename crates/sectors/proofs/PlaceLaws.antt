@@ -3,6 +3,7 @@ use Rattle.std.specs.Prelude.{◌≡◌, ◌≢◌, ◌⊎◌, ◌+◌, ◌-◌,
 use Rattle.std.proofs.Common.{◌∙◌, ap, arith, inl, inr}
 use Rattle.std.proofs.lemmas.Bool.{cases_order, cases_eq}
 use Rattle.std.proofs.Math.Nat.{mul_assoc, mul-add}
+use Rattle.torn_block.specs.Layout.{cluster_version}
 use Rattle.paxos_block.specs.Places as images
 use Rattle.paxos_block.specs.Places.{Spot, BeatOf, VoteOf}
 use Rattle.sectors.specs.declared.geometry.Geometry.{Geometry}
@@ -69,7 +70,7 @@ module _ (g : Geometry) where
       )
 
   -- the image has the spot, too
-  pub image_spot : IsGeometry g → (a : Spot) → IsSpot g a → images.IsSpot g.slots a
+  pub image_spot : IsGeometry g → (a : Spot) → IsSpot g a → images.IsSpot cluster_version g.slots a
   image_spot is (BeatOf h) spot = omega (arith, is.hosts.1)
   image_spot is (VoteOf s h) spot = (spot.0, omega (arith, is.hosts.1, spot.1))
 

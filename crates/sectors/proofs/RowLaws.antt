@@ -8,7 +8,7 @@ use Rattle.disk.proofs.CrashLemmas.{put-inside}
 use Rattle.torn_block.specs.Layout.{cluster_version}
 use Rattle.torn_block.specs.Damage as row
 use Rattle.torn_block.specs.Place as at
-use Rattle.paxos_block.specs.layouts.Saying.{zeros}
+use Rattle.paxos_block.specs.Saying.{zeros}
 use Rattle.paxos_block.specs.Places as images
 use Rattle.paxos_block.specs.Places.{Spot, BeatOf, VoteOf}
 use Rattle.paxos_block.proofs.PlaceLemmas as places
@@ -24,11 +24,11 @@ use Rattle.sectors.proofs.SectorLaws.{block_with, length_with}
 
 -- ---- blocks of a row
 
-block_is : (host : ℕ) (bytes : List ℕ) → row.block_of host bytes ≡ part (256 * host) 256 bytes
+block_is : (host : ℕ) (bytes : List ℕ) → row.block_of cluster_version host bytes ≡ part (256 * host) 256 bytes
 block_is host bytes = part_is (256 * host) 256 bytes
 
 -- rows of the same blocks are the same
-same_rows : (a b : List ℕ) → length a ≡ 4096 → length b ≡ 4096 → ((host : ℕ) → host < 16 → row.block_of host a ≡ row.block_of host b) → a ≡ b
+same_rows : (a b : List ℕ) → length a ≡ 4096 → length b ≡ 4096 → ((host : ℕ) → host < 16 → row.block_of cluster_version host a ≡ row.block_of cluster_version host b) → a ≡ b
 same_rows a b long_a long_b same =
     ext_get_or 0 a b (long_a ∙ sym long_b) (λ i inside.
     let host = i / 256 in
@@ -51,25 +51,26 @@ one_row geometry sectors a b is_a is_b =
     ])
 
 -- a block that is put into a row is there, and the others stay
-put_here : (bytes block : List ℕ) (host : ℕ) → length bytes ≡ 4096 → length block ≡ 256 → host < 16 → row.block_of host (put_at bytes (256 * host) block) ≡ block
+put_here : (bytes block : List ℕ) (host : ℕ) → length bytes ≡ 4096 → length block ≡ 256 → host < 16 → row.block_of cluster_version host (put_at bytes (256 * host) block) ≡ block
 put_here bytes block host long size few =
     block_is host (put_at bytes (256 * host) block) ∙ part_there bytes block (256 * host) (omega (arith, long, size)) 256 size
 
-put_there : (bytes block : List ℕ) (host k : ℕ) → length bytes ≡ 4096 → length block ≡ 256 → host < 16 → k < host → row.block_of k (put_at bytes (256 * host) block) ≡ row.block_of k bytes
+put_there : (bytes block : List ℕ) (host k : ℕ) → length bytes ≡ 4096 → length block ≡ 256 → host < 16 → k < host
+    → row.block_of cluster_version k (put_at bytes (256 * host) block) ≡ row.block_of cluster_version k bytes
 put_there bytes block host k long size few below =
     block_is k (put_at bytes (256 * host) block)
     ∙ part_elsewhere bytes block (256 * host) (omega (arith, long, size)) (256 * k) 256 (omega (arith, long)) (inr (omega arith))
     ∙ sym (block_is k bytes)
 
 -- so a loop that puts one block after another leaves those before
-pub put_next : (geometry : Geometry) (sectors bytes block : List ℕ) (host : ℕ) → length bytes ≡ 4096 → length block ≡ 256 → host < 16 → block ≡ block_of (sector_in geometry host sectors) → ((k : ℕ) → k < host → row.block_of k bytes ≡ block_of (sector_in geometry k sectors)) →
-    (k : ℕ) → k < host + 1 → row.block_of k (put_at bytes (256 * host) block) ≡ block_of (sector_in geometry k sectors)
+pub put_next : (geometry : Geometry) (sectors bytes block : List ℕ) (host : ℕ) → length bytes ≡ 4096 → length block ≡ 256 → host < 16 → block ≡ block_of (sector_in geometry host sectors) → ((k : ℕ) → k < host → row.block_of cluster_version k bytes ≡ block_of (sector_in geometry k sectors)) →
+    (k : ℕ) → k < host + 1 → row.block_of cluster_version k (put_at bytes (256 * host) block) ≡ block_of (sector_in geometry k sectors)
 put_next geometry sectors bytes block host long size few is before k below =
     elim (cases_lt k host) [
       | inl less ↦ put_there bytes block host k long size few less ∙ before k less
       | inr from_there ↦
           (let same : host ≡ k = omega (arith, below, from_there) in
-          subst (λ (n : ℕ). row.block_of n (put_at bytes (256 * host) block) ≡ block_of (sector_in geometry n sectors)) same (put_here bytes block host long size few ∙ is))
+          subst (λ (n : ℕ). row.block_of cluster_version n (put_at bytes (256 * host) block) ≡ block_of (sector_in geometry n sectors)) same (put_here bytes block host long size few ∙ is))
     ]
 
 length-zeros : (n : ℕ) → length (zeros n) ≡ n
@@ -91,7 +92,7 @@ module _ (geometry : Geometry) (is : IsGeometry geometry) (sectors bytes : List 
   fits : 256 * geometry.hosts + length rest ≤ length bytes
   fits = omega (arith, long, is.hosts.1, length-zeros (4096 - 256 * geometry.hosts))
 
-  zeros_there : (host : ℕ) → geometry.hosts ≤ host → host < 16 → row.block_of host filled ≡ zeros 256
+  zeros_there : (host : ℕ) → geometry.hosts ≤ host → host < 16 → row.block_of cluster_version host filled ≡ zeros 256
   zeros_there host above few =
       let new = filled in
       let size = length-part (256 * host) 256 new (omega (arith, length_kept bytes rest (256 * geometry.hosts) fits, long)) in
@@ -106,7 +107,7 @@ module _ (geometry : Geometry) (is : IsGeometry geometry) (sectors bytes : List 
       ∙ get_or-zeros (4096 - 256 * geometry.hosts) j (omega (arith, is.hosts.1))
       ∙ sym (get_or-zeros 256 k below))
 
-  pub gathered : ((host : ℕ) → host < geometry.hosts → row.block_of host bytes ≡ block_of (sector_in geometry host sectors)) → IsRowOf geometry sectors filled
+  pub gathered : ((host : ℕ) → host < geometry.hosts → row.block_of cluster_version host bytes ≡ block_of (sector_in geometry host sectors)) → IsRowOf geometry sectors filled
   gathered blocks =
       record {
         as_long = length_kept bytes rest (256 * geometry.hosts) fits ∙ long;
@@ -133,7 +134,7 @@ module _ (geometry : Geometry) (is : IsGeometry geometry) where
       ∙ sym (ap (take n) (sector_is host sectors))
 
   -- a block of a row that is read is that at its place
-  block_read : (place host : ℕ) (device : List ℕ) → host < geometry.hosts → block_of (sector_in geometry host (row_in geometry place device)) ≡ at.block_in (place + geometry.sector_size * host) device
+  block_read : (place host : ℕ) (device : List ℕ) → host < geometry.hosts → block_of (sector_in geometry host (row_in geometry place device)) ≡ at.block_in cluster_version (place + geometry.sector_size * host) device
   block_read place host device below =
       let long = long_sector geometry.sector_size is.sector_size in
       let q = geometry.sector_size * host in
@@ -149,10 +150,10 @@ module _ (geometry : Geometry) (is : IsGeometry geometry) where
       ∙ ap (take 256) (drop-drop q place device)
       ∙ sym (part_is (place + q) 256 device)
 
-  pub vote_read : (device bytes : List ℕ) (slot host : ℕ) → host < geometry.hosts → IsRowOf geometry (row_in geometry (row_place geometry slot) device) bytes → row.block_of host bytes ≡ at.block_in (place_of geometry (VoteOf slot host)) device
+  pub vote_read : (device bytes : List ℕ) (slot host : ℕ) → host < geometry.hosts → IsRowOf geometry (row_in geometry (row_place geometry slot) device) bytes → row.block_of cluster_version host bytes ≡ at.block_in cluster_version (place_of geometry (VoteOf slot host)) device
   vote_read device bytes slot host below gathers = gathers.blocks host below ∙ block_read (row_place geometry slot) host device below
 
-  pub beat_read : (device bytes : List ℕ) (host : ℕ) → host < geometry.hosts → IsRowOf geometry (row_in geometry 4096 device) bytes → row.block_of host bytes ≡ at.block_in (place_of geometry (BeatOf host)) device
+  pub beat_read : (device bytes : List ℕ) (host : ℕ) → host < geometry.hosts → IsRowOf geometry (row_in geometry 4096 device) bytes → row.block_of cluster_version host bytes ≡ at.block_in cluster_version (place_of geometry (BeatOf host)) device
   beat_read device bytes host below gathers = gathers.blocks host below ∙ block_read 4096 host device below
 
   -- ---- a write of one of them
@@ -204,13 +205,13 @@ module _ (geometry : Geometry) (is : IsGeometry geometry) where
     row_room : 256 * host + offset + length from ≤ length old
     row_room = omega (arith, gathers.as_long, is.hosts.1, below, within)
 
-    block_here : row.block_of host new_row ≡ put_at (row.block_of host old) offset from
+    block_here : row.block_of cluster_version host new_row ≡ put_at (row.block_of cluster_version host old) offset from
     block_here =
         block_is host new_row
         ∙ part_around old from (256 * host) 256 offset (omega (arith, gathers.as_long, is.hosts.1, below)) within
         ∙ ap (λ (l : List ℕ). put_at l offset from) (sym (block_is host old))
 
-    block_there : (k : ℕ) → k < 16 → k ≢ host → row.block_of k new_row ≡ row.block_of k old
+    block_there : (k : ℕ) → k < 16 → k ≢ host → row.block_of cluster_version k new_row ≡ row.block_of cluster_version k old
     block_there k few differ =
         block_is k new_row
         ∙ part_elsewhere old from (256 * host + offset) row_room (256 * k) 256 (omega (arith, gathers.as_long))
@@ -229,7 +230,7 @@ module _ (geometry : Geometry) (is : IsGeometry geometry) where
               λ k few.
               elim (cases_eq k host) [
                 | inl same ↦
-                    subst (λ (n : ℕ). row.block_of n new_row ≡ block_of (sector_in geometry n new_sectors)) (sym same)
+                    subst (λ (n : ℕ). row.block_of cluster_version n new_row ≡ block_of (sector_in geometry n new_sectors)) (sym same)
                     (block_here
                     ∙ ap (λ (l : List ℕ). put_at l offset from) (gathers.blocks host below)
                     ∙ sym (block_with (sector_in geometry host sectors) from offset within (omega (arith, size_before, at_least)))
@@ -244,15 +245,15 @@ module _ (geometry : Geometry) (is : IsGeometry geometry) where
         one_row geometry new_sectors new new_row gathers_new still_gathers
 
   pub block_back : (sectors old new block : List ℕ) (host : ℕ) → length sectors ≡ row_size geometry → host < geometry.hosts → length block ≡ 256 → IsRowOf geometry sectors old →
-      IsRowOf geometry (put_at sectors (geometry.sector_size * host) (sector_with 0 block (sector_in geometry host sectors))) new → row.block_of host new ≡ block
+      IsRowOf geometry (put_at sectors (geometry.sector_size * host) (sector_with 0 block (sector_in geometry host sectors))) new → row.block_of cluster_version host new ≡ block
   block_back sectors old new block host long below size gathers gathers_new =
       let e : 256 * host + 0 ≡ 256 * host = omega arith in
-      ap (row.block_of host) (row_written sectors old block host 0 long below (omega (arith, size)) gathers new gathers_new ∙ ap (λ (n : ℕ). put_at old n block) e)
+      ap (row.block_of cluster_version host) (row_written sectors old block host 0 long below (omega (arith, size)) gathers new gathers_new ∙ ap (λ (n : ℕ). put_at old n block) e)
       ∙ put_here old block host gathers.as_long size (omega (arith, is.hosts.1, below))
 
   -- ---- the same of a whole device
 
-  module _ (device image from : List ℕ) (spot : Spot) (offset : ℕ) (is_spot : IsSpot geometry spot) (long : device_size geometry ≤ length device) (as_long : length image ≡ images.image_length geometry.slots) (within : offset + length from ≤ 256) (shows : Shows geometry device image) where
+  module _ (device image from : List ℕ) (spot : Spot) (offset : ℕ) (is_spot : IsSpot geometry spot) (long : device_size geometry ≤ length device) (as_long : length image ≡ images.image_length cluster_version geometry.slots) (within : offset + length from ≤ 256) (shows : Shows geometry device image) where
     abbrev new_sector : List ℕ
     new_sector = sector_with offset from (sector_at geometry (place_of geometry spot) device)
 
@@ -260,7 +261,7 @@ module _ (geometry : Geometry) (is : IsGeometry geometry) where
     new_device = put_at device (place_of geometry spot) new_sector
 
     abbrev new_image : List ℕ
-    new_image = put_at image (images.place_of spot + offset) from
+    new_image = put_at image (images.place_of cluster_version spot + offset) from
 
     there : place_of geometry spot + geometry.sector_size ≤ length device
     there = omega (arith, spot_fits geometry spot is_spot, long)
@@ -279,15 +280,15 @@ module _ (geometry : Geometry) (is : IsGeometry geometry) where
     room' : place_of geometry spot + length new_sector ≤ length device
     room' = omega (arith, there, sector_after)
 
-    in_image : images.place_of spot + 256 ≤ length image
+    in_image : images.place_of cluster_version spot + 256 ≤ length image
     in_image =
         omega (arith, as_long, places.spot_fits cluster_version geometry.slots spot (image_spot geometry is spot is_spot))
 
     -- the block that is written
-    mine : at.block_in (place_of geometry spot) new_device ≡ at.block_in (images.place_of spot) new_image
+    mine : at.block_in cluster_version (place_of geometry spot) new_device ≡ at.block_in cluster_version (images.place_of cluster_version spot) new_image
     mine =
         let p = place_of geometry spot in
-        let q = images.place_of spot in
+        let q = images.place_of cluster_version spot in
         let old = sector_at geometry p device in
         let new = sector_with offset from old in
         part_is p 256 (put_at device p new)
@@ -300,19 +301,19 @@ module _ (geometry : Geometry) (is : IsGeometry geometry) where
         ∙ sym (part_is q 256 (put_at image (q + offset) from))
 
     -- a block of the image elsewhere
-    image_kept : (other : Spot) → images.IsSpot geometry.slots other → spot ≢ other → at.block_in (images.place_of other) new_image ≡ at.block_in (images.place_of other) image
+    image_kept : (other : Spot) → images.IsSpot cluster_version geometry.slots other → spot ≢ other → at.block_in cluster_version (images.place_of cluster_version other) new_image ≡ at.block_in cluster_version (images.place_of cluster_version other) image
     image_kept other is_other differ =
-        let q = images.place_of spot in
-        part_is (images.place_of other) 256 new_image
-        ∙ part_elsewhere image from (q + offset) (omega (arith, in_image, within)) (images.place_of other) 256 (omega (arith, as_long, places.spot_fits cluster_version geometry.slots other is_other))
+        let q = images.place_of cluster_version spot in
+        part_is (images.place_of cluster_version other) 256 new_image
+        ∙ part_elsewhere image from (q + offset) (omega (arith, in_image, within)) (images.place_of cluster_version other) 256 (omega (arith, as_long, places.spot_fits cluster_version geometry.slots other is_other))
         (elim (places.spots_apart cluster_version geometry.slots spot other (image_spot geometry is spot is_spot) is_other differ) [
           | inl before ↦ inl (omega (arith, before, within))
           | inr behind ↦ inr (omega (arith, behind))
         ])
-        ∙ sym (part_is (images.place_of other) 256 image)
+        ∙ sym (part_is (images.place_of cluster_version other) 256 image)
 
     -- every other
-    others : (other : Spot) → IsSpot geometry other → spot ≢ other → at.block_in (place_of geometry other) new_device ≡ at.block_in (images.place_of other) new_image
+    others : (other : Spot) → IsSpot geometry other → spot ≢ other → at.block_in cluster_version (place_of geometry other) new_device ≡ at.block_in cluster_version (images.place_of cluster_version other) new_image
     others other is_other differ =
         let p = place_of geometry spot in
         let new = sector_with offset from (sector_at geometry p device) in
@@ -327,11 +328,11 @@ module _ (geometry : Geometry) (is : IsGeometry geometry) where
         ∙ shows.blocks other is_other
         ∙ sym (image_kept other (image_spot geometry is other is_other) differ)
 
-    blocks_written : (other : Spot) → IsSpot geometry other → at.block_in (place_of geometry other) new_device ≡ at.block_in (images.place_of other) new_image
+    blocks_written : (other : Spot) → IsSpot geometry other → at.block_in cluster_version (place_of geometry other) new_device ≡ at.block_in cluster_version (images.place_of cluster_version other) new_image
     blocks_written other is_other =
         elim (same_or_not spot other) [
           | inl same ↦
-              subst (λ (s : Spot). at.block_in (place_of geometry s) new_device ≡ at.block_in (images.place_of s) new_image) same mine
+              subst (λ (s : Spot). at.block_in cluster_version (place_of geometry s) new_device ≡ at.block_in cluster_version (images.place_of cluster_version s) new_image) same mine
           | inr differ ↦ others other is_other differ
         ]
 
@@ -346,12 +347,12 @@ module _ (geometry : Geometry) (is : IsGeometry geometry) where
 
   -- ---- what a read of a row gives
 
-  module _ (device image bytes : List ℕ) (as_long : length image ≡ images.image_length geometry.slots) (shows : Shows geometry device image) where
-    pub vote_row : (slot : ℕ) → slot < geometry.slots → IsRowOf geometry (row_in geometry (row_place geometry slot) device) bytes → bytes ≡ images.row_of slot image
+  module _ (device image bytes : List ℕ) (as_long : length image ≡ images.image_length cluster_version geometry.slots) (shows : Shows geometry device image) where
+    pub vote_row : (slot : ℕ) → slot < geometry.slots → IsRowOf geometry (row_in geometry (row_place geometry slot) device) bytes → bytes ≡ images.row_of cluster_version slot image
     vote_row slot among gathers =
-        let start = images.row_place slot in
-        let long : length (images.row_of slot image) ≡ 4096 = ap (λ (l : List ℕ). length l) (part_is start 4096 image) ∙ length-part start 4096 image (omega (arith, as_long, among)) in
-        same_rows bytes (images.row_of slot image) gathers.as_long long (λ host few.
+        let start = images.row_place cluster_version slot in
+        let long : length (images.row_of cluster_version slot image) ≡ 4096 = ap (λ (l : List ℕ). length l) (part_is start 4096 image) ∙ length-part start 4096 image (omega (arith, as_long, among)) in
+        same_rows bytes (images.row_of cluster_version slot image) gathers.as_long long (λ host few.
         elim (cases_lt host geometry.hosts) [
           | inl below ↦ vote_read device bytes slot host below gathers ∙ shows.blocks (VoteOf slot host) (among, below)
           | inr above ↦
@@ -359,10 +360,10 @@ module _ (geometry : Geometry) (is : IsGeometry geometry) where
         ]
         ∙ sym (places.block_of-row_of cluster_version slot host image few))
 
-    pub beat_row : IsRowOf geometry (row_in geometry 4096 device) bytes → bytes ≡ images.area_of image
+    pub beat_row : IsRowOf geometry (row_in geometry 4096 device) bytes → bytes ≡ images.area_of cluster_version image
     beat_row gathers =
-        let long : length (images.area_of image) ≡ 4096 = ap (λ (l : List ℕ). length l) (part_is 4096 4096 image) ∙ length-part 4096 4096 image (omega (arith, as_long)) in
-        same_rows bytes (images.area_of image) gathers.as_long long (λ host few.
+        let long : length (images.area_of cluster_version image) ≡ 4096 = ap (λ (l : List ℕ). length l) (part_is 4096 4096 image) ∙ length-part 4096 4096 image (omega (arith, as_long)) in
+        same_rows bytes (images.area_of cluster_version image) gathers.as_long long (λ host few.
         elim (cases_lt host geometry.hosts) [
           | inl below ↦ beat_read device bytes host below gathers ∙ shows.blocks (BeatOf host) below
           | inr above ↦ gathers.others host above few ∙ sym (shows.others (BeatOf host) few (λ spot. absurd (omega (arith, above, spot))))
@@ -371,7 +372,7 @@ module _ (geometry : Geometry) (is : IsGeometry geometry) where
 
 -- ---- a device that was just formatted
 
-zero_block : (place : ℕ) (bytes : List ℕ) → place + 256 ≤ length bytes → 4096 ≤ place → ((k : ℕ) → 4096 ≤ k → get_or bytes k 0 ≡ 0) → at.block_in place bytes ≡ zeros 256
+zero_block : (place : ℕ) (bytes : List ℕ) → place + 256 ≤ length bytes → 4096 ≤ place → ((k : ℕ) → 4096 ≤ k → get_or bytes k 0 ≡ 0) → at.block_in cluster_version place bytes ≡ zeros 256
 zero_block place bytes fits behind none =
     let long = length-part place 256 bytes fits in
     part_is place 256 bytes
@@ -379,15 +380,15 @@ zero_block place bytes fits behind none =
     let below : k < 256 = omega (arith, long) in
     get_or-part place 256 bytes k below ∙ none (place + k) (omega (arith, behind)) ∙ sym (get_or-zeros 256 k below))
 
-image_behind : (spot : Spot) → 4096 ≤ images.place_of spot
+image_behind : (spot : Spot) → 4096 ≤ images.place_of cluster_version spot
 image_behind (BeatOf host) = omega arith
 image_behind (VoteOf slot host) = omega arith
 
-pub new_shows : (geometry : Geometry) (device image : List ℕ) → IsGeometry geometry → device_size geometry ≤ length device → length image ≡ images.image_length geometry.slots →
+pub new_shows : (geometry : Geometry) (device image : List ℕ) → IsGeometry geometry → device_size geometry ≤ length device → length image ≡ images.image_length cluster_version geometry.slots →
     ((k : ℕ) → 4096 ≤ k → get_or device k 0 ≡ 0) → ((k : ℕ) → 4096 ≤ k → get_or image k 0 ≡ 0) → Shows geometry device image
 new_shows geometry device image is long as_long none none_there =
-    let blank : (spot : Spot) → images.IsSpot geometry.slots spot → at.block_in (images.place_of spot) image ≡ zeros 256 =
-    (λ spot is_spot. zero_block (images.place_of spot) image (omega (arith, as_long, places.spot_fits cluster_version geometry.slots spot is_spot)) (image_behind spot) none_there) in
+    let blank : (spot : Spot) → images.IsSpot cluster_version geometry.slots spot → at.block_in cluster_version (images.place_of cluster_version spot) image ≡ zeros 256 =
+    (λ spot is_spot. zero_block (images.place_of cluster_version spot) image (omega (arith, as_long, places.spot_fits cluster_version geometry.slots spot is_spot)) (image_behind spot) none_there) in
     record {
       blocks =
           λ spot is_spot.

@@ -5,8 +5,8 @@ use Rattle.std.proofs.lemmas.List.{length-take-le, length-take, take_at, drop_at
 use Rattle.byteorder.specs.Endian.{big_number}
 use Rattle.byteorder.specs.Numbers.{big_number-reads_back, length-bytes_high_first}
 use Rattle.disk.specs.Disk.{put_at}
-use Rattle.torn_block.specs.layouts.Block.{number_bytes}
-use Rattle.paxos_block.specs.layouts.Saying.{number_at}
+use Rattle.torn_block.specs.Block.{number_bytes}
+use Rattle.paxos_block.specs.Saying.{number_at}
 use Rattle.sectors.specs.declared.name.MachineName.{MachineName}
 use Rattle.sectors.specs.declared.name.TheConstants.{NAME_LENGTH, NAMED_LENGTH}
 use Rattle.sectors.specs.declared.sector.TheConstants.{STAMPED_LENGTH}

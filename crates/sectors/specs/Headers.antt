@@ -1,10 +1,10 @@
 -- The header of a device: what it says, how that is spelled, when a device is right, and what is wrong with one that is not.
 use Rattle.std.specs.Prelude.{◌≡◌, ◌≢◌, ◌==◌, ◌≤◌, ◌<◌, ◌^◌, ◌-◌, ◌++◌, ℕ, List, ◌∷◌, drop, slice_index}
-use Rattle.torn_block.specs.layouts.Block.{number_bytes}
+use Rattle.torn_block.specs.Block.{number_bytes}
 use Rattle.torn_block.specs.declared.layout.TheConstants.{DISKS}
 use Rattle.torn_block.specs.declared.block.TheConstants.{OPEN_GATE}
-use Rattle.paxos_block.specs.layouts.Saying.{zeros, number_at, flag_of}
-use Rattle.paxos_block.specs.layouts.Headers.{short_bytes, short_at}
+use Rattle.paxos_block.specs.Saying.{zeros, number_at, flag_of}
+use Rattle.paxos_block.specs.Headers.{short_bytes, short_at}
 use Rattle.sectors.specs.declared.fault.DeviceFault.{DeviceFault}
 use Rattle.sectors.specs.declared.fault.DeviceFault.TheVariants.{NotFormatted, WrongVersion, WrongDisk, WrongSlots, WrongSectorSize, WrongParts, WrongHosts, WrongWrites, WrongRest, TooShort}
 use Rattle.sectors.specs.declared.header.TheConstants.{DEVICE_HEADER_LENGTH, DEVICE_VERSION, PARTS, GATE_AT, VERSION_AT, DISK_AT, DISKS_AT, SLOTS_AT, CLUSTER_AT, SECTOR_SIZE_AT, PARTS_AT, HOSTS_AT, WRITES_AT, REST_AT}

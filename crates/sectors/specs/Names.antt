@@ -1,7 +1,7 @@
 -- The name of a machine, in the sector of a host's heartbeat block.
 use Rattle.std.specs.Prelude.{◌+◌, ◌++◌, ℕ, List, drop, slice_range}
-use Rattle.torn_block.specs.layouts.Block.{number_bytes}
-use Rattle.paxos_block.specs.layouts.Saying.{zeros}
+use Rattle.torn_block.specs.Block.{number_bytes}
+use Rattle.paxos_block.specs.Saying.{zeros}
 use Rattle.sectors.specs.declared.sector.TheConstants.{STAMPED_LENGTH}
 use Rattle.sectors.specs.declared.name.TheConstants.{NAME_LENGTH, NAMED_LENGTH}
 use Rattle.sectors.specs.declared.name.MachineName.{MachineName}

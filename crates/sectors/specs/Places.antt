@@ -1,10 +1,11 @@
 -- Where the sectors of a device are, and which bytes of an image they have.
 use Rattle.std.specs.Prelude.{◌≡◌, ◌+◌, ◌*◌, ◌≤◌, ◌<◌, ℕ, List, slice_range}
+use Rattle.torn_block.specs.Layout.{area_place, cluster_version}
 use Rattle.paxos_block.specs.Places as images
 use Rattle.paxos_block.specs.Places.{Spot, BeatOf, VoteOf}
 use Rattle.torn_block.specs.declared.layout.TheConstants.{BLOCK_LENGTH}
 use Rattle.torn_block.specs.Place.{block_in}
-use Rattle.paxos_block.specs.layouts.Saying.{zeros}
+use Rattle.paxos_block.specs.Saying.{zeros}
 use Rattle.sectors.specs.declared.geometry.Geometry.{Geometry}
 use Rattle.sectors.specs.declared.header.TheConstants.{DEVICE_HEADER_LENGTH}
 use Rattle.sectors.specs.declared.place.SectorRange.{SectorRange}
@@ -34,8 +35,10 @@ row_in geometry place device = slice_range device place (place + row_size geomet
 -- The device has the blocks of the image: each is the same at its place on the device as at its place in the image, where a host that
 -- the device does not have has zeros.
 pub record Shows (geometry : Geometry) (device image : List ℕ) : Type 0 where
-  pub blocks : (spot : Spot) → IsSpot geometry spot → block_in (place_of geometry spot) device ≡ block_in (images.place_of spot) image
-  pub others : (spot : Spot) → images.IsSpot geometry.slots spot → ¬ IsSpot geometry spot → block_in (images.place_of spot) image ≡ zeros BLOCK_LENGTH
+  pub blocks : (spot : Spot) → IsSpot geometry spot →
+      block_in cluster_version (place_of geometry spot) device ≡ block_in cluster_version (images.place_of cluster_version spot) image
+  pub others : (spot : Spot) → images.IsSpot cluster_version geometry.slots spot → ¬ IsSpot geometry spot →
+      block_in cluster_version (images.place_of cluster_version spot) image ≡ zeros BLOCK_LENGTH
 
 -- ---- from an image's places to those of the device
 
@@ -51,8 +54,8 @@ IsRow geometry (SlotRow slot) = slot < geometry.slots
 
 -- where it begins in an image, and on the device
 abbrev pub image_row : RowOf → ℕ
-image_row BeatsRow = images.area_place
-image_row (SlotRow slot) = images.row_place slot
+image_row BeatsRow = area_place cluster_version
+image_row (SlotRow slot) = images.row_place cluster_version slot
 
 abbrev pub device_row : Geometry → RowOf → ℕ
 device_row geometry BeatsRow = DEVICE_HEADER_LENGTH
@@ -67,7 +70,7 @@ pub record IsRowAt (geometry : Geometry) (at place : ℕ) : Type 0 where
 
 -- These bytes of an image lie within this block.
 pub record IsWithin (spot : Spot) (offset at long : ℕ) : Type 0 where
-  pub here : at ≡ images.place_of spot + offset
+  pub here : at ≡ images.place_of cluster_version spot + offset
   pub begins : offset < BLOCK_LENGTH
   pub ends : offset + long ≤ BLOCK_LENGTH
 

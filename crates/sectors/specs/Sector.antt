@@ -2,8 +2,8 @@
 use Rattle.std.specs.Prelude.{◌+◌, ◌++◌, ℕ, List, take, drop}
 use Rattle.disk.specs.Disk.{put_at}
 use Rattle.torn_block.specs.declared.layout.TheConstants.{BLOCK_LENGTH}
-use Rattle.torn_block.specs.layouts.Block.{number_bytes}
-use Rattle.paxos_block.specs.layouts.Saying.{number_at}
+use Rattle.torn_block.specs.Block.{number_bytes}
+use Rattle.paxos_block.specs.Saying.{number_at}
 use Rattle.sectors.specs.declared.sector.TheConstants.{STAMPED_LENGTH}
 
 -- the block is first

@@ -1,6 +1,6 @@
 ghost use Rattle.std.specs.Prelude.{◌≡◌, ◌==◌, ◌↔◌, IsTrue, IfOk, IfNone, Ok, Err, Some, length};
 ghost use Rattle.std.specs.List.{list_all};
-ghost use Rattle.paxos_block.specs.layouts.Saying.{flag_of};
+ghost use Rattle.paxos_block.specs.Saying.{flag_of};
 ghost use Rattle.sectors.specs.Headers.{IsNamed, IsDeviceHeader, IsRight, IsFirst, header_saying, header_in};
 ghost use Rattle.sectors.specs.declared.fault.DeviceFault.{DeviceFault};
 

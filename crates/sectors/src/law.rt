@@ -2,13 +2,13 @@
 ghost use Rattle.std.specs.Prelude.{◌≡◌, ◌≢◌, ◌⊎◌, ◌+◌, ◌*◌, ◌^◌, ◌≤◌, ◌<◌, ℕ, List, length, take, slice_index};
 ghost use Rattle.disk.specs.Disk.{put_at};
 ghost use Rattle.torn_block.specs.Damage as row;
-ghost use Rattle.torn_block.specs.Layout.{Version};
+ghost use Rattle.torn_block.specs.Layout.{Version, area_place, cluster_version};
 ghost use Rattle.torn_block.specs.Place as at;
 ghost use Rattle.torn_block.specs.declared.layout.TheConstants.{HEADER_LENGTH, BLOCK_LENGTH};
 ghost use Rattle.paxos_block.specs.Places as images;
 ghost use Rattle.paxos_block.specs.Places.{Spot, BeatOf, VoteOf};
 ghost use Rattle.paxos_block.specs.declared.header.Header.{Header};
-ghost use Rattle.paxos_block.specs.layouts.Headers as older;
+ghost use Rattle.paxos_block.specs.Headers as older;
 ghost use Rattle.sectors.specs.declared.geometry.Geometry.{Geometry};
 ghost use Rattle.sectors.specs.declared.header.DeviceHeader.{DeviceHeader};
 ghost use Rattle.sectors.specs.declared.header.TheConstants.{DEVICE_HEADER_LENGTH};
@@ -50,18 +50,20 @@ pub fn rows_come_back()
     ensures votes { (geometry : Geometry) (device bytes : List ℕ) (slot host : ℕ) → IsGeometry geometry →
         host < geometry.hosts →
         IsRowOf geometry (row_in geometry (row_place geometry slot) device) bytes →
-        row.block_of host bytes ≡ at.block_in (place_of geometry (VoteOf slot host)) device }
+        row.block_of cluster_version host bytes ≡
+        at.block_in cluster_version (place_of geometry (VoteOf slot host)) device }
     ensures beats { (geometry : Geometry) (device bytes : List ℕ) (host : ℕ) → IsGeometry geometry →
         host < geometry.hosts →
         IsRowOf geometry (row_in geometry DEVICE_HEADER_LENGTH device) bytes →
-        row.block_of host bytes ≡ at.block_in (place_of geometry (BeatOf host)) device }
+        row.block_of cluster_version host bytes ≡
+        at.block_in cluster_version (place_of geometry (BeatOf host)) device }
     // A block that is put into its sector whole is the host's block of the row.
     ensures written { (geometry : Geometry) (sectors old new block : List ℕ) (host : ℕ) → IsGeometry geometry →
         length sectors ≡ row_size geometry → host < geometry.hosts → length block ≡ BLOCK_LENGTH →
         IsRowOf geometry sectors old →
         IsRowOf geometry (put_at sectors (geometry.sector_size * host)
         (sector_with 0 block (sector_in geometry host sectors))) new →
-        row.block_of host new ≡ block }
+        row.block_of cluster_version host new ≡ block }
     ensures one { (geometry : Geometry) (sectors a b : List ℕ) → IsRowOf geometry sectors a →
         IsRowOf geometry sectors b → a ≡ b }
 {}
@@ -69,19 +71,25 @@ pub fn rows_come_back()
 /// A device of zeros shows an image of zeros. Their headers are not looked at.
 pub fn new_devices_show()
     ensures { (geometry : Geometry) (device image : List ℕ) → IsGeometry geometry →
-        device_size geometry ≤ length device → length image ≡ images.image_length geometry.slots →
+        device_size geometry ≤ length device →
+        length image ≡ images.image_length cluster_version geometry.slots →
         ((k : ℕ) → DEVICE_HEADER_LENGTH ≤ k → slice_index device k ≡ 0) →
-        ((k : ℕ) → images.area_place ≤ k → slice_index image k ≡ 0) → Shows geometry device image }
+        ((k : ℕ) → area_place cluster_version ≤ k → slice_index image k ≡ 0) →
+        Shows geometry device image }
 {}
 
 /// A row that is gathered is what a read of the image that the device shows would give.
 pub fn reads_show()
     ensures votes { (geometry : Geometry) (device image bytes : List ℕ) (slot : ℕ) → IsGeometry geometry →
-        slot < geometry.slots → length image ≡ images.image_length geometry.slots → Shows geometry device image →
-        IsRowOf geometry (row_in geometry (row_place geometry slot) device) bytes → bytes ≡ images.row_of slot image }
+        slot < geometry.slots → length image ≡ images.image_length cluster_version geometry.slots →
+        Shows geometry device image →
+        IsRowOf geometry (row_in geometry (row_place geometry slot) device) bytes →
+        bytes ≡ images.row_of cluster_version slot image }
     ensures beats { (geometry : Geometry) (device image bytes : List ℕ) → IsGeometry geometry →
-        length image ≡ images.image_length geometry.slots → Shows geometry device image →
-        IsRowOf geometry (row_in geometry DEVICE_HEADER_LENGTH device) bytes → bytes ≡ images.area_of image }
+        length image ≡ images.image_length cluster_version geometry.slots →
+        Shows geometry device image →
+        IsRowOf geometry (row_in geometry DEVICE_HEADER_LENGTH device) bytes →
+        bytes ≡ images.area_of cluster_version image }
 {}
 
 /// Bytes that are put into the block of one sector are put into that block of the row, and into that of the whole image, and
@@ -95,11 +103,12 @@ pub fn writes_show()
         new ≡ put_at old (BLOCK_LENGTH * host + offset) from }
     ensures image { (geometry : Geometry) (device image from : List ℕ) (spot : Spot) (offset : ℕ) →
         IsGeometry geometry → IsSpot geometry spot → device_size geometry ≤ length device →
-        length image ≡ images.image_length geometry.slots → offset + length from ≤ BLOCK_LENGTH →
+        length image ≡ images.image_length cluster_version geometry.slots →
+        offset + length from ≤ BLOCK_LENGTH →
         Shows geometry device image →
         Shows geometry (put_at device (place_of geometry spot)
         (sector_with offset from (sector_at geometry (place_of geometry spot) device)))
-        (put_at image (images.place_of spot + offset) from) }
+        (put_at image (images.place_of cluster_version spot + offset) from) }
 {}
 
 /// Writes raise the stamps of the sectors that they change.

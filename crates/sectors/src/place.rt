@@ -1,6 +1,6 @@
 // Where blocks are on a device, by their spots and by their places in an image of the cluster's layout.
 ghost use Rattle.std.specs.Prelude.{◌≡◌, ◌≢◌, ◌≤◌, ◌<◌, IfSome, IfNone};
-ghost use Rattle.paxos_block.specs.layouts.Places.{BeatOf, VoteOf};
+ghost use Rattle.paxos_block.specs.Places.{BeatOf, VoteOf};
 ghost use Rattle.sectors.specs.Geometry.{IsGeometry};
 ghost use Rattle.sectors.specs.Places as places;
 ghost use Rattle.sectors.specs.Places.{place_of, RowOf, IsRow, IsRowAt, IsRangeAt, HasNoRangeAt, image_row};

@@ -1,7 +1,7 @@
 // A row as one read of its sectors gives it.
 ghost use Rattle.std.specs.Prelude.{◌≡◌, ◌↔◌, ◌-◌, ◌*◌, ◌≤◌, ◌<◌, length, IsTrue};
 ghost use Rattle.disk.specs.Disk.{put_at};
-ghost use Rattle.paxos_block.specs.layouts.Saying.{zeros};
+ghost use Rattle.paxos_block.specs.Saying.{zeros};
 ghost use Rattle.sectors.specs.Geometry as shapes;
 ghost use Rattle.sectors.specs.Geometry.{IsGeometry};
 ghost use Rattle.sectors.specs.Row.{IsRowOf, Agree, sector_in};

@@ -8,6 +8,7 @@ use Rattle.disk.specs.declared.fault.DiskFault.TheVariants.{Failed}
 use Rattle.disk.specs.Disk.{DiskState, Call, Attach, Read, Write, Sync, Fault, lost}
 use Rattle.disk.specs.Filling.{filled}
 use Rattle.disk.specs.Simulated.{SimState, refusal_of, crashed}
+use Rattle.torn_block.specs.Layout.{cluster_version}
 use Rattle.paxos_block.specs.Places.{image_length}
 use Rattle.torn_block.specs.declared.layout.TheConstants.{HOSTS}
 use Rattle.slot_log.specs.Shape.{Shape}
@@ -77,10 +78,10 @@ module _ (log : List Filled) (old : Kept) (leads : LeadsTo log old) where
 
     -- it is as long as before
     sized : (there : SimState) → length there.disk.bytes ≡ length x.disk.bytes → (d : ℕ) (other : SimState) → d < old.shape.disks
-        → length (get_or (set old.disks k there) d other).disk.bytes ≡ image_length old.shape.slots
+        → length (get_or (set old.disks k there) d other).disk.bytes ≡ image_length cluster_version old.shape.slots
     sized there as_long =
-        let long : length x.disk.bytes ≡ image_length old.shape.slots = ap (λ (s : SimState). length s.disk.bytes) (sym x_is) ∙ leads.sized k x inside in
-        sized_set old.disks old.shape.disks (image_length old.shape.slots) k there leads.shows.disk_count inside (as_long ∙ long) leads.sized
+        let long : length x.disk.bytes ≡ image_length cluster_version old.shape.slots = ap (λ (s : SimState). length s.disk.bytes) (sym x_is) ∙ leads.sized k x inside in
+        sized_set old.disks old.shape.disks (image_length cluster_version old.shape.slots) k there leads.shows.disk_count inside (as_long ∙ long) leads.sized
 
     -- what the disk is then
     left_is : (there : SimState) (e : Filled) (f : DiskState → DiskState) → there ≡ record x { disk = f x.disk }
@@ -224,10 +225,10 @@ module _ (log : List Filled) (old : Kept) (leads : LeadsTo log old) where
     kept_disk = sym x_is ∙ leads.shows.disks k x inside
 
     as_long_as : (there : SimState) → length there.disk.bytes ≡ length x.disk.bytes → (d : ℕ) (other : SimState) → d < old.shape.disks
-        → length (get_or (set old.disks k there) d other).disk.bytes ≡ image_length old.shape.slots
+        → length (get_or (set old.disks k there) d other).disk.bytes ≡ image_length cluster_version old.shape.slots
     as_long_as there as_long =
-        let long : length x.disk.bytes ≡ image_length old.shape.slots = ap (λ (s : SimState). length s.disk.bytes) (sym x_is) ∙ leads.sized k x inside in
-        sized_set old.disks old.shape.disks (image_length old.shape.slots) k there leads.shows.disk_count inside (as_long ∙ long) leads.sized
+        let long : length x.disk.bytes ≡ image_length cluster_version old.shape.slots = ap (λ (s : SimState). length s.disk.bytes) (sym x_is) ∙ leads.sized k x inside in
+        sized_set old.disks old.shape.disks (image_length cluster_version old.shape.slots) k there leads.shows.disk_count inside (as_long ∙ long) leads.sized
 
     tests : (gone : Bool) → x.disk.gone ≡ gone → has_disk old.shape (world old.shape log) k ≡ not gone
     tests gone is =

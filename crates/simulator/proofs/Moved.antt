@@ -7,6 +7,7 @@ use Rattle.std.proofs.lemmas.List.{take-append-drop, drop-drop, length-take-le, 
 use Rattle.disk.specs.Disk.{DiskState, put_at, written, synced}
 use Rattle.disk.specs.Simulated.{SimState, fresh_disk}
 use Rattle.disk.proofs.PutLemmas.{length-put_at}
+use Rattle.torn_block.specs.Layout.{cluster_version}
 use Rattle.torn_block.specs.declared.layout.TheConstants.{HOSTS, ROW_LENGTH}
 use Rattle.paxos_block.specs.Places.{image_length, row_place}
 use Rattle.migration.specs.Image.{row_for, rows_for}
@@ -68,30 +69,30 @@ rows_more (first ∷ values) value = ap (λ (l : List ℕ). row_for first ++ l) 
 
 -- A disk of so many slots, with a row for each of these values.
 pub record HasRows (slots : ℕ) (values : List (List ℕ)) (d : SimState) : Type 0 where
-  pub is : d ≡ calm (written (fresh_disk (image_length slots)) (row_place 0) (rows_for values))
+  pub is : d ≡ calm (written (fresh_disk (image_length cluster_version slots)) (row_place cluster_version 0) (rows_for values))
   pub long : length (rows_for values) ≡ ROW_LENGTH * length values
 
 -- as it is at first,
-pub no_rows : (slots : ℕ) → HasRows slots [] (calm (fresh_disk (image_length slots)))
-no_rows slots = record { is = ap calm (sym (written_nothing (fresh_disk (image_length slots)) (row_place 0))); long = refl }
+pub no_rows : (slots : ℕ) → HasRows slots [] (calm (fresh_disk (image_length cluster_version slots)))
+no_rows slots = record { is = ap calm (sym (written_nothing (fresh_disk (image_length cluster_version slots)) (row_place cluster_version 0))); long = refl }
 
 -- and with one value more
 pub one_row_more : (slots : ℕ) (values : List (List ℕ)) (value : List ℕ) (old new : SimState) → length values < slots → length (row_for value) ≡ ROW_LENGTH → HasRows slots values old
-    → new ≡ record old { disk = written old.disk (row_place (length values)) (row_for value) } → HasRows slots (values ++ value ∷ []) new
+    → new ≡ record old { disk = written old.disk (row_place cluster_version (length values)) (row_for value) } → HasRows slots (values ++ value ∷ []) new
 unfolding fresh_disk
 one_row_more slots values value old new fits row_long has wrote =
-    let size = image_length slots in
+    let size = image_length cluster_version slots in
     let bytes : length (replicate size 0) ≡ size = length-replicate size 0 in
     let rows = has.long in
-    let place : row_place (length values) ≡ row_place 0 + length (rows_for values) = omega (arith, rows) in
-    let inside : row_place 0 + length (rows_for values) ≤ length (fresh_disk size).bytes = omega (arith, rows, bytes, fits) in
+    let place : row_place cluster_version (length values) ≡ row_place cluster_version 0 + length (rows_for values) = omega (arith, rows) in
+    let inside : row_place cluster_version 0 + length (rows_for values) ≤ length (fresh_disk size).bytes = omega (arith, rows, bytes, fits) in
     let flags : length (fresh_disk size).unsynced ≡ length (fresh_disk size).bytes = length-replicate size false ∙ sym bytes in
     record {
       is =
-          wrote ∙ ap (λ (s : SimState). record s { disk = written s.disk (row_place (length values)) (row_for value) }) has.is
-          ∙ ap (λ (n : ℕ). calm (written (written (fresh_disk size) (row_place 0) (rows_for values)) n (row_for value))) place
-          ∙ ap calm (written_behind (fresh_disk size) (row_place 0) (rows_for values) (row_for value) inside flags)
-          ∙ ap (λ (l : List ℕ). calm (written (fresh_disk size) (row_place 0) l)) (sym (rows_more values value));
+          wrote ∙ ap (λ (s : SimState). record s { disk = written s.disk (row_place cluster_version (length values)) (row_for value) }) has.is
+          ∙ ap (λ (n : ℕ). calm (written (written (fresh_disk size) (row_place cluster_version 0) (rows_for values)) n (row_for value))) place
+          ∙ ap calm (written_behind (fresh_disk size) (row_place cluster_version 0) (rows_for values) (row_for value) inside flags)
+          ∙ ap (λ (l : List ℕ). calm (written (fresh_disk size) (row_place cluster_version 0) l)) (sym (rows_more values value));
       long = ap length (rows_more values value) ∙ (let sum = length-append (rows_for values) (row_for value) in let more = length-append values (value ∷ []) in omega (arith, sum, more, rows, row_long));
     }
 
@@ -99,19 +100,19 @@ one_row_more slots values value old new fits row_long has wrote =
 pub record TakesRow (slots : ℕ) (values : List (List ℕ)) (d : SimState) : Type 0 where
   pub calm : d.failing ≡ None
   pub there : (d.disk.gone ≡ false) × (d.disk.boot ≡ 1)
-  pub room : length d.disk.bytes ≡ image_length slots
+  pub room : length d.disk.bytes ≡ image_length cluster_version slots
 
 pub takes_row : (slots : ℕ) (values : List (List ℕ)) (d : SimState) → length values ≤ slots → HasRows slots values d → TakesRow slots values d
 unfolding fresh_disk
 takes_row slots values d fits has =
-    let size = image_length slots in
+    let size = image_length cluster_version slots in
     let bytes : length (replicate size 0) ≡ size = length-replicate size 0 in
     let rows = has.long in
-    let inside : row_place 0 + length (rows_for values) ≤ length (fresh_disk size).bytes = omega (arith, rows, bytes, fits) in
+    let inside : row_place cluster_version 0 + length (rows_for values) ≤ length (fresh_disk size).bytes = omega (arith, rows, bytes, fits) in
     record {
       calm = ap (λ (s : SimState). s.failing) has.is;
       there = (ap (λ (s : SimState). s.disk.gone) has.is, ap (λ (s : SimState). s.disk.boot) has.is);
-      room = ap (λ (s : SimState). length s.disk.bytes) has.is ∙ length-put_at (fresh_disk size).bytes (row_place 0) (rows_for values) inside ∙ bytes;
+      room = ap (λ (s : SimState). length s.disk.bytes) has.is ∙ length-put_at (fresh_disk size).bytes (row_place cluster_version 0) (rows_for values) inside ∙ bytes;
     }
 
 -- A CLUSTER
@@ -119,7 +120,7 @@ takes_row slots values d fits has =
 -- a migration of nothing leaves zeros
 zeros_left : (c : Shape) → migrated_to (opening_disk c) [] ≡ opening_disk c
 unfolding fresh_disk
-zeros_left c = ap synced (written_nothing (opening_disk c) (row_place 0)) ∙ ap (λ (n : ℕ). record (opening_disk c) { unsynced = replicate n false }) (length-replicate (image_length c.slots) 0)
+zeros_left c = ap synced (written_nothing (opening_disk c) (row_place cluster_version 0)) ∙ ap (λ (n : ℕ). record (opening_disk c) { unsynced = replicate n false }) (length-replicate (image_length cluster_version c.slots) 0)
 
 disks_are : (c : Shape) (log : List Command) (d : ℕ) → d < c.disks → (world c (begun_with c log)).disk d ≡ migrated_to (opening_disk c) log
 disks_are c [] d inside = sym (zeros_left c)

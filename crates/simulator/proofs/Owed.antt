@@ -9,6 +9,7 @@ use Rattle.disk.specs.declared.fault.DiskFault.TheVariants.{Failed}
 use Rattle.disk.specs.Disk.{Call, Answer, Fault}
 use Rattle.disk.specs.Simulated.{SimState, refusal_of, fresh_disk}
 use Rattle.disk.proofs.StepLemmas.{shape_fresh}
+use Rattle.torn_block.specs.Layout.{cluster_version}
 use Rattle.paxos_block.specs.Places.{image_length}
 use Rattle.torn_block.specs.declared.layout.TheConstants.{HOSTS}
 use Rattle.slot_log.specs.Shape.{Shape}
@@ -53,11 +54,11 @@ none_at zero h = refl
 none_at (suc n) zero = refl
 none_at (suc n) (suc h) = none_at n h
 
-pub opens : (c : Shape) (disks : List SimState) (kept : List (Option hosts.Kept)) → disks ≡ replicate c.disks (calm (fresh_disk (image_length c.slots)))
+pub opens : (c : Shape) (disks : List SimState) (kept : List (Option hosts.Kept)) → disks ≡ replicate c.disks (calm (fresh_disk (image_length cluster_version c.slots)))
     → kept ≡ replicate HOSTS None
     → LeadsTo [] (record { shape = c; disks = disks; hosts = kept })
 opens c disks kept are_fresh are_stopped =
-    let x : SimState = calm (fresh_disk (image_length c.slots)) in
+    let x : SimState = calm (fresh_disk (image_length cluster_version c.slots)) in
     let stopped : Option hosts.Kept = None in
     let at : (d : ℕ) (other : SimState) → d < c.disks
     → get_or disks d other ≡ x = λ d other inside. ap (λ (l : List SimState). get_or l d other) are_fresh ∙ get_or-replicate c.disks d x other inside in
@@ -69,7 +70,7 @@ opens c disks kept are_fresh are_stopped =
         disks = at;
         hosts = λ h. subst (λ (o : Option hosts.Kept). IsHost c h Stopped o) (sym (ap (λ (l : List (Option hosts.Kept)). get_or l h None) are_stopped ∙ none_at HOSTS h)) tt;
       };
-      sized = λ d other inside. ap (λ (s : SimState). length s.disk.bytes) (at d other inside) ∙ (shape_fresh (image_length c.slots)).1;
+      sized = λ d other inside. ap (λ (s : SimState). length s.disk.bytes) (at d other inside) ∙ (shape_fresh (image_length cluster_version c.slots)).1;
     }
 
 -- THE PLACE OF A HOST
@@ -117,10 +118,10 @@ module _ (old : Kept) (is : IsReached old) (i : ℕ) (core : hosts.Kept) (found 
 
   -- and its call within that
   pub in_range : (j : ℕ) (x : SimState) (call : code_call.DeviceCall) → j < old.shape.disks → x ≡ get_or old.disks j x
-      → IsWithin (image_length core.learner.shape.slots) call → IsWithin (length x.disk.bytes) call
+      → IsWithin cluster_version (image_length cluster_version core.learner.shape.slots) call → IsWithin cluster_version (length x.disk.bytes) call
   in_range j x call inside value within =
-      let long : length x.disk.bytes ≡ image_length old.shape.slots = ap (λ (s : SimState). length s.disk.bytes) value ∙ is.leads.sized j x inside in
-      subst (λ (n : ℕ). IsWithin n call) (sym long) (subst (λ (c : Shape). IsWithin (image_length c.slots) call) own_shape within)
+      let long : length x.disk.bytes ≡ image_length cluster_version old.shape.slots = ap (λ (s : SimState). length s.disk.bytes) value ∙ is.leads.sized j x inside in
+      subst (λ (n : ℕ). IsWithin cluster_version n call) (sym long) (subst (λ (c : Shape). IsWithin cluster_version (image_length cluster_version c.slots) call) own_shape within)
 
 -- no failure was asked for of any disk
 pub calm_at : (old : Kept) → IsReached old → (j : ℕ) (x : SimState) → j < old.shape.disks → x ≡ get_or old.disks j x → x.failing ≡ None
@@ -163,14 +164,14 @@ module _ (old : Kept) (h : ℕ) (p : Place old h) where
 
     -- a call that is no write is not torn
     pub tears_no_write : IsReached old → (core : hosts.Kept) → o ≡ Some core → (need : Need)
-        → ((c : Shape) (g : ℕ) (m : Memory) → hosts.LeadsTo c g m core → next_in c g m ≡ Some (call_of_need need))
-        → need.disk < core.learner.shape.disks → (given : List ℕ) → 0 < length given → is_write (device_call_of need.call) ≡ false
+        → ((c : Shape) (g : ℕ) (m : Memory) → hosts.LeadsTo c g m core → next_in c g m ≡ Some (call_of_need cluster_version need))
+        → need.disk < core.learner.shape.disks → (given : List ℕ) → 0 < length given → is_write (device_call_of cluster_version need.call) ≡ false
         → (log : List Filled) → LeadsTo log old → Brings log (Tear h given) old old None
     tears_no_write reached core some need next on_its given some_given is_not =
         let found : get_or old.hosts p.i None ≡ Some core = is ∙ some in
         let inside : need.disk < old.shape.disks = on_disk old reached p.i core found need.disk on_its in
         here_is (λ j. Tear j given) old
-        (λ log leads. calls.tears_no_write log old leads p.i core need.disk (device_call_of need.call) (calm ((world old.shape log).disk need.disk)) p.within found next inside
+        (λ log leads. calls.tears_no_write log old leads p.i core need.disk (device_call_of cluster_version need.call) (calm ((world old.shape log).disk need.disk)) p.within found next inside
         (leads.shows.disks need.disk (calm ((world old.shape log).disk need.disk)) inside) given some_given is_not)
 
   pub stops : (log : List Filled) → LeadsTo log old → Brings log (Stop h) old (record old { hosts = set old.hosts p.i None }) None
@@ -199,8 +200,8 @@ pub record Due (old : Kept) (h : ℕ) : Type 0 where
   pub core : hosts.Kept
   pub found : get_or old.hosts at.i None ≡ Some core
   pub need : Need
-  pub next : (c : Shape) (g : ℕ) (m : Memory) → hosts.LeadsTo c g m core → next_in c g m ≡ Some (call_of_need need)
-  pub due : call_of_need need ≡ hosts.due_call core
+  pub next : (c : Shape) (g : ℕ) (m : Memory) → hosts.LeadsTo c g m core → next_in c g m ≡ Some (call_of_need cluster_version need)
+  pub due : call_of_need cluster_version need ≡ hosts.due_call core
   pub j : ℕ
   pub on : j ≡ need.disk
   pub inside : j < old.shape.disks
@@ -219,7 +220,7 @@ module _ (old : Kept) (is : IsReached old) (h : ℕ) (p : Place old h) (o : Opti
   pub is_there : j < length old.disks
   is_there = omega (arith, inside, is.leads.shows.disk_count)
 
-  abbrev pub due_of : ((c : Shape) (g : ℕ) (m : Memory) → hosts.LeadsTo c g m core → next_in c g m ≡ Some (call_of_need need)) → call_of_need need ≡ hosts.due_call core
+  abbrev pub due_of : ((c : Shape) (g : ℕ) (m : Memory) → hosts.LeadsTo c g m core → next_in c g m ≡ Some (call_of_need cluster_version need)) → call_of_need cluster_version need ≡ hosts.due_call core
       → (x : SimState) → x ≡ get_or old.disks j x → Due old h
   due_of next due x is_x = record { at = p; core = core; found = found; need = need; next = next; due = due; j = j; on = on; inside = inside; x = x; value = is_x }
 
@@ -237,7 +238,7 @@ none_said h (Some answer) is = absurd (cc)
 
 module _ (old : Kept) (h : ℕ) (d : Due old h) where
   abbrev call : Call
-  call = device_call_of d.need.call
+  call = device_call_of cluster_version d.need.call
 
   next_at : (c : Shape) (g : ℕ) (m : Memory) → hosts.LeadsTo c g m d.core → next_in c g m ≡ Some (d.j, call)
   next_at c g m leads = d.next c g m leads ∙ ap (λ (k : ℕ). Some (k, call)) (sym d.on)
@@ -251,7 +252,7 @@ module _ (old : Kept) (h : ℕ) (d : Due old h) where
   is_calm is = calm_at old is d.j d.x d.inside d.value
 
   -- and the call is within it
-  pub is_within : IsReached old → IsWithin (image_length d.core.learner.shape.slots) d.need.call → IsWithin (length d.x.disk.bytes) d.need.call
+  pub is_within : IsReached old → IsWithin cluster_version (image_length cluster_version d.core.learner.shape.slots) d.need.call → IsWithin cluster_version (length d.x.disk.bytes) d.need.call
   is_within is within = in_range old is d.at.i d.core d.found d.j d.x d.need.call d.inside d.value within
 
   -- it hears on this disk

@@ -3,6 +3,7 @@ use Rattle.std.specs.Prelude.{◌≡◌, ◌<◌, ◌+◌, ◌-◌, ◌&&◌, �
 use Rattle.std.specs.Option.{option_map}
 use Rattle.disk.specs.Disk.{DiskState, Call}
 use Rattle.disk.specs.Simulated.{SimState, refusal_of}
+use Rattle.torn_block.specs.Layout.{cluster_version}
 use Rattle.paxos_block.specs.Places.{image_length}
 use Rattle.torn_block.specs.declared.layout.TheConstants.{HOSTS}
 use Rattle.slot_log.specs.Shape.{Shape}
@@ -59,7 +60,9 @@ pub record Shows (w : World) (k : Kept) : Type 0 where
 
 -- each disk is as long as an image
 abbrev pub IsSized : Kept → Type 0
-IsSized k = (d : ℕ) (other : SimState) → d < k.shape.disks → length (slice_index_or k.disks d other).disk.bytes ≡ image_length k.shape.slots
+IsSized k =
+    (d : ℕ) (other : SimState) → d < k.shape.disks →
+    length (slice_index_or k.disks d other).disk.bytes ≡ image_length cluster_version k.shape.slots
 
 -- The list leads to this: it is a run, and its world is what is kept.
 pub record LeadsTo (log : List Filled) (k : Kept) : Type 0 where

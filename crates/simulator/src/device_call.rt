@@ -3,6 +3,7 @@ ghost use Rattle.disk.specs.Disk.{Fault};
 ghost use Rattle.disk.specs.declared.fault.DiskFault.TheVariants.{Failed};
 ghost use Rattle.disk.specs.Simulated.{refusal_of};
 ghost use Rattle.attempt.specs.History.{Fits};
+ghost use Rattle.torn_block.specs.Layout.{cluster_version};
 ghost use Rattle.phases.specs.Calls.{device_answer, device_call_of, heard_of, IsWithin};
 ghost use Rattle.world.specs.Entry.{called_by};
 ghost use Rattle.world.specs.Happens.{answer_of, spread_over};
@@ -19,10 +20,12 @@ pub fn make<'a>(
     row: &'a mut [u8; ROW_LENGTH],
 ) -> Heard<'a>
     requires calm { disk.old.failing ≡ None }
-    requires range { IsWithin (length disk.old.disk.bytes) call.now }
-    ensures answer { device_answer result ≡ answer_of disk.old.disk (device_call_of call.now) }
-    ensures fits { Fits (device_call_of call.now) (heard_of result) }
-    ensures disk { disk.new ≡ record disk.old { disk = called_by disk.old.disk (device_call_of call.now) (answer_of disk.old.disk (device_call_of call.now)) [] } }
+    requires range { IsWithin cluster_version (length disk.old.disk.bytes) call.now }
+    ensures answer { device_answer result ≡
+        answer_of disk.old.disk (device_call_of cluster_version call.now) }
+    ensures fits { Fits (device_call_of cluster_version call.now) (heard_of cluster_version result) }
+    ensures disk { disk.new ≡
+        record disk.old { disk = called_by disk.old.disk (device_call_of cluster_version call.now) (answer_of disk.old.disk (device_call_of cluster_version call.now)) [] } }
     ensures size { length disk.new.disk.bytes ≡ length disk.old.disk.bytes }
 {
     answer_of(disk, call, row)
@@ -31,7 +34,7 @@ pub fn make<'a>(
 /// Why a disk would refuse a call, if it would. An attach finds it out, which changes nothing.
 pub fn refusal_of(disk: &mut SimDisk, call: &DeviceCall<'_>) -> Option<DiskFault>
     requires calm { disk.old.failing ≡ None }
-    ensures refusal { result ≡ refusal_of disk.old.disk (device_call_of call.now) }
+    ensures refusal { result ≡ refusal_of disk.old.disk (device_call_of cluster_version call.now) }
     ensures same { disk.new ≡ disk.old }
 {
     let now = match disk.attach() {
@@ -54,10 +57,11 @@ pub fn refusal_of(disk: &mut SimDisk, call: &DeviceCall<'_>) -> Option<DiskFault
 
 /// A call fails, or is torn: the range of a write takes the given bytes.
 pub fn spoil(disk: &mut SimDisk, call: &DeviceCall<'_>, given: &[u8])
-    requires range { IsWithin (length disk.old.disk.bytes) call.now }
+    requires range { IsWithin cluster_version (length disk.old.disk.bytes) call.now }
     requires given { 0 < length given.now }
     ensures size { length disk.new.disk.bytes ≡ length disk.old.disk.bytes }
-    ensures disk { disk.new ≡ record disk.old { disk = called_by disk.old.disk (device_call_of call.now) (Fault Failed) (spread_over (device_call_of call.now) given.now) } }
+    ensures disk { disk.new ≡
+        record disk.old { disk = called_by disk.old.disk (device_call_of cluster_version call.now) (Fault Failed) (spread_over (device_call_of cluster_version call.now) given.now) } }
 {
     if let DeviceCall::Write { at, bytes, .. } = call {
         disk.tear(*at, bytes.len() as u64, given);
@@ -66,7 +70,7 @@ pub fn spoil(disk: &mut SimDisk, call: &DeviceCall<'_>, given: &[u8])
 
 /// Whether the call is a write.
 pub fn is_write(call: &DeviceCall<'_>) -> bool
-    ensures { result ≡ is_write (device_call_of call.now) }
+    ensures { result ≡ is_write (device_call_of cluster_version call.now) }
 {
     match call {
         DeviceCall::Write { .. } => true,

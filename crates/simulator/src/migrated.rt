@@ -2,6 +2,7 @@
 ghost use Rattle.std.specs.Prelude.{◌≡◌, ◌+◌, ◌*◌, ◌≤◌, ◌<◌, ℕ, false, None, Some, IfOk, OnOk, OnErr, length, map, replicate, slice_get, slice_index_or};
 ghost use Rattle.disk.specs.Disk.{written, synced};
 ghost use Rattle.disk.specs.Simulated.{SimState, fresh_disk};
+ghost use Rattle.torn_block.specs.Layout.{cluster_version};
 ghost use Rattle.paxos_block.specs.Places.{image_length, row_place};
 ghost use Rattle.migration.specs.Image.{rows_for};
 ghost use Rattle.lock_command.specs.declared.command.Command.{Command};
@@ -26,7 +27,8 @@ pub fn migrated_disks(
     log: &[Command],
 ) -> Result<Vec<SimDisk>, NoMemory>
     requires { length log.now ≤ config.slots }
-    ensures disks { IfOk result (λ disks. disks.items ≡ replicate config.disks (calm (migrated_to (fresh_disk (image_length config.slots)) log.now))) }
+    ensures disks { IfOk result (λ disks. disks.items ≡
+        replicate config.disks (calm (migrated_to (fresh_disk (image_length cluster_version config.slots)) log.now))) }
     ensures can { IfOk result (λ _. CanBegin (record { shape = config; moved = log.now })) }
 {
     let values = spellings(alloc, log)?;
@@ -48,8 +50,11 @@ pub fn migrate_again(
 ) -> Result<(), NoMemory>
     requires fits { length log.now ≤ config.slots }
     requires many { length disks.old ≡ config.disks }
-    requires sized { (d : ℕ) (other : SimState) → d < config.disks → length (slice_index_or disks.old d other).disk.bytes ≡ image_length config.slots }
-    ensures disks { OnOk result (disks.new ≡ replicate config.disks (calm (migrated_to (fresh_disk (image_length config.slots)) log.now))) }
+    requires sized { (d : ℕ) (other : SimState) → d < config.disks →
+        length (slice_index_or disks.old d other).disk.bytes ≡
+        image_length cluster_version config.slots }
+    ensures disks { OnOk result (disks.new ≡
+        replicate config.disks (calm (migrated_to (fresh_disk (image_length cluster_version config.slots)) log.now))) }
     ensures can { OnOk result (CanBegin (record { shape = config; moved = log.now })) }
     ensures unchanged { OnErr result (disks.new ≡ disks.old) }
 {
@@ -78,7 +83,8 @@ fn spellings(alloc: Global, log: &[Command]) -> Result<Vec<Value>, NoMemory>
 /// A disk of zeros, but for a row for each of these values from the first slot on. Nothing on it is unsynced.
 fn migrated_disk(alloc: Global, config: Config, values: &[Value]) -> Result<SimDisk, NoMemory>
     requires { length values.now ≤ config.slots }
-    ensures { IfOk result (λ disk. disk ≡ calm (synced (written (fresh_disk (image_length config.slots)) (row_place 0) (rows_for values.now)))) }
+    ensures { IfOk result (λ disk. disk ≡
+        calm (synced (written (fresh_disk (image_length cluster_version config.slots)) (row_place cluster_version 0) (rows_for values.now)))) }
 {
     let mut disk = SimDisk::new(alloc, config.image_length())?;
     lay(config, &mut disk, values);
@@ -88,8 +94,9 @@ fn migrated_disk(alloc: Global, config: Config, values: &[Value]) -> Result<SimD
 /// Writes on a disk of zeros a row for each of these values from the first slot on, and syncs it.
 fn lay(config: Config, disk: &mut SimDisk, values: &[Value])
     requires fits { length values.now ≤ config.slots }
-    requires fresh { disk.old ≡ calm (fresh_disk (image_length config.slots)) }
-    ensures { disk.new ≡ calm (synced (written (fresh_disk (image_length config.slots)) (row_place 0) (rows_for values.now))) }
+    requires fresh { disk.old ≡ calm (fresh_disk (image_length cluster_version config.slots)) }
+    ensures { disk.new ≡
+        calm (synced (written (fresh_disk (image_length cluster_version config.slots)) (row_place cluster_version 0) (rows_for values.now))) }
 {
     let boot = Boot { number: 1 };
     for (slot, value) in values.iter().enumerate() {

@@ -1,5 +1,6 @@
 ghost use Rattle.std.specs.Prelude.{◌≡◌, ℕ, List, [], true, false, Some, None, slice_index_or, length, replicate, ◌<◌, ◌≤◌, ◌&&◌, is_none, IsSome, IfOk, OnErr, OnOk};
 ghost use Rattle.disk.specs.Simulated.{fresh_disk};
+ghost use Rattle.torn_block.specs.Layout.{cluster_version};
 ghost use Rattle.paxos_block.specs.Places.{image_length};
 ghost use Rattle.std.specs.Option.{option_map};
 ghost use Rattle.slot_log.specs.Shape.{Shape};
@@ -400,7 +401,8 @@ fn answer_of(host: HostNumber, core: &HostCore) -> Option<Said>
 }
 
 fn fresh_disks(alloc: Global, config: Config) -> Result<Vec<SimDisk>, NoMemory>
-    ensures { IfOk result (λ disks. disks.items ≡ replicate config.disks (calm (fresh_disk (image_length config.slots)))) }
+    ensures { IfOk result (λ disks. disks.items ≡
+        replicate config.disks (calm (fresh_disk (image_length cluster_version config.slots)))) }
 {
     let count = usize::from(config.disks());
     let mut disks = Vec::with_capacity(alloc, count)?;

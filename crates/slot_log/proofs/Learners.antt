@@ -11,14 +11,14 @@ use Rattle.attempt.specs.Status.{Status, Due, Ended, status, taken}
 use Rattle.phases.specs.declared.end.End as code_end
 use Rattle.phases.specs.declared.end.End.TheVariants as end
 use Rattle.phases.specs.Notes.{Notes}
-use Rattle.phases.specs.layouts.Calls.{Ending, end_as, end_of, end_in}
+use Rattle.phases.specs.Calls.{Ending, end_as, end_of, end_in}
 use Rattle.phases.specs.Kept as attempts
 use Rattle.phases.specs.Kept.{end_of_status}
 use Rattle.attempt.specs.Laws.{IsServedAlone}
-use Rattle.slot_log.specs.layouts.Alone.{IsAnsweredAlone}
+use Rattle.slot_log.specs.Alone.{IsAnsweredAlone}
 use Rattle.slot_log.specs.Shape.{Shape}
-use Rattle.slot_log.specs.layouts.Learning.{Operation, Memory, Doing, setup_of, next_in, offered_by, says, does, begins, ended, tries_again, with_floor, with_heard, by_status, hears, takes, judges, offered_in, after_learning, is_placed, learns, goes_on}
-use Rattle.slot_log.specs.layouts.Kept.{LogTask, Kept, LeadsTo, chosen_in, GoesOn, AreDoing, IsDoing, IsOf, IsOver, is_idle, is_idle_with}
+use Rattle.slot_log.specs.Learning.{Operation, Memory, Doing, setup_of, next_in, offered_by, says, does, begins, ended, tries_again, with_floor, with_heard, by_status, hears, takes, judges, offered_in, after_learning, is_placed, learns, goes_on}
+use Rattle.slot_log.specs.Kept.{LogTask, Kept, LeadsTo, chosen_in, GoesOn, AreDoing, IsDoing, IsOf, IsOver, is_idle, is_idle_with}
 use Rattle.slot_log.specs.declared.outcome.LogOutcome.{LogOutcome}
 use Rattle.slot_log.specs.declared.outcome.LogOutcome.TheVariants.{Refused}
 use Rattle.slot_log.specs.declared.outcome.Refusal.TheVariants as refusal

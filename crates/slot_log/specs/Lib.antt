@@ -3,4 +3,3 @@ pub mod Kept
 pub mod Learning
 pub mod Refusals
 pub mod Shape
-pub mod layouts

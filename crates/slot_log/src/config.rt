@@ -1,5 +1,6 @@
 ghost use Rattle.std.specs.Prelude.{◌≡◌, ◌≤◌};
 ghost use Rattle.std.specs.Option.{SomeIff};
+ghost use Rattle.torn_block.specs.Layout.{cluster_version};
 ghost use Rattle.torn_block.specs.declared.layout.TheConstants.{DISKS, SLOTS};
 ghost use Rattle.paxos_block.specs.Places;
 
@@ -56,7 +57,7 @@ impl Config {
 
     /// The bytes that each disk has to have at least.
     pub fn image_length(self) -> u64
-        ensures { result ≡ Places.image_length self.slots }
+        ensures { result ≡ Places.image_length cluster_version self.slots }
     {
         image_length::<ClusterLayout>(u32::from(self.slots))
     }

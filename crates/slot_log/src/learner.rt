@@ -1,12 +1,12 @@
 ghost use Rattle.std.specs.Prelude.{◌≡◌, ◌≤◌, ◌<◌, ◌+◌, ◌++◌, ◌∷◌, [], ℕ, List, true, false, IsTrue, ◌↔◌, IsSome, IfOk, IfSome, Option, Some, None, length, map, max, option_map, if◌then◌else◌};
 ghost use Rattle.torn_block.specs.Layout.{hosts_in};
-ghost use Rattle.paxos_block.specs.layouts.Places.{image_length};
+ghost use Rattle.paxos_block.specs.Places.{image_length};
 ghost use Rattle.attempt.specs.History.{Fits};
-ghost use Rattle.phases.specs.layouts.Calls.{call_of_need, heard_of, end_as, end_of, IsWithin};
+ghost use Rattle.phases.specs.Calls.{call_of_need, heard_as, end_as, end_of, IsWithin};
 ghost use Rattle.phases.specs.Room.{RowFits};
-ghost use Rattle.slot_log.specs.layouts.Alone.{IsAnsweredAlone};
-ghost use Rattle.slot_log.specs.layouts.Kept.{Kept, task_as, chosen_in, LeadsTo, IsSameLog, is_idle, offered_of, due_call, IsOf, IsOver, KeepsLearned};
-ghost use Rattle.slot_log.specs.layouts.Learning.{Memory, operation_as, Doing, fresh, says, does, begins, goes_on, tries_again, ended, hears, takes, with_floor, learns, after_learning, is_idle_in, next_in, offered_in};
+ghost use Rattle.slot_log.specs.Alone.{IsAnsweredAlone};
+ghost use Rattle.slot_log.specs.Kept.{Kept, task_as, chosen_in, LeadsTo, IsSameLog, is_idle, offered_of, due_call, IsOf, IsOver, KeepsLearned};
+ghost use Rattle.slot_log.specs.Learning.{Memory, operation_as, Doing, fresh, says, does, begins, goes_on, tries_again, ended, hears, takes, with_floor, learns, after_learning, is_idle_in, next_in, offered_in};
 ghost use Rattle.slot_log.specs.Shape.{Shape};
 
 use crate::config::Config;
@@ -36,7 +36,7 @@ pub struct Learner<L: Layout> {
 
 impl<L: Layout> Model for Learner<L> {
     ghost use Rattle.std.specs.Prelude.{◌≤◌, vec_capacity};
-    ghost use Rattle.slot_log.specs.layouts.Kept.{Kept, kept_of, IsSound};
+    ghost use Rattle.slot_log.specs.Kept.{Kept, kept_of, IsSound};
 
     ghost Value = { Kept };
 
@@ -151,13 +151,13 @@ impl<L: Layout> Learner<L> {
         requires busy { is_idle self.old ≡ false }
         requires judged { offered_of self.old ≡ None }
         requires room { RowFits L.Value.row }
-        requires fits { Fits (due_call self.old).1 (heard_of L.version L.row_bytes heard.now) }
+        requires fits { Fits (due_call self.old).1 (heard_as L.version L.row_bytes heard.now) }
         ensures leads { (c : Shape) (h : ℕ) (m : Memory) → LeadsTo L.version c h m self.old →
-            LeadsTo L.version c h (hears L.version c h m m.doing (record { disk = (due_call self.old).0; heard = heard_of L.version L.row_bytes heard.now })) self.new }
+            LeadsTo L.version c h (hears L.version c h m m.doing (record { disk = (due_call self.old).0; heard = heard_as L.version L.row_bytes heard.now })) self.new }
         // An attempt ends Committed, Decided, Empty or BallotsSpent, within 17 calls a disk, if most disks answer and no other host
         // makes a call on the slot meanwhile.
         ensures alone { (c : Shape) (h : ℕ) (m : Memory) → LeadsTo L.version c h m self.old →
-            IsAnsweredAlone L.version c h m m.doing (record { disk = (due_call self.old).0; heard = heard_of L.version L.row_bytes heard.now }) }
+            IsAnsweredAlone L.version c h m m.doing (record { disk = (due_call self.old).0; heard = heard_as L.version L.row_bytes heard.now }) }
         ensures same { IsSameLog self.old self.new }
     {
         self.attempt.hear(heard);

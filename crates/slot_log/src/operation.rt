@@ -1,5 +1,5 @@
 ghost use Rattle.std.specs.Prelude.{◌≡◌};
-ghost use Rattle.slot_log.specs.layouts.Learning.{operation_as, is_placed};
+ghost use Rattle.slot_log.specs.Learning.{operation_as, is_placed};
 
 use crate::outcome::{LogOutcome, Refusal};
 use torn_block::Layout;
@@ -23,7 +23,7 @@ pub struct LogTask<V> {
 
 impl<V: Copy> Operation<V> {
     ghost use Rattle.std.specs.Prelude.{◌≡◌, ℕ, List, option_map};
-    ghost use Rattle.slot_log.specs.layouts.Learning.{operation_as, input_of, full_outcome};
+    ghost use Rattle.slot_log.specs.Learning.{operation_as, input_of, full_outcome};
 
     /// What its attempts propose.
     pub fn input(&self) -> Option<V>

@@ -2,6 +2,7 @@ ghost use Rattle.std.specs.Prelude.{◌≡◌, ◌≤◌, All, IfOk, length, vec
 ghost use Rattle.disk.specs.Cut.{cut};
 ghost use Rattle.disk.specs.Disk.{device_of};
 ghost use Rattle.disk.specs.Simulated.{fresh_disk};
+ghost use Rattle.torn_block.specs.Layout.{cluster_version};
 ghost use Rattle.paxos_block.specs.Places.{image_length};
 
 use cluster::Config;
@@ -112,8 +113,11 @@ pub fn pair<'a, R: Clock>(
     flags: &'a Flags,
 ) -> Result<Vec<PairDisk<'a, R>>, NoMemory>
     ensures two { IfOk result (λ disks. vec_len disks ≡ 2) }
-    ensures large { IfOk result (λ disks. All (λ d. image_length config.slots ≤ length d.disk.disk.bytes) disks.items) }
-    ensures fresh { IfOk result (λ disks. All (λ d. cut (image_length config.slots) d.disk.disk ≡ fresh_disk (image_length config.slots)) disks.items) }
+    ensures large { IfOk result (λ disks.
+        All (λ d. image_length cluster_version config.slots ≤ length d.disk.disk.bytes) disks.items) }
+    ensures fresh { IfOk result (λ disks.
+        All (λ d. cut (image_length cluster_version config.slots) d.disk.disk ≡
+        fresh_disk (image_length cluster_version config.slots)) disks.items) }
 {
     let first = pair_disk(rt, alloc, config, flags, true)?;
     let second = pair_disk(rt, alloc, config, flags, false)?;
@@ -130,8 +134,9 @@ fn pair_disk<'a, R: Clock>(
     flags: &'a Flags,
     is_first: bool,
 ) -> Result<PairDisk<'a, R>, NoMemory>
-    ensures large { IfOk result (λ d. image_length config.slots ≤ length d.disk.disk.bytes) }
-    ensures fresh { IfOk result (λ d. cut (image_length config.slots) d.disk.disk ≡ fresh_disk (image_length config.slots)) }
+    ensures large { IfOk result (λ d. image_length cluster_version config.slots ≤ length d.disk.disk.bytes) }
+    ensures fresh { IfOk result (λ d. cut (image_length cluster_version config.slots) d.disk.disk ≡
+        fresh_disk (image_length cluster_version config.slots)) }
 {
     larger_disks_serve();
     Ok(PairDisk {

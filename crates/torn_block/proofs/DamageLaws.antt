@@ -7,12 +7,12 @@ use Rattle.torn_block.specs.Layout.{Version, block_length, body_length, copy_len
 use Rattle.torn_block.proofs.LayoutLaws.{long_copy}
 use Rattle.torn_block.specs.declared.block.Half.{Half}
 use Rattle.torn_block.specs.declared.block.Half.TheVariants.{First, Second}
-use Rattle.torn_block.specs.layouts.Block.{is_open, sequence_of, body_of, tail_with, number_bytes, copy_of}
+use Rattle.torn_block.specs.Block.{is_open, sequence_of, body_of, tail_with, number_bytes, copy_of}
 use Rattle.byteorder.specs.Numbers.{length-bytes_high_first}
 use Rattle.std.proofs.lemmas.List.{length-take}
 use Rattle.torn_block.specs.Numbers.{AreBytes}
 use Rattle.torn_block.proofs.NumberLaws.{AreBytes-drop, AreBytes-take, spelled_8}
-use Rattle.torn_block.specs.layouts.Damage.{first_of, second_of, IsSequence, IsSoundBlock, HasTwins, IsDamagedBlock, is_sequence, has_fault, has_twins, is_damaged}
+use Rattle.torn_block.specs.Damage.{first_of, second_of, IsSequence, IsSoundBlock, HasTwins, IsDamagedBlock, is_sequence, has_fault, has_twins, is_damaged}
 
 pub is_sequence_tells : (number : ℕ) → is_sequence number ≡ true → IsSequence number
 is_sequence_tells number t =

@@ -10,8 +10,8 @@ use Rattle.torn_block.specs.Layout.{Version, block_length, body_length, copy_len
 use Rattle.torn_block.proofs.LayoutLaws.{long_copy}
 use Rattle.torn_block.specs.declared.block.Half.{Half}
 use Rattle.torn_block.specs.declared.block.Half.TheVariants.{First, Second}
-use Rattle.torn_block.specs.layouts.Block.{other, sequence_of, body_of, tail_with, number_bytes}
-use Rattle.torn_block.specs.layouts.Place.{block_in, copy_in, offset_of}
+use Rattle.torn_block.specs.Block.{other, sequence_of, body_of, tail_with, number_bytes}
+use Rattle.torn_block.specs.Place.{block_in, copy_in, offset_of}
 
 pub length-block_in : (v : Version) → (place : ℕ) (bytes : List ℕ) → place + block_length v ≤ length bytes → length (block_in v place bytes) ≡ block_length v
 length-block_in v place bytes within =

@@ -4,12 +4,12 @@ use Rattle.torn_block.specs.declared.block.Half.{Half}
 use Rattle.torn_block.specs.declared.block.Block128.{Block128}
 use Rattle.torn_block.specs.declared.write_steps.WriteCall.{WriteCall}
 use Rattle.torn_block.specs.declared.write_steps.WriteCall.TheVariants.{CloseGate, SyncClosed, PutBody, SyncBody, OpenGate, SyncOpened}
-use Rattle.torn_block.specs.layouts.Block.{tail_with, target_at, target_of, next_number}
-use Rattle.torn_block.specs.layouts.Place.{offset_of}
+use Rattle.torn_block.specs.Block.{tail_with, target_at, target_of, next_number}
+use Rattle.torn_block.specs.Place.{offset_of}
 use Rattle.torn_block.specs.Stage.{Write128, gate_of, new_tail, call_of}
 use Rattle.disk.specs.Disk.{Write}
 use Rattle.std.proofs.Common.{ap, ◌∙◌, refl, arith}
-use Rattle.torn_block.specs.layouts.Plan.{IsReading, Plan, device_call, need_at, plan_by}
+use Rattle.torn_block.specs.Plan.{IsReading, Plan, device_call, need_at, plan_by}
 
 module _ (w : Write128) (read : Block128) (is : IsReading w.version w.block read) where
   abbrev plan : Plan

@@ -10,10 +10,10 @@ use Rattle.disk.specs.Steps.{WritesOn}
 use Rattle.disk.proofs.StepLemmas.{step_keeps}
 use Rattle.torn_block.specs.declared.block.Half.{Half}
 use Rattle.torn_block.specs.declared.block.Half.TheVariants.{First, Second}
-use Rattle.torn_block.specs.layouts.Block.{is_open, sequence_of, choice, value_at, value_by, value_of}
-use Rattle.torn_block.specs.layouts.Place.{block_in, copy_in, offset_of}
+use Rattle.torn_block.specs.Block.{is_open, sequence_of, choice, value_at, value_by, value_of}
+use Rattle.torn_block.specs.Place.{block_in, copy_in, offset_of}
 use Rattle.torn_block.proofs.PlaceLaws.{block_elsewhere, get_or-copy_in}
-use Rattle.torn_block.specs.layouts.Register.{Value, Register, Reads, at_rest, Settles, StandsFor, IsAtRest, LiesOn, IsOutside, LeavesBlock}
+use Rattle.torn_block.specs.Register.{Value, Register, Reads, at_rest, Settles, StandsFor, IsAtRest, LiesOn, IsOutside, LeavesBlock}
 use Rattle.torn_block.specs.Layout.{Version, copy_length}
 use Rattle.torn_block.proofs.LayoutLaws.{long_copy}
 

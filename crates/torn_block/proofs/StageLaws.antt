@@ -12,14 +12,14 @@ use Rattle.torn_block.specs.declared.block.Half.{Half}
 use Rattle.torn_block.specs.declared.block.Half.TheVariants.{First, Second}
 use Rattle.torn_block.specs.declared.write_steps.WriteCall.{WriteCall}
 use Rattle.torn_block.specs.declared.write_steps.WriteCall.TheVariants.{CloseGate, SyncClosed, PutBody, SyncBody, OpenGate, SyncOpened}
-use Rattle.torn_block.specs.layouts.Block.{is_open, sequence_of, body_of, other, copy_of, value_by, value_of, target_of, next_sequence}
-use Rattle.torn_block.specs.layouts.Place.{block_in, copy_in}
+use Rattle.torn_block.specs.Block.{is_open, sequence_of, body_of, other, copy_of, value_by, value_of, target_of, next_sequence}
+use Rattle.torn_block.specs.Place.{block_in, copy_in}
 use Rattle.torn_block.proofs.PlaceLaws.{offset_fits, other_same, tail_same, gate_same, elsewhere_same, nothing_same, length-copy_in, get_or-copy_in, length-tail_with, reads_sequence, reads_body}
 use Rattle.torn_block.proofs.Writing.{closed_first, closed_second, opened_first, opened_second}
 use Rattle.disk.specs.Steps.{WritesOn}
 use Rattle.disk.proofs.StepLemmas.{step_keeps}
 use Rattle.torn_block.proofs.PlaceLaws.{block_read}
-use Rattle.torn_block.specs.layouts.Register.{Reads, StandsFor, IsAtRest, LeavesBlock}
+use Rattle.torn_block.specs.Register.{Reads, StandsFor, IsAtRest, LeavesBlock}
 use Rattle.torn_block.proofs.RegisterLaws.{ranges}
 use Rattle.torn_block.specs.Stage.{Write128, gate_of, closing, new_tail, call_of, next_call, old_value, new_value, MayBe, IsWritten, IsNow, Copies, IsDue, IsDone, Stands, IsPlaced, IsDurable, in_writing}
 

@@ -3,7 +3,7 @@ use Rattle.std.specs.Prelude.{◌≡◌, ◌<◌, ℕ, Bool, true, false, List, 
 use Rattle.std.proofs.Common.{refl, ◌∙◌, ap, arith}
 use Rattle.std.proofs.lemmas.Bool.Decides.{nat_tests}
 use Rattle.torn_block.specs.declared.block.Half.TheVariants.{First, Second}
-use Rattle.torn_block.specs.layouts.Block.{is_open, sequence_of, body_of, choice, current_by, value_at, value_by, target_at, next_sequence_at}
+use Rattle.torn_block.specs.Block.{is_open, sequence_of, body_of, choice, current_by, value_at, value_by, target_at, next_sequence_at}
 
 closed_first_at : (p q r z z' : Bool) (a b c : List ℕ) → target_at (choice p q z) ≡ First → r ≡ false → value_at (choice r q z') c b ≡ value_at (choice p q z) a b
 closed_first_at p q true z z' a b c is closed = cc

@@ -1,23 +1,56 @@
--- Of the headline. When a block is damaged, by a rule for what a sound copy is, in the cluster's layout.
-use Rattle.std.specs.Prelude.{ℕ, List}
-use Rattle.torn_block.specs.Layout.{cluster_version}
-use Rattle.torn_block.specs.layouts.Damage as by
-pub use Rattle.torn_block.specs.layouts.Damage.{IsSequence, is_sequence, has_fault, has_twins, is_damaged}
+-- Of the headline. When a block is damaged, by a rule for what a sound copy is, in each layout.
+use Rattle.std.specs.Prelude.{◌≡◌, ◌≢◌, ◌⊎◌, ◌==◌, ◌&&◌, ◌||◌, ◌≤◌, ◌<◌, ◌*◌, ◌^◌, ℕ, Bool, true, not, nat_le, List}
+use Rattle.torn_block.specs.declared.block.Half.{Half}
+use Rattle.torn_block.specs.declared.block.Half.TheVariants.{First, Second}
+use Rattle.torn_block.specs.Layout.{Version, hosts_in, block_length}
+use Rattle.torn_block.specs.Block.{is_open, sequence_of, copy_of}
+use Rattle.torn_block.specs.Place.{block_in}
 
-abbrev pub first_of : List ℕ → List ℕ
-first_of = by.first_of cluster_version
+abbrev pub first_of : Version → List ℕ → List ℕ
+first_of v block = copy_of v First block
 
-abbrev pub second_of : List ℕ → List ℕ
-second_of = by.second_of cluster_version
+abbrev pub second_of : Version → List ℕ → List ℕ
+second_of v block = copy_of v Second block
 
-abbrev pub IsSoundBlock : (List ℕ → Type 0) → List ℕ → Type 0
-IsSoundBlock = by.IsSoundBlock cluster_version
+-- sequence numbers go from 1 to 2^62
+pub record IsSequence (number : ℕ) : Type 0 where
+  pub from_one : 1 ≤ number
+  pub within : number ≤ 2 ^ 62
 
-abbrev pub IsDamagedBlock : (List ℕ → Type 0) → List ℕ → Type 0
-IsDamagedBlock = by.IsDamagedBlock cluster_version
+-- A block is sound where each open copy is, and no two have one sequence number. Closed copies are not looked at.
+pub record IsSoundBlock (v : Version) (IsSound : List ℕ → Type 0) (block : List ℕ) : Type 0 where
+  pub copies : (half : Half) → is_open (copy_of v half block) ≡ true → IsSound (copy_of v half block)
+  pub apart : is_open (first_of v block) ≡ true → is_open (second_of v block) ≡ true → sequence_of (first_of v block) ≢ sequence_of (second_of v block)
 
-abbrev pub block_of : ℕ → List ℕ → List ℕ
-block_of = by.block_of cluster_version
+-- some open copy is not sound
+abbrev pub HasFault : Version → (List ℕ → Type 0) → List ℕ → Type 0
+HasFault v IsSound block = (half : Half) × (is_open (copy_of v half block) ≡ true) × ¬ IsSound (copy_of v half block)
 
-abbrev pub IsDamaged : (ℕ → List ℕ → Type 0) → List ℕ → Type 0
-IsDamaged = by.IsDamaged cluster_version
+-- both copies are open, with one sequence number
+abbrev pub HasTwins : Version → List ℕ → Type 0
+HasTwins v block = (is_open (first_of v block) ≡ true) × (is_open (second_of v block) ≡ true) × (sequence_of (first_of v block) ≡ sequence_of (second_of v block))
+
+abbrev pub IsDamagedBlock : Version → (List ℕ → Type 0) → List ℕ → Type 0
+IsDamagedBlock v IsSound block = HasFault v IsSound block ⊎ HasTwins v block
+
+-- a host's block among the bytes of a row, or of the heartbeat area
+abbrev pub block_of : Version → ℕ → List ℕ → List ℕ
+block_of v host row = block_in v (block_length v * host) row
+
+-- some host's block is damaged
+abbrev pub IsDamaged : Version → (ℕ → List ℕ → Type 0) → List ℕ → Type 0
+IsDamaged v IsSound row = (host : ℕ) × (host < hosts_in v) × IsDamagedBlock v (IsSound host) (block_of v host row)
+
+-- ---- the same as tests
+
+abbrev pub is_sequence : ℕ → Bool
+is_sequence number = nat_le 1 number && nat_le number (2 ^ 62)
+
+abbrev pub has_fault : (List ℕ → Bool) → List ℕ → Bool
+has_fault is_sound copy = is_open copy && not (is_sound copy)
+
+abbrev pub has_twins : List ℕ → List ℕ → Bool
+has_twins first second = is_open first && is_open second && (sequence_of first == sequence_of second)
+
+abbrev pub is_damaged : (List ℕ → Bool) → List ℕ → List ℕ → Bool
+is_damaged is_sound first second = has_fault is_sound first || has_fault is_sound second || has_twins first second

@@ -6,4 +6,3 @@ pub mod Place
 pub mod Plan
 pub mod Register
 pub mod Stage
-pub mod layouts

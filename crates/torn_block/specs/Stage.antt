@@ -5,9 +5,9 @@ use Rattle.disk.specs.Crash.{MayLeave, IsWhole}
 use Rattle.torn_block.specs.Layout.{Version, body_length, block_length}
 use Rattle.torn_block.specs.declared.write_steps.WriteCall.{WriteCall}
 use Rattle.torn_block.specs.declared.write_steps.WriteCall.TheVariants.{CloseGate, SyncClosed, PutBody, SyncBody, OpenGate, SyncOpened}
-use Rattle.torn_block.specs.layouts.Block.{is_open, tail_with, other, copy_of, value_of, target_of, next_sequence}
-use Rattle.torn_block.specs.layouts.Place.{block_in, copy_in, offset_of}
-use Rattle.torn_block.specs.layouts.Register.{Value, Register, LiesOn}
+use Rattle.torn_block.specs.Block.{is_open, tail_with, other, copy_of, value_of, target_of, next_sequence}
+use Rattle.torn_block.specs.Place.{block_in, copy_in, offset_of}
+use Rattle.torn_block.specs.Register.{Value, Register, LiesOn}
 
 -- A block that is written: its layout and its place, its bytes as its owner read them, and the new body.
 pub record Write128 : Type 0 where

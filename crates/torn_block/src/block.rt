@@ -1,8 +1,8 @@
 ghost use Rattle.std.specs.Prelude.{◌≡◌, ◌≤◌, length, Some};
-ghost use Rattle.torn_block.specs.layouts.Block;
-ghost use Rattle.torn_block.specs.layouts.Block.{sequence_of, current_by};
+ghost use Rattle.torn_block.specs.Block;
+ghost use Rattle.torn_block.specs.Block.{sequence_of, current_by};
 ghost use Rattle.torn_block.specs.Layout.{block_length};
-ghost use Rattle.torn_block.specs.layouts.Plan.{IsReading};
+ghost use Rattle.torn_block.specs.Plan.{IsReading};
 
 use crate::layout::{BODY_ROOM, HEADING_LENGTH, Layout};
 use byteorder::{BigEndian, ByteOrder};

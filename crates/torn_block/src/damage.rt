@@ -1,8 +1,8 @@
 ghost use Rattle.std.specs.Prelude.{◌≡◌, ◌≤◌, ◌↔◌, ℕ, IsTrue, length};
-ghost use Rattle.torn_block.specs.layouts.Block;
-ghost use Rattle.torn_block.specs.layouts.Block.{sequence_of};
-ghost use Rattle.torn_block.specs.layouts.Damage;
-ghost use Rattle.torn_block.specs.layouts.Damage.{IsSequence};
+ghost use Rattle.torn_block.specs.Block;
+ghost use Rattle.torn_block.specs.Block.{sequence_of};
+ghost use Rattle.torn_block.specs.Damage;
+ghost use Rattle.torn_block.specs.Damage.{IsSequence};
 
 use crate::block::{is_open, sequence_in};
 use crate::layout::LAST_SEQUENCE;

@@ -9,10 +9,10 @@ ghost use Rattle.torn_block.specs.declared.layout.TheConstants.{HEADER_LENGTH};
 ghost use Rattle.torn_block.specs.declared.write_steps.WriteCall.{WriteCall};
 ghost use Rattle.torn_block.specs.declared.write_steps.WriteCall.TheVariants.{CloseGate};
 ghost use Rattle.torn_block.specs.Layout.{Version, block_length, row_length};
-ghost use Rattle.torn_block.specs.layouts.Block.{value_of, number_in};
-ghost use Rattle.torn_block.specs.layouts.Place.{block_in};
-ghost use Rattle.torn_block.specs.layouts.Plan.{IsReading, told_number, device_call, need_at, plan_by};
-ghost use Rattle.torn_block.specs.layouts.Register.{Value, Register, Reads, at_rest, Begins, Confirms, Settles, StandsFor, IsAtRest, LiesOn, LeavesBlock};
+ghost use Rattle.torn_block.specs.Block.{value_of, number_in};
+ghost use Rattle.torn_block.specs.Place.{block_in};
+ghost use Rattle.torn_block.specs.Plan.{IsReading, told_number, device_call, need_at, plan_by};
+ghost use Rattle.torn_block.specs.Register.{Value, Register, Reads, at_rest, Begins, Confirms, Settles, StandsFor, IsAtRest, LiesOn, LeavesBlock};
 ghost use Rattle.torn_block.specs.Stage.{Write128, call_of, next_call, in_writing, old_value, new_value, IsPlaced, IsDurable, IsDue, IsDone, Stands};
 
 /// What becomes of the register that a block stands for, on any disk.

@@ -1,8 +1,8 @@
 ghost use Rattle.std.specs.Prelude.{◌≡◌, ◌+◌, ◌*◌, ◌≤◌, ◌^◌, ◌∷◌, ◌↔◌, length, take, IfOk, IsOk, IsTrue, None};
 ghost use Rattle.std.specs.Option.{option_map};
-ghost use Rattle.torn_block.specs.layouts.Block.{number_bytes, tail_with, next_number};
+ghost use Rattle.torn_block.specs.Block.{number_bytes, tail_with, next_number};
 ghost use Rattle.torn_block.specs.Layout.{copy_length, body_length};
-ghost use Rattle.torn_block.specs.layouts.Plan.{told_number, body_in, plan_by, seen_need, LiesWithin, need_of, next_after};
+ghost use Rattle.torn_block.specs.Plan.{told_number, body_in, plan_by, seen_need, LiesWithin, need_of, next_after};
 
 use crate::block::{Block128, Body, Half, OPEN_GATE};
 use crate::layout::{COPY_ROOM, HEADING_LENGTH, LAST_SEQUENCE, Layout};
@@ -52,7 +52,7 @@ pub struct WriteSteps {
 impl Model for WriteSteps {
     ghost use Rattle.std.specs.Prelude.{◌≡◌, ◌≤◌, slice_range, slice_index};
     ghost use Rattle.torn_block.specs.declared.layout.TheConstants.{COPY_ROOM};
-    ghost use Rattle.torn_block.specs.layouts.Plan.{Plan};
+    ghost use Rattle.torn_block.specs.Plan.{Plan};
 
     ghost Value = { Plan };
 

@@ -4,10 +4,10 @@ use Rattle.std.proofs.Common.{refl}
 use Rattle.disk.specs.Disk.{DiskState}
 use Rattle.disk.specs.Simulated.{fresh_disk}
 use Rattle.torn_block.specs.declared.layout.TheConstants.{HOSTS}
-use Rattle.torn_block.specs.layouts.Block.{sequence_of, body_of, number_bytes, tail_with}
-use Rattle.torn_block.specs.layouts.Place.{copy_in}
-use Rattle.paxos_block.specs.layouts.Row.{decoded_row}
-use Rattle.paxos_block.specs.layouts.Saying.{zeros, heading, body_saying, number_at, claim_of, is_said}
+use Rattle.torn_block.specs.Block.{sequence_of, body_of, number_bytes, tail_with}
+use Rattle.torn_block.specs.Place.{copy_in}
+use Rattle.paxos_block.specs.Row.{decoded_row}
+use Rattle.paxos_block.specs.Saying.{zeros, heading, body_saying, number_at, claim_of, is_said}
 use Rattle.lock_modes.specs.declared.mode.Mode.TheVariants.{Exclusive}
 use Rattle.lock_command.specs.declared.command.Command.{Command}
 use Rattle.lock_command.specs.declared.command.Action.TheVariants.{Enqueue}

@@ -7,6 +7,7 @@ use Rattle.disk.specs.declared.fault.DiskFault.TheVariants.{Reset, Failed, Gone}
 use Rattle.disk.specs.Disk.{DiskState, Call, Attach, Read, Write, Sync, Answer, Booted, Told, Done, Fault, written, done_by, put_at}
 use Rattle.disk.specs.Crash.{IsWhole}
 use Rattle.disk.specs.Simulated.{fresh_disk}
+use Rattle.torn_block.specs.Layout.{cluster_version}
 use Rattle.paxos_block.specs.Places.{image_length, row_place}
 use Rattle.migration.specs.Image.{rows_for}
 use Rattle.lock_command.specs.declared.command.Command.{Command}
@@ -65,7 +66,7 @@ step_whole c w k (Crashed d left) on m is =
     let long : length left ≡ length (w.disk d).bytes = m.2.bytes.as_many in
     length-replicate (length (w.disk k).bytes) false ∙ sym (long ∙ ap (λ j. length (w.disk j).bytes) same)
 step_whole c w k (Lost d) on m is = is k
-step_whole c w k (Migrated disks log) on m is = length-replicate (length (written (w.disk k) (row_place 0) (rows_for (map spelling log))).bytes) false
+step_whole c w k (Migrated disks log) on m is = length-replicate (length (written (w.disk k) (row_place cluster_version 0) (rows_for (map spelling log))).bytes) false
 
 -- each disk of the world has a flag for each byte
 abbrev pub AreWhole : Shape → List Filled → Type 0
@@ -73,7 +74,7 @@ AreWhole c log = (k : ℕ) → IsWhole ((world c log).disk k)
 
 whole_first : (c : Shape) → AreWhole c []
 unfolding fresh_disk
-whole_first c k = length-replicate (image_length c.slots) false ∙ sym (length-replicate (image_length c.slots) 0)
+whole_first c k = length-replicate (image_length cluster_version c.slots) false ∙ sym (length-replicate (image_length cluster_version c.slots) 0)
 
 whole_next : (c : Shape) (log : List Filled) (e : Filled) → MayBegin c (world c log) e → AreWhole c log → AreWhole c (log ++ e ∷ [])
 whole_next c log e m is k = elim (cases_Bool (is_on k e)) [

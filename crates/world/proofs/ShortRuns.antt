@@ -3,10 +3,10 @@ use Rattle.std.specs.Prelude.{drop}
 use Rattle.std.proofs.Common.{ℕ, zero, suc, ◌<◌, ◌≡◌, Bool, true, false, cond, Option, Some, None, List, [], ◌∷◌, ◌++◌, slice_get, refl, sym, subst, ap, ◌∙◌, arith}
 use Rattle.std.proofs.lemmas.Bool.{eqb-true}
 use Rattle.disk.specs.Simulated.{fresh_disk}
-use Rattle.torn_block.specs.layouts.Block.{sequence_of, body_of, number_bytes, tail_with}
-use Rattle.torn_block.specs.layouts.Place.{copy_in}
-use Rattle.paxos_block.specs.layouts.Row.{decoded_row}
-use Rattle.paxos_block.specs.layouts.Saying.{zeros, heading, body_saying, number_at, claim_of, is_said}
+use Rattle.torn_block.specs.Block.{sequence_of, body_of, number_bytes, tail_with}
+use Rattle.torn_block.specs.Place.{copy_in}
+use Rattle.paxos_block.specs.Row.{decoded_row}
+use Rattle.paxos_block.specs.Saying.{zeros, heading, body_saying, number_at, claim_of, is_said}
 use Rattle.lock_command.specs.declared.command.Command.{Command}
 use Rattle.lock_command.specs.Command.{number, spelling}
 use Rattle.lock_command.specs.Reading.{lock_at, request_at, mode_of, name_at, enqueue_at, action_at, command_at}

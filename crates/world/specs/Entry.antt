@@ -2,6 +2,7 @@
 use Rattle.std.specs.Prelude.{◌+◌, ◌==◌, ℕ, Bool, false, List, [], ◌∷◌, length, map, replicate, filter, nat_lt}
 use Rattle.disk.specs.declared.fault.DiskFault.TheVariants.{Reset, Failed, Gone}
 use Rattle.disk.specs.Disk.{DiskState, Call, Attach, Read, Write, Sync, Answer, Fault, written, synced, done_by, lost}
+use Rattle.torn_block.specs.Layout.{cluster_version}
 use Rattle.paxos_block.specs.Places.{row_place}
 use Rattle.migration.specs.Image.{rows_for}
 use Rattle.lock_command.specs.declared.command.Command.{Command}
@@ -73,7 +74,7 @@ crashed_to old left = record { bytes = left; unsynced = replicate (length old.by
 
 -- a migration leaves a row for each command, from the first slot on, and nothing unsynced
 abbrev pub migrated_to : DiskState → List Command → DiskState
-migrated_to old log = synced (written old (row_place 0) (rows_for (map spelling log)))
+migrated_to old log = synced (written old (row_place cluster_version 0) (rows_for (map spelling log)))
 
 abbrev pub disk_step : DiskState → Filled → DiskState
 disk_step old (Called h d call answer left) = called_by old call answer left

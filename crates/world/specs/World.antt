@@ -3,6 +3,7 @@ use Rattle.std.specs.Prelude.{◌≡◌, ◌<◌, ◌≤◌, ◌^◌, ℕ, false
 use Rattle.disk.specs.Disk.{DiskState, Call, Attach, Read, Write, Sync, Step, Crashes}
 use Rattle.disk.specs.Disk as device
 use Rattle.disk.specs.Simulated.{fresh_disk}
+use Rattle.torn_block.specs.Layout.{cluster_version}
 use Rattle.torn_block.specs.declared.layout.TheConstants.{HOSTS}
 use Rattle.paxos_block.specs.Places.{image_length}
 use Rattle.lock_command.specs.declared.command.Command.{Command}
@@ -22,7 +23,7 @@ pub record World : Type 0 where
 
 -- at first each disk is an image of zeros
 abbrev pub opening_disk : Shape → DiskState
-opening_disk c = fresh_disk (image_length c.slots)
+opening_disk c = fresh_disk (image_length cluster_version c.slots)
 
 -- Each disk is what the entries on it alone make of the opening one; each host what its own make of a stopped one.
 abbrev pub world : Shape → List Filled → World

@@ -134,7 +134,7 @@ module _ (c : Shape) (w : World) (ms : Moves) (tied : Tied c w ms) (h k : ℕ) (
 
   -- what the call keeps: a marked block is marked behind it
   abbrev pub Keeps : ℕ → ℕ → Type 0
-  Keeps slot host = slot < c.slots → host < HOSTS → AllSay HasMark (place_of (VoteOf slot host)) disk → AllSay HasMark (place_of (VoteOf slot host)) new
+  Keeps slot host = slot < c.slots → host < HOSTS → AllSay HasMark (place_of cluster_version (VoteOf slot host)) disk → AllSay HasMark (place_of cluster_version (VoteOf slot host)) new
 
   -- AN ATTEMPT'S
 
@@ -152,7 +152,7 @@ module _ (c : Shape) (w : World) (ms : Moves) (tied : Tied c w ms) (h k : ℕ) (
     f = on t.heard
 
     abbrev place : ℕ
-    place = place_of (VoteOf (length m.learned) h)
+    place = place_of cluster_version (VoteOf (length m.learned) h)
 
     -- it writes only where nothing was decided
     undecided_in : (p : Phase) → IsIn s p f → (p ≡ Opening → ⊥) → decided s f ≡ None
@@ -185,14 +185,14 @@ module _ (c : Shape) (w : World) (ms : Moves) (tied : Tied c w ms) (h k : ℕ) (
         by (Putting p put) same =
             all_say_by HasMark place disk new
             (refused_stays (call_by s k f (Putting p put)) answer place disk new (step_as (Putting p put) same)
-            (λ under. one_mark (says_of (value_of (block_in place disk.bytes))).mark (marked_before disk.bytes (may_leave_now disk)) (own_free p put same under disk.bytes (may_leave_now disk))))
+            (λ under. one_mark (says_of cluster_version (value_of cluster_version (block_in cluster_version place disk.bytes))).mark (marked_before disk.bytes (may_leave_now disk)) (own_free p put same under disk.bytes (may_leave_now disk))))
             marked_before
 
     -- a block of whatever host
     attempt_keeps : (slot host : ℕ) → Keeps slot host
     attempt_keeps =
         own_or_other (length m.learned) h Keeps (λ slot_below below before. attempt_own before)
-        (λ slot host differ slot_below below before. all_say_by HasMark (place_of (VoteOf slot host)) disk new
+        (λ slot host differ slot_below below before. all_say_by HasMark (place_of cluster_version (VoteOf slot host)) disk new
         (spares_others c.slots (VoteOf (length m.learned) h) (VoteOf slot host) disk new (call_by s k f known.is.kind) answer (known.trying.fits, known.run.below) (slot_below, below) differ known.image known.inside known.step_by).outcomes
         before)
 
@@ -202,7 +202,7 @@ module _ (c : Shape) (w : World) (ms : Moves) (tied : Tied c w ms) (h k : ℕ) (
     beat_keeps : (slot host : ℕ) → Keeps slot host
     beat_keeps slot host slot_below below before =
         let run = running_at c w ms tied h is.memory is.running in
-        all_say_by HasMark (place_of (VoteOf slot host)) disk new
+        all_say_by HasMark (place_of cluster_version (VoteOf slot host)) disk new
         (spares_others c.slots (BeatOf h) (VoteOf slot host) disk new call answer run.below (slot_below, below) (λ equal. absurd (cc)) (tied.images k) (beat_within (beat_of c h) (beat_answers.on heard) k call is.due) step).outcomes
         before
 
@@ -216,7 +216,7 @@ module _ (c : Shape) (w : World) (ms : Moves) (tied : Tied c w ms) (h k : ℕ) (
     a = on t.heard k
 
     abbrev mark_place : ℕ
-    mark_place = place_of (VoteOf t.slot h)
+    mark_place = place_of cluster_version (VoteOf t.slot h)
 
     pub mark_run : IsRunning c w ms h it.memory
     mark_run = running_at c w ms tied h it.memory it.running
@@ -240,9 +240,9 @@ module _ (c : Shape) (w : World) (ms : Moves) (tied : Tied c w ms) (h k : ℕ) (
     mark_step kind same = subst (λ (n : Kind). Step disk (mark.call_by q a n) answer new) same (subst (λ (n : Call). Step disk n answer new) due.call_is step)
 
     -- while it is written it reads as it was read
-    writing_free : (p : Phase) (put : WriteCall) → due.kind ≡ Putting p put → (says_of (old_value (mark.write_on q a)) ≡ (mark.own_block q a).says) → value_of (block_in mark_place disk.bytes) ≡ old_value (mark.write_on q a)
-        → (says_of (value_of (block_in mark_place disk.bytes))).mark ≡ false
-    writing_free p put same old reads = ap (λ (v : Value). (says_of v).mark) reads ∙ ap (λ (says : PBlock). says.mark) old ∙ free p put same
+    writing_free : (p : Phase) (put : WriteCall) → due.kind ≡ Putting p put → (says_of cluster_version (old_value (mark.write_on q a)) ≡ (mark.own_block q a).says) → value_of cluster_version (block_in cluster_version mark_place disk.bytes) ≡ old_value (mark.write_on q a)
+        → (says_of cluster_version (value_of cluster_version (block_in cluster_version mark_place disk.bytes))).mark ≡ false
+    writing_free p put same old reads = ap (λ (v : Value). (says_of cluster_version v).mark) reads ∙ ap (λ (says : PBlock). says.mark) old ∙ free p put same
 
     marking_own : AllSay HasMark mark_place disk → AllSay HasMark mark_place new
     marking_own before = by due.kind refl
@@ -251,11 +251,11 @@ module _ (c : Shape) (w : World) (ms : Moves) (tied : Tied c w ms) (h k : ℕ) (
         calm o = all_say_by HasMark mark_place disk new o before
 
         -- a write is not due there
-        writes : (p : Phase) (put : WriteCall) (same : due.kind ≡ Putting p put) → (boot_of a ≡ disk.boot → (says_of (value_of (block_in mark_place disk.bytes))).mark ≡ false) → AllSay HasMark mark_place new
+        writes : (p : Phase) (put : WriteCall) (same : due.kind ≡ Putting p put) → (boot_of a ≡ disk.boot → (says_of cluster_version (value_of cluster_version (block_in cluster_version mark_place disk.bytes))).mark ≡ false) → AllSay HasMark mark_place new
         writes p put same none =
             all_say_by HasMark mark_place disk new
             (refused_stays (mark.call_by q a (Putting p put)) answer mark_place disk new (mark_step (Putting p put) same)
-            (λ under. one_mark (says_of (value_of (block_in mark_place disk.bytes))).mark (before disk.bytes (may_leave_now disk)) (none (under_is put (mark.write_on q a) (boot_of a) disk.boot under))))
+            (λ under. one_mark (says_of cluster_version (value_of cluster_version (block_in cluster_version mark_place disk.bytes))).mark (before disk.bytes (may_leave_now disk)) (none (under_is put (mark.write_on q a) (boot_of a) disk.boot under))))
             before
 
         by_put : (p : Phase) (put : WriteCall) → due.kind ≡ Putting p put → AllSay HasMark mark_place new
@@ -281,7 +281,7 @@ module _ (c : Shape) (w : World) (ms : Moves) (tied : Tied c w ms) (h k : ℕ) (
     marking_keeps =
         own_or_other t.slot h Keeps (λ slot_below below before. marking_own before)
         (λ slot host differ slot_below below before. (let inside = mark_inside c w ms tied h k call t it (Called h k call answer left) answer step in
-        all_say_by HasMark (place_of (VoteOf slot host)) disk new
+        all_say_by HasMark (place_of cluster_version (VoteOf slot host)) disk new
         (spares_others c.slots (VoteOf t.slot h) (VoteOf slot host) disk new call answer (inside.0, mark_run.below) (slot_below, below) differ (tied.images k) inside.1 step).outcomes
         before))
 
@@ -290,7 +290,7 @@ module _ (c : Shape) (w : World) (ms : Moves) (tied : Tied c w ms) (h k : ℕ) (
   look_keeps : (t : Looking) → IsBusyWith c h k call (w.host h) (Looks t) → (slot host : ℕ) → Keeps slot host
   look_keeps t it slot host slot_below below before =
       let calm = is_calm (look_of c it.memory t.first) (on t.heard) k call it.due in
-      subst (AllSay HasMark (place_of (VoteOf slot host))) (sym (leaves disk call answer left calm)) before
+      subst (AllSay HasMark (place_of cluster_version (VoteOf slot host))) (sym (leaves disk call answer left calm)) before
 
   -- ANY CALL
 

@@ -85,7 +85,7 @@ module _ (c : Shape) (w : World) (ms : Moves) (tied : Tied c w ms) (h k : ℕ) (
   x = heard_as answer
 
   abbrev place : ℕ
-  place = place_of (VoteOf t.slot h)
+  place = place_of cluster_version (VoteOf t.slot h)
 
   run : IsRunning c w ms h it.memory
   run = mark_run c w ms tied h k call answer left next step t it
@@ -112,12 +112,12 @@ module _ (c : Shape) (w : World) (ms : Moves) (tied : Tied c w ms) (h k : ℕ) (
         let go = mark_step c w ms tied h k call answer left next step t it Reading same in
         let shown : (seen_block (told x) h).says.mark ≡ true = ap (λ (r : Option (List DecodedBlock)). (seen_block r h).says.mark) (sym (row_last Opening a x (omega (arith, two)))) ∙ mark_seen in
         let row = told_row x h shown in
-        let rests : IsAtRest place disk = mark_known c w ms tied h k call answer left next step t it Reading same (boot_is Reading same (inl refl)) in
-        let leaves : new ≡ disk = read_leaves disk new (boot_of a) (row_place s.slot) ROW_LENGTH answer go in
+        let rests : IsAtRest cluster_version place disk = mark_known c w ms tied h k call answer left next step t it Reading same (boot_is Reading same (inl refl)) in
+        let leaves : new ≡ disk = read_leaves disk new (boot_of a) (row_place cluster_version s.slot) ROW_LENGTH answer go in
         let before : MayLeave disk bytes = subst (λ (q : DiskState). MayLeave q bytes) leaves may in
-        let seen : seen_at row.0 h ≡ seen_in (block_in place disk.bytes) =
-        said_sees cluster_version (row_of s.slot disk.bytes) row.0 h run.below (row_told disk new (boot_of a) s.slot answer row.0 go row.1) ∙ ap seen_in (block_of-row_of cluster_version s.slot h disk.bytes run.below) in
-        ap (λ (block : List ℕ). (says_of (value_of block)).mark) (rests bytes before) ∙ ap (λ (b : DecodedBlock). b.says.mark) (sym seen) ∙ ap (λ (y : Heard). (seen_block (told y) h).says.mark) (sym row.1) ∙ shown
+        let seen : seen_at row.0 h ≡ seen_in cluster_version (block_in cluster_version place disk.bytes) =
+        said_sees cluster_version (row_of cluster_version s.slot disk.bytes) row.0 h run.below (row_told disk new (boot_of a) s.slot answer row.0 go row.1) ∙ ap (seen_in cluster_version) (block_of-row_of cluster_version s.slot h disk.bytes run.below) in
+        ap (λ (block : List ℕ). (says_of cluster_version (value_of cluster_version block)).mark) (rests bytes before) ∙ ap (λ (b : DecodedBlock). b.says.mark) (sym seen) ∙ ap (λ (y : Heard). (seen_block (told y) h).says.mark) (sym row.1) ∙ shown
 
     -- the write is over
     written : length a ≡ 8 → AllSay HasMark place new
@@ -131,7 +131,7 @@ module _ (c : Shape) (w : World) (ms : Moves) (tied : Tied c w ms) (h k : ℕ) (
         let placed = mark_placed c.slots s a disk image inside.0 run.below known.can in
         let placed_then = mark_placed c.slots s a new image_then inside.0 run.below known.can in
         let over = done_leads_on (mark.write_on s a) disk placed SyncOpened (boot_of a) new known.due (done_step answer go fine) in
-        ap (λ (v : Value). (says_of v).mark) (done_reads (mark.write_on s a) new placed_then over bytes may)
+        ap (λ (v : Value). (says_of cluster_version v).mark) (done_reads (mark.write_on s a) new placed_then over bytes may)
         ∙ ap (λ (q : PBlock). q.mark) (claims_back cluster_version (mark.with_mark (mark.own_block s a).says) h known.can.is_write.may_say)
       where
         done_step : (b : Answer) → Step disk (call_of SyncOpened (mark.write_on s a) (boot_of a)) b new → is_bad (heard_as b) ≡ false → Step disk (call_of SyncOpened (mark.write_on s a) (boot_of a)) Done new
@@ -210,6 +210,6 @@ module _ (c : Shape) (w : World) (ms : Moves) (tied : Tied c w ms) (h : ℕ) (e 
         subst (λ (f : Answers). (d : ℕ) → Counts h (f d) → IsMarkedOn w' t.slot h d) (sym (on_more t.heard x_of))
         (by_disk (on t.heard) k (heard_as answer) (λ d a. Counts h a → IsMarkedOn w' t.slot h d)
         (λ counts. (let here = call_marks c w ms tied h k call answer left may_call.0 may_call.1 t it counts in
-        subst (λ (f : Filled). AllSay HasMark (place_of (VoteOf t.slot h)) ((next_world c w f).disk k)) (sym same)
-        (subst (λ (disk : DiskState). AllSay HasMark (place_of (VoteOf t.slot h)) disk) (sym (called_disk c w h k call answer left)) here)))
+        subst (λ (f : Filled). AllSay HasMark (place_of cluster_version (VoteOf t.slot h)) ((next_world c w f).disk k)) (sym same)
+        (subst (λ (disk : DiskState). AllSay HasMark (place_of cluster_version (VoteOf t.slot h)) disk) (sym (called_disk c w h k call answer left)) here)))
         (λ d off. before d))

@@ -4,6 +4,7 @@ use Rattle.std.proofs.Common.{ℕ, zero, ◌<◌, ◌≡◌, inl, inr, Some, Lis
 use Rattle.disk.specs.Disk.{Call, Answer}
 use Rattle.disk.specs.Simulated.{fresh_disk}
 use Rattle.disk.proofs.CrashLemmas.{may_leave_now}
+use Rattle.torn_block.specs.Layout.{cluster_version}
 use Rattle.paxos_block.specs.Places.{image_length}
 use Rattle.torn_block.specs.declared.layout.TheConstants.{HOSTS}
 use Rattle.slot_log.specs.Shape.{Shape}
@@ -83,9 +84,9 @@ module _ (c : Shape) (log : List Filled) (run : IsRun c log) where
         | inl may ↦ entry_keeps c (at c log i) (moves_at c log run i) (tied_at c log run i) (IsChosenBefore c log i) (λ h. known_of i h all) slot host d slot_below below before e may
         | inr migration ↦
             (let first = migrated_first c log i c.disks migration.commands run (is ∙ ap Some migration.is) in
-            let fresh = fresh_disk (image_length c.slots) in
+            let fresh = fresh_disk (image_length cluster_version c.slots) in
             let marked : IsMarkedOn (at c log zero) slot host d = subst (λ (j : ℕ). IsMarkedOn (at c log j) slot host d) first before in
-            absurd (fresh_unmarked (image_length c.slots) slot host fresh.bytes (may_leave_now fresh) (marked fresh.bytes (may_leave_now fresh))))
+            absurd (fresh_unmarked (image_length cluster_version c.slots) slot host fresh.bytes (may_leave_now fresh) (marked fresh.bytes (may_leave_now fresh))))
       ]
 
   -- so it is at each place

@@ -4,6 +4,7 @@ use Rattle.std.proofs.Common.{ℕ, ◌<◌, ◌≤◌, ◌≡◌, inl, inr, true
 use Rattle.std.proofs.lemmas.Bool.{cases_order}
 use Rattle.disk.specs.Disk.{DiskState, Call, Answer}
 use Rattle.disk.proofs.CrashLemmas.{may_leave_now}
+use Rattle.torn_block.specs.Layout.{cluster_version}
 use Rattle.torn_block.specs.declared.layout.TheConstants.{HOSTS}
 use Rattle.torn_block.specs.Block.{value_of}
 use Rattle.torn_block.specs.Place.{block_in}
@@ -73,12 +74,12 @@ module _ (c : Shape) (log : List Filled) (run : IsRun c log) (i slot g : ℕ) (s
 
     -- a row that is told holds the blocks of the slot
     abbrev Holds : Type 0
-    Holds = (row : List DecodedBlock) → x ≡ answers.Told (Some row) → seen_at row g ≡ seen_in (block_in (place_of (VoteOf (length m.learned) g)) (w.disk k).bytes)
+    Holds = (row : List DecodedBlock) → x ≡ answers.Told (Some row) → seen_at row g ≡ seen_in cluster_version (block_in cluster_version (place_of cluster_version (VoteOf (length m.learned) g)) (w.disk k).bytes)
 
     row_shows : Holds → length m.learned ≡ slot → IsMarkedOn (at c log i) slot g k → (row : List DecodedBlock) → x ≡ answers.Told (Some row) → IsMarkShown (says_in row g)
     row_shows holds same marked row tells =
-        let says : says_in row g ≡ says_of (value_of (block_in (place_of (VoteOf slot g)) (w.disk k).bytes)) =
-        ap (λ (b : DecodedBlock). b.says) (holds row tells) ∙ ap (λ (q : ℕ). says_of (value_of (block_in (place_of (VoteOf q g)) (w.disk k).bytes))) same in
+        let says : says_in row g ≡ says_of cluster_version (value_of cluster_version (block_in cluster_version (place_of cluster_version (VoteOf slot g)) (w.disk k).bytes)) =
+        ap (λ (b : DecodedBlock). b.says) (holds row tells) ∙ ap (λ (q : ℕ). says_of cluster_version (value_of cluster_version (block_in cluster_version (place_of cluster_version (VoteOf q g)) (w.disk k).bytes))) same in
         let has = stays_marked c log run i j slot g k later slot_below below marked (w.disk k).bytes (may_leave_now (w.disk k)) in
         let true_mark = all_marks_true c log run j slot g k slot_below below (w.disk k).bytes (may_leave_now (w.disk k)) has in
         subst IsMarkShown (sym says) (record { mark = has; value = true_mark.0; inp = true_mark.1 })

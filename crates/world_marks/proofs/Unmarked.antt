@@ -4,6 +4,7 @@ use Rattle.std.proofs.Common.{ℕ, zero, suc, ◌≤◌, ◌≡◌, inl, inr, Bo
 use Rattle.std.proofs.lemmas.Bool.{cases_lt}
 use Rattle.disk.specs.declared.fault.DiskFault.TheVariants.{Reset, Failed, Gone}
 use Rattle.disk.specs.Disk.{DiskState, Call, Attach, Read, Write, Sync, Answer, Booted, Told, Done, Fault, done_by}
+use Rattle.torn_block.specs.Layout.{cluster_version}
 use Rattle.torn_block.specs.Block.{value_of}
 use Rattle.torn_block.specs.Place.{block_in}
 use Rattle.paxos_block.specs.Saying.{Said as PBlock}
@@ -40,7 +41,7 @@ HasMark says = says.mark ≡ true
 -- that has none.
 abbrev pub Unmarked : World → ℕ → ℕ → List Answered → Type 0
 Unmarked w h slot heard =
-    (d : ℕ) → IsCurrent (w.disk d) (on heard d) → (row : List DecodedBlock) → row_in Opening (on heard d) ≡ Some row → (says_in row h).mark ≡ false → AllSay HasNone (place_of (VoteOf slot h)) (w.disk d)
+    (d : ℕ) → IsCurrent (w.disk d) (on heard d) → (row : List DecodedBlock) → row_in Opening (on heard d) ≡ Some row → (says_in row h).mark ≡ false → AllSay HasNone (place_of cluster_version (VoteOf slot h)) (w.disk d)
 
 pub nothing_read : (w : World) (h slot : ℕ) → Unmarked w h slot []
 nothing_read w h slot d is row read none = absurd (cc)
@@ -109,7 +110,7 @@ module _ (c : Shape) (w : World) (ms : Moves) (tied : Tied c w ms) (e : Filled) 
     trying = subst (IsDoing c w ms h m) does run.doing
 
     abbrev place : ℕ
-    place = place_of (VoteOf (length m.learned) h)
+    place = place_of cluster_version (VoteOf (length m.learned) h)
 
     -- it has learned nothing for the slot that it tries
     not_learned : (says : PBlock) → HasLearned w h (length m.learned) says → ⊥
@@ -121,9 +122,9 @@ module _ (c : Shape) (w : World) (ms : Moves) (tied : Tied c w ms) (e : Filled) 
     -- so the entry marks no block of its own
     stays_unmarked : (d : ℕ) → AllSay HasNone place (w.disk d) → AllSay HasNone place (w'.disk d)
     stays_unmarked d none bytes left =
-        not_marked (says_of (value_of (block_in place bytes))).mark
+        not_marked (says_of cluster_version (value_of cluster_version (block_in cluster_version place bytes))).mark
         (λ marked. elim (keeps (length m.learned) h d trying.fits run.below bytes left marked) [
-          | inl before ↦ one_mark (says_of (value_of (block_in place bytes))).mark marked (ap (λ (says : PBlock). says.mark) (sym before.2) ∙ none before.0 before.1)
+          | inl before ↦ one_mark (says_of cluster_version (value_of cluster_version (block_in cluster_version place bytes))).mark marked (ap (λ (says : PBlock). says.mark) (sym before.2) ∙ none before.0 before.1)
           | inr has ↦ not_learned _ has
         ])
 
@@ -164,7 +165,7 @@ module _ (c : Shape) (w : World) (ms : Moves) (tied : Tied c w ms) (e : Filled) 
           let there = is_next_read s (on t.heard) k (w.disk k) new answer known.is.kind good known.is.kind_is known.is.fits known.step_by row tells run.below in
           let rests = (trying.knows k).next here Reading there in
           let seen = seen_is s (on t.heard) k (w.disk k) new answer known.is.kind good known.is.kind_is known.is.fits known.step_by row tells run.below h run.below in
-          ap (λ (block : List ℕ). (says_of (value_of block)).mark) (rests bytes may_be) ∙ ap (λ (b : DecodedBlock). b.says.mark) (sym seen) ∙ none
+          ap (λ (block : List ℕ). (says_of cluster_version (value_of cluster_version block)).mark) (rests bytes may_be) ∙ ap (λ (b : DecodedBlock). b.says.mark) (sym seen) ∙ none
 
       here_then : IsCurrent (w'.disk k) (a ++ x ∷ []) → (row : List DecodedBlock) → row_in Opening (a ++ x ∷ []) ≡ Some row → (says_in row h).mark ≡ false → AllSay HasNone place (w'.disk k)
       here_then is row read none = elim (cases_lt (length a) 3) [

@@ -1,5 +1,6 @@
 -- When a block stays marked, when a slot is marked on most disks, and what attempts and looks find of that.
 use Rattle.std.specs.Prelude.{◌≡◌, ◌⊎◌, ◌*◌, ◌+◌, ◌<◌, ◌≤◌, ℕ, Bool, true, List, [], length, slice_get, Some}
+use Rattle.torn_block.specs.Layout.{cluster_version}
 use Rattle.torn_block.specs.declared.layout.TheConstants.{HOSTS}
 use Rattle.paxos_block.specs.Places.{VoteOf, place_of}
 use Rattle.attempt.specs.Answers.{Answered, on}
@@ -23,7 +24,7 @@ use Rattle.world_safety.specs.Marks.{AllSay}
 
 -- Whatever a crash now may make of the host's block of the slot on this disk, it is marked.
 abbrev pub IsMarkedOn : World → (slot host d : ℕ) → Type 0
-IsMarkedOn w slot host d = AllSay (λ says. says.mark ≡ true) (place_of (VoteOf slot host)) (w.disk d)
+IsMarkedOn w slot host d = AllSay (λ says. says.mark ≡ true) (place_of cluster_version (VoteOf slot host)) (w.disk d)
 
 -- Once it is so, it is so for good: behind each later entry, be it a crash, a loss, or a call of whatever host.
 abbrev pub StaysMarked : Shape → List Filled → Type 0

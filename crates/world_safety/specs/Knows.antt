@@ -2,6 +2,7 @@
 use Rattle.std.specs.Prelude.{◌≡◌, ◌≤◌, ℕ, true, List, length, Some}
 use Rattle.disk.specs.Disk.{DiskState}
 use Rattle.disk.specs.Crash.{MayLeave}
+use Rattle.torn_block.specs.Layout.{cluster_version}
 use Rattle.torn_block.specs.declared.layout.TheConstants.{BLOCK_LENGTH, BODY_LENGTH}
 use Rattle.torn_block.specs.declared.write_steps.WriteCall.{WriteCall}
 use Rattle.torn_block.specs.declared.write_steps.WriteCall.TheVariants.{CloseGate, SyncClosed, PutBody, SyncBody, OpenGate, SyncOpened}
@@ -21,7 +22,7 @@ use Rattle.world_safety.specs.Blocks.{said}
 
 -- where the attempt's own block stands
 abbrev pub own_place : Setup → ℕ
-own_place s = place_of (VoteOf s.slot s.host)
+own_place s = place_of cluster_version (VoteOf s.slot s.host)
 
 -- a write that the host may make
 pub record CanWrite (host : ℕ) (says : PBlock) (w : Write128) : Type 0 where
@@ -45,9 +46,10 @@ Writes s p d f call disk cell = IsWriting s.host (says_for s p f) (write_on s p 
 abbrev pub KnowsFor : Kind → DiskState → Setup → Answers → ℕ → Cell (List ℕ) → Type 0
 KnowsFor Attaching disk s f d cell = Unit {0}
 KnowsFor Syncing disk s f d cell = Unit {0}
-KnowsFor Reading disk s f d cell = IsAtRest (own_place s) disk
+KnowsFor Reading disk s f d cell = IsAtRest cluster_version (own_place s) disk
 KnowsFor (Putting p CloseGate) disk s f d cell =
-    (bytes : List ℕ) → MayLeave disk bytes → seen_in (block_in (own_place s) bytes) ≡ seen_block (last_row (f d)) s.host
+    (bytes : List ℕ) → MayLeave disk bytes →
+    seen_in cluster_version (block_in cluster_version (own_place s) bytes) ≡ seen_block (last_row (f d)) s.host
 KnowsFor (Putting p SyncClosed) disk s f d cell = Writes s p d f SyncClosed disk cell
 KnowsFor (Putting p PutBody) disk s f d cell = Writes s p d f PutBody disk cell
 KnowsFor (Putting p SyncBody) disk s f d cell = Writes s p d f SyncBody disk cell

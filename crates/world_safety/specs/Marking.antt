@@ -2,6 +2,7 @@
 use Rattle.std.specs.Prelude.{◌≡◌, ◌<◌, ◌≤◌, ℕ, true, List, length, slice_get, Some}
 use Rattle.disk.specs.Crash.{MayLeave}
 use Rattle.disk.specs.Disk.{DiskState}
+use Rattle.torn_block.specs.Layout.{cluster_version}
 use Rattle.torn_block.specs.declared.write_steps.WriteCall.{WriteCall}
 use Rattle.torn_block.specs.declared.write_steps.WriteCall.TheVariants.{CloseGate, SyncClosed, PutBody, SyncBody, OpenGate, SyncOpened}
 use Rattle.torn_block.specs.Place.{block_in}
@@ -22,21 +23,22 @@ use Rattle.world_safety.specs.Knows.{CanWrite, IsCurrent}
 
 -- where the block stands that is marked
 abbrev pub marked_place : mark.Setup → ℕ
-marked_place s = place_of (VoteOf s.slot s.host)
+marked_place s = place_of cluster_version (VoteOf s.slot s.host)
 
 -- a call of the write is due, but for its first
 pub record IsMarking (s : mark.Setup) (a : List Heard) (call : WriteCall) (disk : DiskState) : Type 0 where
   pub due : IsDue call (write_on s a) disk
   pub can : CanWrite s.host (with_mark (own_block s a).says) (write_on s a)
-  pub old : says_of (old_value (write_on s a)) ≡ (own_block s a).says
+  pub old : says_of cluster_version (old_value (write_on s a)) ≡ (own_block s a).says
 
 -- By the call that is next: a row that it will read is of a block at rest; a write that it will begin is over the block as it was read; and a
 -- write goes on where it stopped.
 abbrev pub KnowsMarkFor : Kind → DiskState → mark.Setup → List Heard → Type 0
 KnowsMarkFor Attaching disk s a = Unit {0}
 KnowsMarkFor Syncing disk s a = Unit {0}
-KnowsMarkFor Reading disk s a = IsAtRest (marked_place s) disk
-KnowsMarkFor (Putting p CloseGate) disk s a = (bytes : List ℕ) → MayLeave disk bytes → seen_in (block_in (marked_place s) bytes) ≡ own_block s a
+KnowsMarkFor Reading disk s a = IsAtRest cluster_version (marked_place s) disk
+KnowsMarkFor (Putting p CloseGate) disk s a =
+    (bytes : List ℕ) → MayLeave disk bytes → seen_in cluster_version (block_in cluster_version (marked_place s) bytes) ≡ own_block s a
 KnowsMarkFor (Putting p SyncClosed) disk s a = IsMarking s a SyncClosed disk
 KnowsMarkFor (Putting p PutBody) disk s a = IsMarking s a PutBody disk
 KnowsMarkFor (Putting p SyncBody) disk s a = IsMarking s a SyncBody disk
@@ -53,4 +55,4 @@ pub record IsMarkingSlot (c : Shape) (w : World) (h : ℕ) (m : Memory) (t : Mar
   pub learned : t.slot < length m.learned
   pub fits : t.slot < c.slots
   pub knows : (d : ℕ) → KnowsMark (w.disk d) (marking_of c h m t.slot) (on t.heard d)
-  pub votes : (d : ℕ) → TellsVotes (on t.heard d)
+  pub votes : (d : ℕ) → TellsVotes cluster_version (on t.heard d)

@@ -2,6 +2,7 @@
 use Rattle.std.specs.Prelude.{◌≡◌, ◌⊎◌, ◌<◌, ℕ, true, List, slice_get, Some}
 use Rattle.disk.specs.Crash.{MayLeave}
 use Rattle.disk.specs.Disk.{DiskState}
+use Rattle.torn_block.specs.Layout.{cluster_version}
 use Rattle.torn_block.specs.Block.{value_of}
 use Rattle.torn_block.specs.Place.{block_in}
 use Rattle.torn_block.specs.declared.layout.TheConstants.{HOSTS}
@@ -22,15 +23,20 @@ IsMarkTrue Known says = says.mark ≡ true → (value : List ℕ) × (says.inp �
 
 -- whatever a crash may make of the block at this place, it says this alone
 abbrev pub AllSay : (PBlock → Type 0) → ℕ → DiskState → Type 0
-AllSay P place disk = (bytes : List ℕ) → MayLeave disk bytes → P (says_of (value_of (block_in place bytes)))
+AllSay P place disk =
+    (bytes : List ℕ) → MayLeave disk bytes → P (says_of cluster_version (value_of cluster_version (block_in cluster_version place bytes)))
 
 -- so it may say now, or after a crash now
 abbrev pub MaySayOn : ℕ → DiskState → PBlock → Type 0
-MaySayOn place disk says = (bytes : List ℕ) × MayLeave disk bytes × (says_of (value_of (block_in place bytes)) ≡ says)
+MaySayOn place disk says =
+    (bytes : List ℕ) × MayLeave disk bytes ×
+    (says_of cluster_version (value_of cluster_version (block_in cluster_version place bytes)) ≡ says)
 
 -- The marks of all hosts' blocks of all slots on all disks are true, now and after a crash now,
 abbrev pub AllMarksTrue : Shape → World → (ℕ → List ℕ → Type 0) → Type 0
-AllMarksTrue c w Known = (slot host d : ℕ) → slot < c.slots → host < HOSTS → AllSay (IsMarkTrue (Known slot)) (place_of (VoteOf slot host)) (w.disk d)
+AllMarksTrue c w Known =
+    (slot host d : ℕ) → slot < c.slots → host < HOSTS →
+    AllSay (IsMarkTrue (Known slot)) (place_of cluster_version (VoteOf slot host)) (w.disk d)
 
 -- those of a row,
 abbrev pub ShowsTrueMarks : (List ℕ → Type 0) → List DecodedBlock → Type 0
@@ -56,4 +62,6 @@ pub record HasLearned (w : World) (h slot : ℕ) (says : PBlock) : Type 0 where
 abbrev pub KeepsMarks : Shape → World → World → Type 0
 KeepsMarks c w w' =
     (slot host d : ℕ) → slot < c.slots → host < HOSTS
-    → AllSay (λ says. says.mark ≡ true → MaySayOn (place_of (VoteOf slot host)) (w.disk d) says ⊎ HasLearned w host slot says) (place_of (VoteOf slot host)) (w'.disk d)
+    → AllSay
+    (λ says. says.mark ≡ true → MaySayOn (place_of cluster_version (VoteOf slot host)) (w.disk d) says ⊎ HasLearned w host slot says)
+    (place_of cluster_version (VoteOf slot host)) (w'.disk d)

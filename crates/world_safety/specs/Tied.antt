@@ -1,5 +1,6 @@
 -- What holds after each list of entries: the machines of the slots have come to where hosts and disks stand.
 use Rattle.std.specs.Prelude.{◌≡◌, ◌≢◌, ◌<◌, ℕ, List, [], length, map, Option, Some}
+use Rattle.torn_block.specs.Layout.{cluster_version}
 use Rattle.torn_block.specs.declared.layout.TheConstants.{HOSTS}
 use Rattle.paxos_block.specs.Places.{IsImage}
 use Rattle.attempt.specs.Answers.{on}
@@ -28,8 +29,8 @@ pub record IsTrying (c : Shape) (w : World) (ms : Moves) (h : ℕ) (m : Memory) 
   pub fits : length m.learned < c.slots
   pub follows : Follows (setup_of c h m t.operation) t.heard (machine ms (length m.learned))
   pub knows : (d : ℕ) → Knows (w.disk d) (setup_of c h m t.operation) (on t.heard) d ((machine ms (length m.learned)).cell h d)
-  pub votes : (d : ℕ) → TellsVotes (on t.heard d)
-  pub input : IsLong (input_of t.operation)
+  pub votes : (d : ℕ) → TellsVotes cluster_version (on t.heard d)
+  pub input : IsLong cluster_version (input_of t.operation)
 
 -- an attempt and a marking are tied; what a look or a beat hears is not
 abbrev pub IsDoing : Shape → World → Moves → ℕ → Memory → Option Doing → Type 0
@@ -55,12 +56,12 @@ AllStand c w ms = (slot h d : ℕ) → slot < c.slots → h < HOSTS → Stands (
 -- all of it, but for what is said of one host
 pub record TiedBut (c : Shape) (w : World) (ms : Moves) (h : ℕ) : Type 0 where
   pub history : IsHistory c.disks ms
-  pub images : (d : ℕ) → IsImage c.slots (w.disk d)
+  pub images : (d : ℕ) → IsImage cluster_version c.slots (w.disk d)
   pub stands : AllStand c w ms
   pub others : (g : ℕ) → g ≢ h → HostAt c w ms g (w.host g)
 
 pub record Tied (c : Shape) (w : World) (ms : Moves) : Type 0 where
   pub history : IsHistory c.disks ms
-  pub images : (d : ℕ) → IsImage c.slots (w.disk d)
+  pub images : (d : ℕ) → IsImage cluster_version c.slots (w.disk d)
   pub stands : AllStand c w ms
   pub hosts : (h : ℕ) → HostAt c w ms h (w.host h)

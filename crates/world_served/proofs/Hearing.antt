@@ -4,6 +4,7 @@ use Rattle.std.proofs.Common.{ℕ, ◌<◌, ◌≡◌, ◌≢◌, ◌==◌, inl,
 use Rattle.std.proofs.lemmas.Bool.{both_ways, cases_eq, eq-eqb, eqb-true, ne_eqb}
 use Rattle.disk.specs.declared.fault.DiskFault.TheVariants.{Failed}
 use Rattle.disk.specs.Disk.{DiskState, Call, Answer, Fault, Step}
+use Rattle.torn_block.specs.Layout.{cluster_version}
 use Rattle.torn_block.specs.declared.layout.TheConstants.{HOSTS}
 use Rattle.paxos_block.specs.Saying.{Said as PBlock}
 use Rattle.paxos_block.specs.Places.{BeatOf, VoteOf, place_of, row_of}
@@ -146,7 +147,7 @@ module _ (c : Shape) (w : World) (ms : Moves) (tied : Tied c w ms) (h : ℕ) (m 
       new = disk_step (w.disk k) e
 
       mine : ℕ → ℕ → ℕ
-      mine j o = place_of (VoteOf j o)
+      mine j o = place_of cluster_version (VoteOf j o)
 
       below : g < HOSTS
       below = (running_at c w ms tied g marks.memory marks.running).below
@@ -179,7 +180,7 @@ module _ (c : Shape) (w : World) (ms : Moves) (tied : Tied c w ms) (h : ℕ) (m 
       let same : new.bytes ≡ (w.disk k).bytes = bytes_left (w.disk k) new call answer reads step in
       rests_on h slot (w.disk k) new (f k) (λ current. (
         record { good = current.good; boot = current.boot ∙ boot_kept (w.disk k) new call answer step },
-        λ i off. ap (λ (bytes : List ℕ). (says_in (row_seen (row_of slot bytes)) i).mbal) same,
+        λ i off. ap (λ (bytes : List ℕ). (says_in (row_seen cluster_version (row_of cluster_version slot bytes)) i).mbal) same,
       ))
   quiet_leaves g k call answer e (Beats heard) it none step =
       let below = (running_at c w ms tied g it.memory it.running).below in

@@ -7,11 +7,11 @@ use Rattle.std.proofs.lemmas.Option.{slice_get_within}
 use Rattle.std.proofs.Math.Seq.{take-length, take-append_seam}
 use Rattle.disk.specs.Disk.{DiskState, Call, Answer}
 use Rattle.disk.specs.Simulated.{fresh_disk}
-use Rattle.torn_block.specs.layouts.Block.{sequence_of, body_of, number_bytes, tail_with}
-use Rattle.torn_block.specs.layouts.Place.{copy_in}
+use Rattle.torn_block.specs.Block.{sequence_of, body_of, number_bytes, tail_with}
+use Rattle.torn_block.specs.Place.{copy_in}
 use Rattle.torn_block.specs.declared.layout.TheConstants.{HOSTS}
-use Rattle.paxos_block.specs.layouts.Row.{decoded_row}
-use Rattle.paxos_block.specs.layouts.Saying.{zeros, heading, body_saying, number_at, claim_of, is_said}
+use Rattle.paxos_block.specs.Row.{decoded_row}
+use Rattle.paxos_block.specs.Saying.{zeros, heading, body_saying, number_at, claim_of, is_said}
 use Rattle.attempt.specs.Answers.{Answered}
 use Rattle.attempt.specs.Setup.{Setup}
 use Rattle.lock_command.specs.declared.command.Command.{Command}

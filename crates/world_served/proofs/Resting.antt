@@ -3,6 +3,7 @@ use Rattle.std.specs.Prelude.{}
 use Rattle.std.proofs.Common.{ℕ, ◌+◌, ◌≤◌, ◌≡◌, ◌≢◌, inl, inr, true, Some, None, List, [], ◌∷◌, ◌++◌, length, sym, ap, ◌∙◌, arith}
 use Rattle.std.proofs.lemmas.Bool.{cases_order}
 use Rattle.disk.specs.Disk.{DiskState}
+use Rattle.torn_block.specs.Layout.{cluster_version}
 use Rattle.paxos_block.specs.Places.{row_of}
 use Rattle.paxos_block.specs.Row.{DecodedBlock, decoded_row}
 use Rattle.paxos_block.specs.Votes.{says_in}
@@ -41,7 +42,7 @@ opening_first One = omega arith
 opening_first Two = omega arith
 
 module _ (host slot : ℕ) (disk new : DiskState) (a : List Heard) (x : Heard) (is_disk : IsDisk a) (good : all_good a ≡ true) (boot : new.boot ≡ disk.boot) (kept : (g : ℕ) → g ≢ host → (shown new slot g).mbal ≡ (shown disk slot g).mbal)
-    (reads : (row : List DecodedBlock) → x ≡ answers.Told (Some row) → IsCurrent disk a × (decoded_row (row_of slot disk.bytes) ≡ Some row)) (before : RestsOn host slot disk a) where
+    (reads : (row : List DecodedBlock) → x ≡ answers.Told (Some row) → IsCurrent disk a × (decoded_row cluster_version (row_of cluster_version slot disk.bytes) ≡ Some row)) (before : RestsOn host slot disk a) where
   abbrev longer : List Heard
   longer = a ++ x ∷ []
 
@@ -69,7 +70,7 @@ module _ (host slot : ℕ) (disk new : DiskState) (a : List Heard) (x : Heard) (
 
   -- what is told now is what the disk shows
   tells_now : (row : List DecodedBlock) (g : ℕ) → x ≡ answers.Told (Some row) → (says_in row g).mbal ≡ (shown disk slot g).mbal
-  tells_now row g is = ap (λ (r : List DecodedBlock). (says_in r g).mbal) (row_is_seen (row_of slot disk.bytes) row (reads row is).1)
+  tells_now row g is = ap (λ (r : List DecodedBlock). (says_in r g).mbal) (row_is_seen (row_of cluster_version slot disk.bytes) row (reads row is).1)
 
   -- so each shows of the others the mbal that the opening's did
   among_by : (p : Phase) (g : ℕ) (first later : List DecodedBlock) → Which Opening first → Which p later → g ≢ host → (says_in later g).mbal ≡ (says_in first g).mbal

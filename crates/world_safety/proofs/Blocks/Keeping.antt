@@ -10,10 +10,9 @@ use Rattle.torn_block.specs.declared.write_steps.WriteCall.TheVariants.{CloseGat
 use Rattle.torn_block.specs.Place.{block_in}
 use Rattle.torn_block.specs.Register.{IsAtRest}
 use Rattle.torn_block.specs.Stage.{Write128, IsDue, IsPlaced}
-use Rattle.paxos_block.specs.Saying.{Said as PBlock}
+use Rattle.paxos_block.specs.Saying.{Said as PBlock, body_saying}
 use Rattle.paxos_block.specs.Places.{Spot, place_of, IsSpot, IsImage, IsWithin}
 use Rattle.paxos_block.specs.Row.{seen_in}
-use Rattle.paxos_block.specs.Saying.{body_saying}
 use Rattle.paxos_block.proofs.Outcomes.{Outcomes, rests_by, same_outcomes}
 use Rattle.paxos_block.proofs.PlaceLemmas.{others_outcomes, others_stay_due}
 use Rattle.attempt.specs.Calls.{Phase, Opening, One, Two, Kind, Attaching, Syncing, Reading, Putting, start, goal}
@@ -33,8 +32,8 @@ use Rattle.attempt.proofs.Votes.{says_same}
 -- BY THE CALL THAT IS NEXT
 
 module _ (any : Setup) (f g : Answers) (d : ℕ) (disk new : DiskState) (old cell : Cell (List ℕ))
-    (rests : IsAtRest (own_place (at_cluster any)) disk → IsAtRest (own_place (at_cluster any)) new)
-    (settled : ((bytes : List ℕ) → MayLeave disk bytes → seen_in (block_in (own_place (at_cluster any)) bytes) ≡ seen_block (last_row (f d)) (at_cluster any).host) → (bytes : List ℕ) → MayLeave new bytes → seen_in (block_in (own_place (at_cluster any)) bytes) ≡ seen_block (last_row (g d)) (at_cluster any).host)
+    (rests : IsAtRest cluster_version (own_place (at_cluster any)) disk → IsAtRest cluster_version (own_place (at_cluster any)) new)
+    (settled : ((bytes : List ℕ) → MayLeave disk bytes → seen_in cluster_version (block_in cluster_version (own_place (at_cluster any)) bytes) ≡ seen_block (last_row (f d)) (at_cluster any).host) → (bytes : List ℕ) → MayLeave new bytes → seen_in cluster_version (block_in cluster_version (own_place (at_cluster any)) bytes) ≡ seen_block (last_row (g d)) (at_cluster any).host)
     (writes : (p : Phase) (call : WriteCall) → call ≢ CloseGate → IsNext (f d) (Putting p call) → Writes (at_cluster any) p d f call disk old → Writes (at_cluster any) p d g call new cell) where
   abbrev s : Setup
   s = at_cluster any
@@ -63,8 +62,8 @@ pub record Spares (place : ℕ) (disk new : DiskState) : Type 0 where
   pub due : (w : Write128) (call : WriteCall) → w.version ≡ cluster_version → w.place ≡ place → IsPlaced w disk → IsDue call w disk → IsDue call w new
 
 -- a call within another block
-pub spares_others : (slots : ℕ) (mine other : Spot) (disk new : DiskState) (call : Call) (answer : Answer) → IsSpot slots mine → IsSpot slots other → mine ≢ other → IsImage slots disk → IsWithin mine call → Step disk call answer new
-    → Spares (place_of other) disk new
+pub spares_others : (slots : ℕ) (mine other : Spot) (disk new : DiskState) (call : Call) (answer : Answer) → IsSpot cluster_version slots mine → IsSpot cluster_version slots other → mine ≢ other → IsImage cluster_version slots disk → IsWithin cluster_version mine call → Step disk call answer new
+    → Spares (place_of cluster_version other) disk new
 spares_others slots mine other disk new call answer is_mine is_other differ image within step =
     record {
       boot = boot_kept disk new call answer step;
@@ -81,7 +80,7 @@ pub spares_lost : (place : ℕ) (disk : DiskState) → Spares place disk (lost d
 spares_lost place disk =
     record { boot = refl; outcomes = λ bytes may. (bytes, record { as_many = may.as_many; same = may.same }, refl); due = λ w call by at placed due. record { now = due.now; left = due.left } }
 
-pub knows_spared : (slots : ℕ) (any : Setup) (f : Answers) (d : ℕ) (disk new : DiskState) (old cell : Cell (List ℕ)) → IsImage slots disk → (at_cluster any).slot < slots → (at_cluster any).host < HOSTS → Spares (own_place (at_cluster any)) disk new → IsSameBlock old cell
+pub knows_spared : (slots : ℕ) (any : Setup) (f : Answers) (d : ℕ) (disk new : DiskState) (old cell : Cell (List ℕ)) → IsImage cluster_version slots disk → (at_cluster any).slot < slots → (at_cluster any).host < HOSTS → Spares (own_place (at_cluster any)) disk new → IsSameBlock old cell
     → Knows disk (at_cluster any) f d old → Knows new (at_cluster any) f d cell
 knows_spared slots s f d disk new old cell image slot_below host_below spares same known =
     record {
@@ -89,7 +88,7 @@ knows_spared slots s f d disk new old cell image slot_below host_below spares sa
       next = λ current kind is.
           knows_for (at_cluster s) f f d disk new old cell
           (rests_by cluster_version disk new (own_place (at_cluster s)) spares.outcomes)
-          (λ settled bytes may. (let b = spares.outcomes bytes may in ap seen_in b.2 ∙ settled b.0 b.1))
+          (λ settled bytes may. (let b = spares.outcomes bytes may in ap (seen_in cluster_version) b.2 ∙ settled b.0 b.1))
           (λ p call later at writes. writing_same (at_cluster s).host (says_for (at_cluster s) p f) (write_on (at_cluster s) p d f) call disk new old cell same
           (spares.due (write_on (at_cluster s) p d f) call refl refl (placed slots (at_cluster s) p d f disk image slot_below host_below writes.can)) writes)
           kind is
@@ -133,7 +132,7 @@ module _ (any : Setup) (f : Answers) (k : ℕ) (x : Heard) (p : Phase) (come : s
       let first = not_before q p (omega arith) in
       let says : says_for there_s q g ≡ says_for there_s q f = says_same there_s g f q (λ r before. rows_kept f k x r (omega (arith, before, come, first))) in (
         says,
-        ap₂ (λ (a : List Heard) (b : PBlock). record { version = cluster_version; place = own_place there_s; block = (seen_block (last_row a) there_s.host).bytes; body = body_saying b }) there says,
+        ap₂ (λ (a : List Heard) (b : PBlock). record { version = cluster_version; place = own_place there_s; block = (seen_block (last_row a) there_s.host).bytes; body = body_saying cluster_version b }) there says,
       )
 
   pub knows_elsewhere : (disk : DiskState) (old cell : Cell (List ℕ)) → IsSameBlock old cell → Knows disk there_s f d old → Knows disk there_s g d cell

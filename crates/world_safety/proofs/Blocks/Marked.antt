@@ -19,10 +19,9 @@ use Rattle.torn_block.specs.Stage.{Write128, call_of, next_call, old_value, new_
 use Rattle.torn_block.proofs.PlaceLaws.{length-block_in}
 use Rattle.torn_block.proofs.RegisterLaws.{known_synced}
 use Rattle.torn_block.proofs.StageLaws.{done_leads_on, settled_begins}
-use Rattle.paxos_block.specs.Saying.{Said as PBlock}
+use Rattle.paxos_block.specs.Saying.{Said as PBlock, MaySay, body_saying}
 use Rattle.paxos_block.specs.Places.{VoteOf, row_place, row_of, IsImage, IsSoundAt}
 use Rattle.paxos_block.specs.Row.{IsSound, IsSaid, DecodedBlock, seen_in, says_of, sequence_or_zero}
-use Rattle.paxos_block.specs.Saying.{MaySay, body_saying}
 use Rattle.paxos_block.proofs.Outcomes.{Outcomes, rests_by, calm_outcomes, same_outcomes}
 use Rattle.paxos_block.proofs.PlaceLemmas.{spot_fits, block_of-row_of}
 use Rattle.paxos_block.proofs.RowLemmas.{said_sees, sound_says}
@@ -53,7 +52,7 @@ use Rattle.world_safety.proofs.Blocks.Standing.{stands_by}
 use Rattle.world_safety.proofs.Blocks.Values.{Adds, ReadsOn, all_say_by, all_say_added, bytes_left, put_adds, put_reads}
 
 -- the write lies on the disk
-pub mark_placed : (slots : ℕ) (s : mark.Setup) (a : List Heard) (disk : DiskState) → IsImage slots disk → s.slot < slots → s.host < HOSTS → CanWrite s.host (with_mark (own_block s a).says) (write_on s a) → IsPlaced (write_on s a) disk
+pub mark_placed : (slots : ℕ) (s : mark.Setup) (a : List Heard) (disk : DiskState) → IsImage cluster_version slots disk → s.slot < slots → s.host < HOSTS → CanWrite s.host (with_mark (own_block s a).says) (write_on s a) → IsPlaced (write_on s a) disk
 mark_placed slots s a disk image slot_below host_below can =
     record {
       whole = image.whole;
@@ -65,7 +64,7 @@ mark_placed slots s a disk image slot_below host_below can =
 
 -- WHERE ITS BLOCK WAS SPARED
 
-pub mark_spared : (slots : ℕ) (s : mark.Setup) (a : List Heard) (disk new : DiskState) → IsImage slots disk → s.slot < slots → s.host < HOSTS → Spares (marked_place s) disk new → KnowsMark disk s a → KnowsMark new s a
+pub mark_spared : (slots : ℕ) (s : mark.Setup) (a : List Heard) (disk new : DiskState) → IsImage cluster_version slots disk → s.slot < slots → s.host < HOSTS → Spares (marked_place s) disk new → KnowsMark disk s a → KnowsMark new s a
 mark_spared slots s a disk new image slot_below host_below spares known =
     record {
       boot = (let kept = spares.boot in let before = known.boot in omega arith);
@@ -80,7 +79,7 @@ mark_spared slots s a disk new image slot_below host_below spares known =
     by_kind Attaching now = tt
     by_kind Syncing now = tt
     by_kind Reading now = rests_by cluster_version disk new (marked_place s) spares.outcomes now
-    by_kind (Putting p CloseGate) now = λ bytes may. (let b = spares.outcomes bytes may in ap seen_in b.2 ∙ now b.0 b.1)
+    by_kind (Putting p CloseGate) now = λ bytes may. (let b = spares.outcomes bytes may in ap (seen_in cluster_version) b.2 ∙ now b.0 b.1)
     by_kind (Putting p SyncClosed) now = writing SyncClosed now
     by_kind (Putting p PutBody) now = writing PutBody now
     by_kind (Putting p SyncBody) now = writing SyncBody now
@@ -100,8 +99,8 @@ mark_crashed s a disk new crash known =
 
 -- what holds before it
 pub record IsMarkCallOn (slots : ℕ) (s : mark.Setup) (a : List Heard) (kind : Kind) (disk new : DiskState) (answer : Answer) (cell : Cell (List ℕ)) : Type 0 where
-  pub image : IsImage slots disk
-  pub image_then : IsImage slots new
+  pub image : IsImage cluster_version slots disk
+  pub image_then : IsImage cluster_version slots new
   pub slot_below : s.slot < slots
   pub host_below : s.host < HOSTS
   pub good : all_good a ≡ true
@@ -124,7 +123,7 @@ said_before s disk bytes left marked = inl (bytes, left, refl)
 
 -- the mbal that a block now says
 abbrev pub promised : ℕ → DiskState → ℕ
-promised place disk = (says_of (value_of (block_in place disk.bytes))).mbal
+promised place disk = (says_of cluster_version (value_of cluster_version (block_in cluster_version place disk.bytes))).mbal
 
 -- what holds behind it: no other ballot is promised
 pub record AfterMark (s : mark.Setup) (a : List Heard) (disk new : DiskState) (cell : Cell (List ℕ)) : Type 0 where
@@ -138,7 +137,7 @@ value_is None value is = absurd (cc)
 value_is (Some inp) value is = ap Some ((bytes_eq-Decides inp value).0 is)
 
 -- a block that says an input may say it with a mark
-may_mark : (host : ℕ) (o : Option (ℕ × List ℕ)) (says : PBlock) (value : List ℕ) → IsSaid host o says → says.inp ≡ Some value → MaySay host (with_mark says)
+may_mark : (host : ℕ) (o : Option (ℕ × List ℕ)) (says : PBlock) (value : List ℕ) → IsSaid cluster_version host o says → says.inp ≡ Some value → MaySay cluster_version host (with_mark says)
 may_mark host None says value said inp = absurd (let none = ap (λ (b : PBlock). b.inp) said in cc)
 may_mark host (Some v) says value said inp = record { mbal = said.1.mbal; vote = said.1.vote; mark = rw inp refl }
 
@@ -202,7 +201,7 @@ module _ (slots : ℕ) (s : mark.Setup) (a : List Heard) (kind : Kind) (disk new
         stands = stands_by disk new s.slot s.host cell o stands;
         knows = known;
         marks = all_say_by (IsMarkedWith s disk) place disk new o (said_before s disk);
-        promises = ap (λ (l : List ℕ). (says_of (value_of (block_in place l))).mbal) bytes;
+        promises = ap (λ (l : List ℕ). (says_of cluster_version (value_of cluster_version (block_in cluster_version place l))).mbal) bytes;
       }
 
   -- THE OPENING CALLS
@@ -240,23 +239,23 @@ module _ (slots : ℕ) (s : mark.Setup) (a : List Heard) (kind : Kind) (disk new
       by_number (suc (suc (suc (suc (suc (suc (suc (suc zero)))))))) l at = absurd (cc)
       by_number (suc (suc (suc (suc (suc (suc (suc (suc (suc n))))))))) l at = absurd (omega arith)
 
-  row_settles : (same : kind ≡ Reading) (row : List DecodedBlock) → x ≡ answers.Told (Some row) → IsAtRest place disk → (bytes : List ℕ) → MayLeave new bytes → seen_in (block_in place bytes) ≡ own_block s b
+  row_settles : (same : kind ≡ Reading) (row : List DecodedBlock) → x ≡ answers.Told (Some row) → IsAtRest cluster_version place disk → (bytes : List ℕ) → MayLeave new bytes → seen_in cluster_version (block_in cluster_version place bytes) ≡ own_block s b
   row_settles same row tells rests bytes left =
       let go = step_as Reading same in
-      let before : MayLeave disk bytes = subst (λ (k : DiskState). MayLeave k bytes) (read_leaves disk new (boot_of a) (row_place s.slot) ROW_LENGTH answer go) left in
+      let before : MayLeave disk bytes = subst (λ (k : DiskState). MayLeave k bytes) (read_leaves disk new (boot_of a) (row_place cluster_version s.slot) ROW_LENGTH answer go) left in
       let said_so = row_told disk new (boot_of a) s.slot answer row go tells in
       let number : length a + 1 ≡ goal Opening = omega (arith, third same) in
-      ap seen_in (rests bytes before)
-      ∙ ap seen_in (sym (block_of-row_of cluster_version s.slot s.host disk.bytes host_below))
-      ∙ sym (said_sees cluster_version (row_of s.slot disk.bytes) row s.host host_below said_so)
+      ap (seen_in cluster_version) (rests bytes before)
+      ∙ ap (seen_in cluster_version) (sym (block_of-row_of cluster_version s.slot s.host disk.bytes host_below))
+      ∙ sym (said_sees cluster_version (row_of cluster_version s.slot disk.bytes) row s.host host_below said_so)
       ∙ ap (λ (r : Option (List DecodedBlock)). seen_block r s.host) (sym (row_last Opening a x number ∙ ap told tells))
 
   is_read : kind ≡ Reading → AfterMark s b disk new cell
   is_read same =
       calm (bytes_left disk new (call_by s a Reading) answer tt (step_as Reading same)) (calm_outcomes cluster_version disk new place (call_by s a Reading) answer tt (step_as Reading same))
       (knows_by (λ current next at.
-      (let row = reading_tells (boot_of a) (row_place s.slot) ROW_LENGTH x (fits_as Reading same) (good_by current.good) in
-      let rests : IsAtRest place disk = subst (λ (k : Kind). KnowsMarkFor k disk s a) same (knows.next (current_before (λ e. absurd (let no : Reading ≡ Attaching = sym same ∙ e in cc)) current) kind is) in
+      (let row = reading_tells (boot_of a) (row_place cluster_version s.slot) ROW_LENGTH x (fits_as Reading same) (good_by current.good) in
+      let rests : IsAtRest cluster_version place disk = subst (λ (k : Kind). KnowsMarkFor k disk s a) same (knows.next (current_before (λ e. absurd (let no : Reading ≡ Attaching = sym same ∙ e in cc)) current) kind is) in
       let behind = then_as Reading next same at in
       subst (λ (k : Kind). KnowsMarkFor k new s b) (sym behind.1) (row_settles same row.0 row.1 rests))))
 
@@ -273,11 +272,11 @@ module _ (slots : ℕ) (s : mark.Setup) (a : List Heard) (kind : Kind) (disk new
     -- the write goes on
     goes_on : (next : WriteCall) → IsMarking s a next new → IsMarking s b next new
     goes_on next it =
-        let write : write_on s b ≡ w = ap (λ (o : DecodedBlock). record { version = cluster_version; place = place; block = o.bytes; body = body_saying (with_mark o.says) }) own_then in
+        let write : write_on s b ≡ w = ap (λ (o : DecodedBlock). record { version = cluster_version; place = place; block = o.bytes; body = body_saying cluster_version (with_mark o.says) }) own_then in
         record {
           due = subst (λ (v : Write128). IsDue next v new) (sym write) it.due;
-          can = subst (λ (o : DecodedBlock). CanWrite s.host (with_mark o.says) (record { version = cluster_version; place = place; block = o.bytes; body = body_saying (with_mark o.says) })) (sym own_then) it.can;
-          old = subst (λ (o : DecodedBlock). says_of (value_of o.bytes) ≡ o.says) (sym own_then) it.old;
+          can = subst (λ (o : DecodedBlock). CanWrite s.host (with_mark o.says) (record { version = cluster_version; place = place; block = o.bytes; body = body_saying cluster_version (with_mark o.says) })) (sym own_then) it.can;
+          old = subst (λ (o : DecodedBlock). says_of cluster_version (value_of cluster_version o.bytes) ≡ o.says) (sym own_then) it.old;
         }
 
   -- it has the value
@@ -287,40 +286,40 @@ module _ (slots : ℕ) (s : mark.Setup) (a : List Heard) (kind : Kind) (disk new
 
     -- a block over which it may begin
     module _ (settled : KnowsMarkFor (Putting Opening CloseGate) disk s a) (fresh : nat_le LAST_SEQUENCE (own_block s a).sequence ≡ false) where
-      seen_now : seen_in (block_in place disk.bytes) ≡ own_block s a
+      seen_now : seen_in cluster_version (block_in cluster_version place disk.bytes) ≡ own_block s a
       seen_now = settled disk.bytes (may_leave_now disk)
 
-      same_bytes : block_in place disk.bytes ≡ w.block
+      same_bytes : block_in cluster_version place disk.bytes ≡ w.block
       same_bytes = ap (λ (o : DecodedBlock). o.bytes) seen_now
 
-      same_says : says_of (value_of (block_in place disk.bytes)) ≡ (own_block s a).says
+      same_says : says_of cluster_version (value_of cluster_version (block_in cluster_version place disk.bytes)) ≡ (own_block s a).says
       same_says = ap (λ (o : DecodedBlock). o.says) seen_now
 
-      sound_now : IsSoundBlock (IsSound s.host) (block_in place disk.bytes)
+      sound_now : IsSoundBlock cluster_version (IsSound cluster_version s.host) (block_in cluster_version place disk.bytes)
       sound_now = stands.sound disk.bytes (may_leave_now disk)
 
-      block_long : length (block_in place disk.bytes) ≡ BLOCK_LENGTH
+      block_long : length (block_in cluster_version place disk.bytes) ≡ BLOCK_LENGTH
       block_long = length-block_in cluster_version place disk.bytes (omega (arith, image.long, spot_fits cluster_version slots (VoteOf s.slot s.host) (slot_below, host_below)))
 
-      says_so : IsSaid s.host (value_of (block_in place disk.bytes)) (own_block s a).says
-      says_so = subst (IsSaid s.host (value_of (block_in place disk.bytes))) same_says (sound_says cluster_version s.host (block_in place disk.bytes) block_long sound_now)
+      says_so : IsSaid cluster_version s.host (value_of cluster_version (block_in cluster_version place disk.bytes)) (own_block s a).says
+      says_so = subst (IsSaid cluster_version s.host (value_of cluster_version (block_in cluster_version place disk.bytes))) same_says (sound_says cluster_version s.host (block_in cluster_version place disk.bytes) block_long sound_now)
 
       begins : IsMarking s a CloseGate disk
       begins =
           let can : CanWrite s.host (with_mark (own_block s a).says) w = record {
             is_write = record {
-              sound = subst (IsSoundBlock (IsSound s.host)) same_bytes sound_now;
-              may_say = may_mark s.host (value_of (block_in place disk.bytes)) (own_block s a).says s.value says_so inp_is;
+              sound = subst (IsSoundBlock cluster_version (IsSound cluster_version s.host)) same_bytes sound_now;
+              may_say = may_mark s.host (value_of cluster_version (block_in cluster_version place disk.bytes)) (own_block s a).says s.value says_so inp_is;
               body = refl;
-              number = number_fits (value_of w.block) (own_block s a).sequence (ap (λ (l : List ℕ). sequence_or_zero (value_of l)) (sym same_bytes) ∙ ap (λ (o : DecodedBlock). o.sequence) seen_now) fresh;
+              number = number_fits (value_of cluster_version w.block) (own_block s a).sequence (ap (λ (l : List ℕ). sequence_or_zero (value_of cluster_version l)) (sym same_bytes) ∙ ap (λ (o : DecodedBlock). o.sequence) seen_now) fresh;
             };
             long = ap length (sym same_bytes) ∙ block_long;
-            full = fills cluster_version (with_mark (own_block s a).says) (said_long cluster_version s.host (block_in place disk.bytes) (own_block s a).says (value_of (block_in place disk.bytes)) block_long refl says_so);
+            full = fills cluster_version (with_mark (own_block s a).says) (said_long cluster_version s.host (block_in cluster_version place disk.bytes) (own_block s a).says (value_of cluster_version (block_in cluster_version place disk.bytes)) block_long refl says_so);
           } in
           record {
             due = settled_begins w disk (mark_placed slots s a disk image slot_below host_below can) (λ bytes left. ap (λ (o : DecodedBlock). o.bytes) (settled bytes left));
             can = can;
-            old = ap (λ (l : List ℕ). says_of (value_of l)) (sym same_bytes) ∙ same_says;
+            old = ap (λ (l : List ℕ). says_of cluster_version (value_of cluster_version l)) (sym same_bytes) ∙ same_says;
           }
 
     -- WHAT A CALL OF IT LEAVES
@@ -332,7 +331,7 @@ module _ (slots : ℕ) (s : mark.Setup) (a : List Heard) (kind : Kind) (disk new
       placed_then : IsPlaced w new
       placed_then = mark_placed slots s a new image_then slot_below host_below it.can
 
-      new_says : says_of (new_value w) ≡ with_mark (own_block s a).says
+      new_says : says_of cluster_version (new_value w) ≡ with_mark (own_block s a).says
       new_says = claims_back cluster_version (with_mark (own_block s a).says) s.host it.can.is_write.may_say
 
       -- what it says then, but for the mark, is what it said
@@ -342,7 +341,7 @@ module _ (slots : ℕ) (s : mark.Setup) (a : List Heard) (kind : Kind) (disk new
       adds : (answer' : Answer) → answer ≡ answer' → Adds (old_value w) (new_value w) place disk new
       adds answer' e = put_adds w disk placed (boot_of a) new placed_then call answer' it.due (go answer' e)
 
-      reads_by : Adds (old_value w) (new_value w) place disk new → (bytes : List ℕ) → MayLeave new bytes → IsReading cell (said (value_of (block_in place bytes)))
+      reads_by : Adds (old_value w) (new_value w) place disk new → (bytes : List ℕ) → MayLeave new bytes → IsReading cell (said (value_of cluster_version (block_in cluster_version place bytes)))
       reads_by added bytes left = elim (added bytes left) [
         | inl before ↦ subst (λ (v : Value). IsReading cell (said v)) (sym before.2) (stands.reads before.0 before.1)
         | inr both ↦ subst (IsReading cell) (sym same_said ∙ ap said (sym both.0)) (subst (λ (v : Value). IsReading cell (said v)) both.1 (stands.reads disk.bytes (may_leave_now disk)))
@@ -354,11 +353,11 @@ module _ (slots : ℕ) (s : mark.Setup) (a : List Heard) (kind : Kind) (disk new
       -- both values have one mbal
       promises_by : ReadsOn w disk placed (boot_of a) new placed_then → promised place new ≡ promised place disk
       promises_by reads = elim reads [
-        | inl same ↦ ap (λ (v : Value). (says_of v).mbal) same
-        | inr both ↦ ap (λ (v : Value). (says_of v).mbal) both.0 ∙ ap (λ (q : PBlock). q.mbal) new_says ∙ sym (ap (λ (q : PBlock). q.mbal) it.old) ∙ sym (ap (λ (v : Value). (says_of v).mbal) both.1)
+        | inl same ↦ ap (λ (v : Value). (says_of cluster_version v).mbal) same
+        | inr both ↦ ap (λ (v : Value). (says_of cluster_version v).mbal) both.0 ∙ ap (λ (q : PBlock). q.mbal) new_says ∙ sym (ap (λ (q : PBlock). q.mbal) it.old) ∙ sym (ap (λ (v : Value). (says_of cluster_version v).mbal) both.1)
       ]
 
-      after_by : (answer' : Answer) → answer ≡ answer' → IsSoundAt s.host place new → KnowsMark new s b → AfterMark s b disk new cell
+      after_by : (answer' : Answer) → answer ≡ answer' → IsSoundAt cluster_version s.host place new → KnowsMark new s b → AfterMark s b disk new cell
       after_by answer' e sound known =
           record {
             stands = record { reads = reads_by (adds answer' e); sound = sound };

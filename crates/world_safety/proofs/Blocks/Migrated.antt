@@ -18,8 +18,7 @@ use Rattle.torn_block.specs.Place.{block_in}
 use Rattle.torn_block.proofs.PlaceLaws.{length-tail_with, reads_sequence, reads_body}
 use Rattle.paxos_block.specs.Places.{VoteOf, IsImage, place_of, row_place, image_length}
 use Rattle.paxos_block.specs.Row.{IsSound, copy_saying, says_of}
-use Rattle.paxos_block.specs.Saying.{MaySay, body_saying}
-use Rattle.paxos_block.specs.layouts.Saying.{zeros}
+use Rattle.paxos_block.specs.Saying.{MaySay, body_saying, zeros}
 use Rattle.paxos_block.proofs.SayingLemmas.{claims_back}
 use Rattle.migration.specs.Image.{vote_for, block_for, rows_for}
 use Rattle.migration.proofs.Lengths.{length-body}
@@ -41,9 +40,9 @@ use Rattle.world_safety.proofs.Blocks.Standing.{blank_sound}
 
 module _ (value : List ℕ) (long : length value ≡ VALUE_LENGTH) where
   first_copy : List ℕ
-  first_copy = copy_saying 1 (vote_for value)
+  first_copy = copy_saying cluster_version 1 (vote_for value)
 
-  may_say : MaySay 0 (vote_for value)
+  may_say : MaySay cluster_version 0 (vote_for value)
   may_say = record {
     mbal = record { positive = omega arith; within = omega arith; owned = refl };
     vote = (record { positive = omega arith; within = omega arith; owned = refl }, omega arith);
@@ -52,42 +51,42 @@ module _ (value : List ℕ) (long : length value ≡ VALUE_LENGTH) where
 
   length-copy : length first_copy ≡ COPY_LENGTH
   unfolding first_copy
-  length-copy = omega (arith, length-tail_with cluster_version 1 (body_saying (vote_for value)) (length-body value long))
+  length-copy = omega (arith, length-tail_with cluster_version 1 (body_saying cluster_version (vote_for value)) (length-body value long))
 
-  first_is : copy_of First (block_for value) ≡ first_copy
+  first_is : copy_of cluster_version First (block_for value) ≡ first_copy
   unfolding first_copy
   first_is = take_at first_copy (zeros COPY_LENGTH) COPY_LENGTH length-copy
 
-  second_is : copy_of Second (block_for value) ≡ zeros COPY_LENGTH
+  second_is : copy_of cluster_version Second (block_for value) ≡ zeros COPY_LENGTH
   unfolding first_copy
   second_is = drop_at first_copy (zeros COPY_LENGTH) COPY_LENGTH length-copy
 
-  second_closed : is_open (copy_of Second (block_for value)) ≡ false
+  second_closed : is_open (copy_of cluster_version Second (block_for value)) ≡ false
   unfolding zeros
   second_closed = ap is_open second_is
 
   -- its first copy is open, and it is its value
-  block_value : value_of (block_for value) ≡ Some (1, body_saying (vote_for value))
+  block_value : value_of cluster_version (block_for value) ≡ Some (1, body_saying cluster_version (vote_for value))
   unfolding first_copy zeros
   block_value =
-      let body = body_saying (vote_for value) in
+      let body = body_saying cluster_version (vote_for value) in
       let big : 1 < 18446744073709551616 = omega arith in
-      ap (λ (copy : List ℕ). value_by copy (copy_of Second (block_for value))) first_is
+      ap (λ (copy : List ℕ). value_by copy (copy_of cluster_version Second (block_for value))) first_is
       ∙ ap (value_by first_copy) second_is
       ∙ (λ i. Some (reads_sequence cluster_version 1 body (length-body value long) first_copy big refl i, reads_body cluster_version 1 body (length-body value long) first_copy refl i))
 
-  block_says : says_of (value_of (block_for value)) ≡ vote_for value
-  block_says = ap says_of block_value ∙ claims_back cluster_version (vote_for value) 0 may_say
+  block_says : says_of cluster_version (value_of cluster_version (block_for value)) ≡ vote_for value
+  block_says = ap (says_of cluster_version) block_value ∙ claims_back cluster_version (vote_for value) 0 may_say
 
-  block_sound : IsSoundBlock (IsSound 0) (block_for value)
+  block_sound : IsSoundBlock cluster_version (IsSound cluster_version 0) (block_for value)
   unfolding first_copy
   block_sound = record {
     copies = sound;
     apart = λ first second. absurd (true≢false (sym second ∙ second_closed));
   }
     where
-      sound : (half : Half) → is_open (copy_of half (block_for value)) ≡ true → IsSound 0 (copy_of half (block_for value))
-      sound First opened = subst (IsSound 0) (sym first_is) (record { sequence = 1; says = vote_for value; so = record { is_sequence = record { from_one = omega arith; within = omega arith }; may_say = may_say; spelled = refl } })
+      sound : (half : Half) → is_open (copy_of cluster_version half (block_for value)) ≡ true → IsSound cluster_version 0 (copy_of cluster_version half (block_for value))
+      sound First opened = subst (IsSound cluster_version 0) (sym first_is) (record { sequence = 1; says = vote_for value; so = record { is_sequence = record { from_one = omega arith; within = omega arith }; may_say = may_say; spelled = refl } })
       sound Second opened = absurd (true≢false (sym opened ∙ second_closed))
 
 -- A BLOCK, OF THE LOG OR NOT
@@ -101,21 +100,22 @@ abbrev IsLong : Option (List ℕ) → Type 0
 IsLong None = Unit {0}
 IsLong (Some value) = length value ≡ VALUE_LENGTH
 
-blank_value : value_of (zeros BLOCK_LENGTH) ≡ None
+blank_value : value_of cluster_version (zeros BLOCK_LENGTH) ≡ None
 unfolding zeros
 blank_value = refl
 
-at_says : (o : Option (List ℕ)) → IsLong o → said (value_of (block_at o)) ≡ voted o
+at_says : (o : Option (List ℕ)) → IsLong o → said (value_of cluster_version (block_at o)) ≡ voted o
 at_says None long = ap said blank_value
 at_says (Some value) long = λ i. record { mbal = (block_says value long i).mbal; bal = (block_says value long i).bal; inp = (block_says value long i).inp }
 
-at_sound : (host : ℕ) (o : Option (List ℕ)) → IsLong o → (host ≡ 0) ⊎ (o ≡ None) → IsSoundBlock (IsSound host) (block_at o)
+at_sound : (host : ℕ) (o : Option (List ℕ)) → IsLong o → (host ≡ 0) ⊎ (o ≡ None) → IsSoundBlock cluster_version (IsSound cluster_version host) (block_at o)
 at_sound host None long is = blank_sound host (zeros BLOCK_LENGTH) blank_value
-at_sound host (Some value) long (inl zero_is) = subst (λ (h : ℕ). IsSoundBlock (IsSound h) (block_for value)) (sym zero_is) (block_sound value long)
+at_sound host (Some value) long (inl zero_is) = subst (λ (h : ℕ). IsSoundBlock cluster_version (IsSound cluster_version h) (block_for value)) (sym zero_is) (block_sound value long)
 at_sound host (Some value) long (inr none) = absurd (cc)
 
-at_marked : (Known : List ℕ → Type 0) (o : Option (List ℕ)) → IsLong o → ((value : List ℕ) → o ≡ Some value → Known value) → IsMarkTrue Known (says_of (value_of (block_at o)))
-at_marked Known None long known marked = absurd (true≢false (sym marked ∙ ap (λ v. (says_of v).mark) blank_value))
+at_marked : (Known : List ℕ → Type 0) (o : Option (List ℕ)) → IsLong o → ((value : List ℕ) → o ≡ Some value → Known value)
+    → IsMarkTrue Known (says_of cluster_version (value_of cluster_version (block_at o)))
+at_marked Known None long known marked = absurd (true≢false (sym marked ∙ ap (λ v. (says_of cluster_version v).mark) blank_value))
 at_marked Known (Some value) long known marked = (value, ap (λ s. s.inp) (block_says value long), known value refl)
 
 -- A DISK
@@ -145,16 +145,16 @@ module _ (c : Shape) (log : List Command) (can : CanMigrate c log) where
   unfolding fresh_disk zeros
   bytes_are = refl
 
-  pub image : IsImage c.slots disk
+  pub image : IsImage cluster_version c.slots disk
   unfolding fresh_disk
   image = let nil : ℕ = 0 in record {
     whole = length-replicate (length disk.bytes) false;
-    long = length-put (replicate (image_length c.slots) nil) (row_place 0) (rows_for values) (omega (arith, length-replicate (image_length c.slots) nil, length-rows values long_values, few)) nil ∙ length-replicate (image_length c.slots) nil;
+    long = length-put (replicate (image_length cluster_version c.slots) nil) (row_place cluster_version 0) (rows_for values) (omega (arith, length-replicate (image_length cluster_version c.slots) nil, length-rows values long_values, few)) nil ∙ length-replicate (image_length cluster_version c.slots) nil;
   }
 
   -- a crash now leaves it
   leaves : (bytes : List ℕ) → MayLeave disk bytes → bytes ≡ disk.bytes
-  leaves bytes left = may_leave_synced (written (opening_disk c) (row_place 0) (rows_for values)) bytes left
+  leaves bytes left = may_leave_synced (written (opening_disk c) (row_place cluster_version 0) (rows_for values)) bytes left
 
   -- the value of a slot, in host 0's block
   abbrev pub value_in : ℕ → ℕ → Option (List ℕ)
@@ -175,20 +175,20 @@ module _ (c : Shape) (log : List Command) (can : CanMigrate c log) where
       go true None is = tt
       go true (Some value) is = long_in_log slot value is
 
-  holds : (slot host : ℕ) → slot < c.slots → host < HOSTS → block_in (place_of (VoteOf slot host)) disk.bytes ≡ block_at (value_in slot host)
+  holds : (slot host : ℕ) → slot < c.slots → host < HOSTS → block_in cluster_version (place_of cluster_version (VoteOf slot host)) disk.bytes ≡ block_at (value_in slot host)
   holds slot host slot_below below = by (cases_Bool (host == 0)) (slice_get values slot) refl
     where
-      blank_there : ((k : ℕ) → k < length values → VoteOf slot host ≢ VoteOf k 0) → block_in (place_of (VoteOf slot host)) disk.bytes ≡ zeros BLOCK_LENGTH
-      blank_there other = ap (block_in (place_of (VoteOf slot host))) bytes_are ∙ rows_hold_no_more c.slots values few long_values (VoteOf slot host) (slot_below, below) other
+      blank_there : ((k : ℕ) → k < length values → VoteOf slot host ≢ VoteOf k 0) → block_in cluster_version (place_of cluster_version (VoteOf slot host)) disk.bytes ≡ zeros BLOCK_LENGTH
+      blank_there other = ap (block_in cluster_version (place_of cluster_version (VoteOf slot host))) bytes_are ∙ rows_hold_no_more c.slots values few long_values (VoteOf slot host) (slot_below, below) other
 
-      by : ((host == 0) ≡ true) ⊎ ((host == 0) ≡ false) → (o : Option (List ℕ)) → slice_get values slot ≡ o → block_in (place_of (VoteOf slot host)) disk.bytes ≡ block_at (value_in slot host)
+      by : ((host == 0) ≡ true) ⊎ ((host == 0) ≡ false) → (o : Option (List ℕ)) → slice_get values slot ≡ o → block_in cluster_version (place_of cluster_version (VoteOf slot host)) disk.bytes ≡ block_at (value_in slot host)
       by (inr off) o is =
           blank_there (λ k within same. (let zero_is : host ≡ 0 = cc in true≢false (sym (eq-eqb host 0 zero_is) ∙ off)))
           ∙ ap (λ (b : Bool). block_at (cond b (slice_get values slot) None)) (sym off)
       by (inl on) (Some value) is =
           let zero_is : host ≡ 0 = eqb-true host 0 on in
-          ap (λ (h : ℕ). block_in (place_of (VoteOf slot h)) disk.bytes) zero_is
-          ∙ ap (block_in (place_of (VoteOf slot 0))) bytes_are
+          ap (λ (h : ℕ). block_in cluster_version (place_of cluster_version (VoteOf slot h)) disk.bytes) zero_is
+          ∙ ap (block_in cluster_version (place_of cluster_version (VoteOf slot 0))) bytes_are
           ∙ rows_hold c.slots values few long_values slot value is
           ∙ ap block_at (sym is)
           ∙ ap (λ (b : Bool). block_at (cond b (slice_get values slot) None)) (sym on)
@@ -205,24 +205,24 @@ module _ (c : Shape) (log : List Command) (can : CanMigrate c log) where
 
   pub stands_migrated : (slot host : ℕ) (cell : Cell (List ℕ)) → slot < c.slots → host < HOSTS → cell.confirmed ≡ voted (value_in slot host) → Stands disk slot host cell
   stands_migrated slot host cell slot_below below confirmed =
-      let there : (bytes : List ℕ) → MayLeave disk bytes → block_in (place_of (VoteOf slot host)) bytes ≡ block_at (value_in slot host) =
-      λ bytes left. ap (block_in (place_of (VoteOf slot host))) (leaves bytes left) ∙ holds slot host slot_below below in
+      let there : (bytes : List ℕ) → MayLeave disk bytes → block_in cluster_version (place_of cluster_version (VoteOf slot host)) bytes ≡ block_at (value_in slot host) =
+      λ bytes left. ap (block_in cluster_version (place_of cluster_version (VoteOf slot host))) (leaves bytes left) ∙ holds slot host slot_below below in
       record {
-        reads = λ bytes left. inl (ap (λ (block : List ℕ). said (value_of block)) (there bytes left) ∙ at_says (value_in slot host) (long_in slot host) ∙ sym confirmed);
-        sound = λ bytes left. subst (IsSoundBlock (IsSound host)) (sym (there bytes left)) (at_sound host (value_in slot host) (long_in slot host) (of_zero slot host));
+        reads = λ bytes left. inl (ap (λ (block : List ℕ). said (value_of cluster_version block)) (there bytes left) ∙ at_says (value_in slot host) (long_in slot host) ∙ sym confirmed);
+        sound = λ bytes left. subst (IsSoundBlock cluster_version (IsSound cluster_version host)) (sym (there bytes left)) (at_sound host (value_in slot host) (long_in slot host) (of_zero slot host));
       }
 
   -- host 0's block of a slot of the log is marked
-  pub marked_migrated : (slot : ℕ) (value : List ℕ) → slot < c.slots → slice_get values slot ≡ Some value → AllSay (λ says. says.mark ≡ true) (place_of (VoteOf slot 0)) disk
+  pub marked_migrated : (slot : ℕ) (value : List ℕ) → slot < c.slots → slice_get values slot ≡ Some value → AllSay (λ says. says.mark ≡ true) (place_of cluster_version (VoteOf slot 0)) disk
   marked_migrated slot value slot_below is bytes left =
-      let there : block_in (place_of (VoteOf slot 0)) bytes ≡ block_for value = ap (block_in (place_of (VoteOf slot 0))) (leaves bytes left) ∙ holds slot 0 slot_below (omega arith) ∙ ap block_at is in
-      ap (λ (block : List ℕ). (says_of (value_of block)).mark) there ∙ ap (λ s. s.mark) (block_says value (long_in_log slot value is))
+      let there : block_in cluster_version (place_of cluster_version (VoteOf slot 0)) bytes ≡ block_for value = ap (block_in cluster_version (place_of cluster_version (VoteOf slot 0))) (leaves bytes left) ∙ holds slot 0 slot_below (omega arith) ∙ ap block_at is in
+      ap (λ (block : List ℕ). (says_of cluster_version (value_of cluster_version block)).mark) there ∙ ap (λ s. s.mark) (block_says value (long_in_log slot value is))
 
   -- and what is marked is of the log
-  pub marks_migrated : (Known : List ℕ → Type 0) (slot host : ℕ) → slot < c.slots → host < HOSTS → ((value : List ℕ) → slice_get values slot ≡ Some value → Known value) → AllSay (IsMarkTrue Known) (place_of (VoteOf slot host)) disk
+  pub marks_migrated : (Known : List ℕ → Type 0) (slot host : ℕ) → slot < c.slots → host < HOSTS → ((value : List ℕ) → slice_get values slot ≡ Some value → Known value) → AllSay (IsMarkTrue Known) (place_of cluster_version (VoteOf slot host)) disk
   marks_migrated Known slot host slot_below below known bytes left =
-      let there : block_in (place_of (VoteOf slot host)) bytes ≡ block_at (value_in slot host) = ap (block_in (place_of (VoteOf slot host))) (leaves bytes left) ∙ holds slot host slot_below below in
-      subst (λ (block : List ℕ). IsMarkTrue Known (says_of (value_of block))) (sym there) (at_marked Known (value_in slot host) (long_in slot host) known_in)
+      let there : block_in cluster_version (place_of cluster_version (VoteOf slot host)) bytes ≡ block_at (value_in slot host) = ap (block_in cluster_version (place_of cluster_version (VoteOf slot host))) (leaves bytes left) ∙ holds slot host slot_below below in
+      subst (λ (block : List ℕ). IsMarkTrue Known (says_of cluster_version (value_of cluster_version block))) (sym there) (at_marked Known (value_in slot host) (long_in slot host) known_in)
     where
       known_in : (value : List ℕ) → value_in slot host ≡ Some value → Known value
       known_in value is = elim (cases_Bool (host == 0)) [

@@ -10,10 +10,9 @@ use Rattle.torn_block.specs.declared.layout.TheConstants.{HOSTS, ROW_LENGTH}
 use Rattle.torn_block.specs.Place.{block_in}
 use Rattle.torn_block.specs.Register.{IsAtRest}
 use Rattle.torn_block.proofs.RegisterLaws.{known_synced}
-use Rattle.paxos_block.specs.Saying.{Said as PBlock}
+use Rattle.paxos_block.specs.Saying.{Said as PBlock, body_saying}
 use Rattle.paxos_block.specs.Places.{row_place, row_of, IsImage}
 use Rattle.paxos_block.specs.Row.{DecodedBlock, seen_in}
-use Rattle.paxos_block.specs.Saying.{body_saying}
 use Rattle.paxos_block.proofs.Outcomes.{IsCalm, calm_outcomes}
 use Rattle.paxos_block.proofs.PlaceLemmas.{block_of-row_of}
 use Rattle.paxos_block.proofs.RowLemmas.{said_sees}
@@ -56,7 +55,7 @@ read_leaves disk new boot at len (Fault Reset) step = step.2
 read_leaves disk new boot at len (Fault Failed) step = step.2
 read_leaves disk new boot at len (Fault Gone) step = step.1
 
-pub sync_rests : (place : ℕ) (disk new : DiskState) (boot : ℕ) (answer : Answer) → Step disk (Sync boot) answer new → is_bad (heard_as answer) ≡ false → IsAtRest place new
+pub sync_rests : (place : ℕ) (disk new : DiskState) (boot : ℕ) (answer : Answer) → Step disk (Sync boot) answer new → is_bad (heard_as answer) ≡ false → IsAtRest cluster_version place new
 sync_rests place disk new boot (Booted number) step good = absurd (let all = step.2.0 in cc)
 sync_rests place disk new boot (Told bytes) step good = absurd (let all = step.2.0 in cc)
 sync_rests place disk new boot Done step good = (known_synced cluster_version place disk new boot step).0
@@ -64,8 +63,8 @@ sync_rests place disk new boot (Fault fault) step good = absurd (true≢false go
 
 -- A call of a phase of the attempt, on a disk: what holds before it, and that the disk is an image then.
 pub record IsOwnCall (slots : ℕ) (s : Setup) (p : Phase) (d : ℕ) (f : Answers) (disk new : DiskState) (old : Cell (List ℕ)) : Type 0 where
-  pub image : IsImage slots disk
-  pub image_then : IsImage slots new
+  pub image : IsImage cluster_version slots disk
+  pub image_then : IsImage cluster_version slots new
   pub slot_below : s.slot < slots
   pub host_below : s.host < HOSTS
   pub is_disk : IsDisk (f d)
@@ -112,7 +111,7 @@ module _ (slots : ℕ) (any : Setup) (p : Phase) (d : ℕ) (f : Answers) (disk n
 
   pub write_then : told x ≡ None → write_on s p d g ≡ write_on s p d f
   write_then none =
-      ap₂ (λ (r : Option (List DecodedBlock)) (b : PBlock). record { version = cluster_version; place = own_place s; block = (seen_block r s.host).bytes; body = body_saying b }) (last_then None none) says_then
+      ap₂ (λ (r : Option (List DecodedBlock)) (b : PBlock). record { version = cluster_version; place = own_place s; block = (seen_block r s.host).bytes; body = body_saying cluster_version b }) (last_then None none) says_then
 
   -- a bad answer leaves nothing to know
   pub knows_none : (call : Call) → Step disk call answer new → is_bad x ≡ true → Knows new s g d cell
@@ -145,14 +144,14 @@ module _ (slots : ℕ) (any : Setup) (p : Phase) (d : ℕ) (f : Answers) (disk n
       }
 
   -- the row that was read is of the block at rest
-  row_settles : (boot : ℕ) (row : List DecodedBlock) → Step disk (Read boot (row_place s.slot) ROW_LENGTH) answer new → x ≡ answers.Told (Some row) → IsAtRest (own_place s) disk
-      → (bytes : List ℕ) → MayLeave new bytes → seen_in (block_in (own_place s) bytes) ≡ seen_block (last_row (g d)) s.host
+  row_settles : (boot : ℕ) (row : List DecodedBlock) → Step disk (Read boot (row_place cluster_version s.slot) ROW_LENGTH) answer new → x ≡ answers.Told (Some row) → IsAtRest cluster_version (own_place s) disk
+      → (bytes : List ℕ) → MayLeave new bytes → seen_in cluster_version (block_in cluster_version (own_place s) bytes) ≡ seen_block (last_row (g d)) s.host
   row_settles boot row step is rests bytes left =
-      let before : MayLeave disk bytes = subst (λ (k : DiskState). MayLeave k bytes) (read_leaves disk new boot (row_place s.slot) ROW_LENGTH answer step) left in
+      let before : MayLeave disk bytes = subst (λ (k : DiskState). MayLeave k bytes) (read_leaves disk new boot (row_place cluster_version s.slot) ROW_LENGTH answer step) left in
       let said_so = row_told disk new boot s.slot answer row step is in
-      ap seen_in (rests bytes before)
-      ∙ ap seen_in (sym (block_of-row_of cluster_version s.slot s.host disk.bytes host_below))
-      ∙ sym (said_sees cluster_version (row_of s.slot disk.bytes) row s.host host_below said_so)
+      ap (seen_in cluster_version) (rests bytes before)
+      ∙ ap (seen_in cluster_version) (sym (block_of-row_of cluster_version s.slot s.host disk.bytes host_below))
+      ∙ sym (said_sees cluster_version (row_of cluster_version s.slot disk.bytes) row s.host host_below said_so)
       ∙ ap (λ (r : Option (List DecodedBlock)). seen_block r s.host) (sym (last_then (Some row) (ap told is)))
 
   pub read : IsNext (f d) Reading → Fits (call_by s d f Reading) x → Step disk (call_by s d f Reading) answer new → IsSameBlock old cell → After s d g new cell
@@ -162,7 +161,7 @@ module _ (slots : ℕ) (any : Setup) (p : Phase) (d : ℕ) (f : Answers) (disk n
         knows = record {
           boot = boot_then (call_by s d f Reading) step;
           next = λ current next then.
-              (let told_row = reading_tells (boot_of (f d)) (row_place s.slot) ROW_LENGTH x fits (good_then current) in
+              (let told_row = reading_tells (boot_of (f d)) (row_place cluster_version s.slot) ROW_LENGTH x fits (good_then current) in
               let before = current_before Reading (call_by s d f Reading) (λ e. absurd (cc)) is step current in
               let behind = then_is Reading next is then in
               subst (λ (k : Kind). KnowsFor k new s g d cell) (sym behind.1)

@@ -74,15 +74,15 @@ under disk new call (Fault fault) step good = absurd (true≢false good)
 -- THE ROW
 
 -- the answer to a read of a row
-pub row_told : (disk new : DiskState) (boot slot : ℕ) (answer : Answer) (row : List DecodedBlock) → Step disk (Read boot (row_place slot) ROW_LENGTH) answer new → heard_as answer ≡ answers.Told (Some row)
-    → decoded_row (row_of slot disk.bytes) ≡ Some row
+pub row_told : (disk new : DiskState) (boot slot : ℕ) (answer : Answer) (row : List DecodedBlock) → Step disk (Read boot (row_place cluster_version slot) ROW_LENGTH) answer new → heard_as answer ≡ answers.Told (Some row)
+    → decoded_row cluster_version (row_of cluster_version slot disk.bytes) ≡ Some row
 row_told disk new boot slot (Booted number) row step is = absurd (cc)
 row_told disk new boot slot Done row step is = absurd (cc)
 row_told disk new boot slot (Fault fault) row step is = absurd (cc)
 row_told disk new boot slot (Told bytes) row step is =
-    let read : bytes ≡ row_of slot disk.bytes = (let all = step.2.0 in cc) in
-    let says : decoded_row bytes ≡ Some row = cc in
-    ap decoded_row (sym read) ∙ says
+    let read : bytes ≡ row_of cluster_version slot disk.bytes = (let all = step.2.0 in cc) in
+    let says : decoded_row cluster_version bytes ≡ Some row = cc in
+    ap (decoded_row cluster_version) (sym read) ∙ says
 
 -- WRITES
 
@@ -108,7 +108,7 @@ number_fits None n is fits = omega arith
 number_fits (Some value) n is fits = grind (arith, nat_tests)
 
 -- a cell in which nothing is in writing reads as its confirmed value
-confirmed_is : (disk : DiskState) (slot host : ℕ) (cell : Cell (List ℕ)) (is : Stands disk slot host cell) → cell.writing ≡ None → cell.confirmed ≡ said (value_of (block_in (place_of (VoteOf slot host)) disk.bytes))
+confirmed_is : (disk : DiskState) (slot host : ℕ) (cell : Cell (List ℕ)) (is : Stands disk slot host cell) → cell.writing ≡ None → cell.confirmed ≡ said (value_of cluster_version (block_in cluster_version (place_of cluster_version (VoteOf slot host)) disk.bytes))
 confirmed_is disk slot host cell is rests = elim (is.reads disk.bytes (may_leave_now disk)) [ inl kept ↦ sym kept | inr written ↦ absurd (cc) ]
 
 -- a value more that is not on the disk does no harm
@@ -121,7 +121,7 @@ some_is value other is = cc
 
 -- THE OWN BLOCK
 
-module _ (slots : ℕ) (any : Setup) (p : Phase) (d : ℕ) (f : Answers) (disk : DiskState) (image : IsImage slots disk) (slot_below : (at_cluster any).slot < slots) (host_below : (at_cluster any).host < HOSTS) where
+module _ (slots : ℕ) (any : Setup) (p : Phase) (d : ℕ) (f : Answers) (disk : DiskState) (image : IsImage cluster_version slots disk) (slot_below : (at_cluster any).slot < slots) (host_below : (at_cluster any).host < HOSTS) where
   abbrev s : Setup
   s = at_cluster any
 
@@ -137,10 +137,10 @@ module _ (slots : ℕ) (any : Setup) (p : Phase) (d : ℕ) (f : Answers) (disk :
       record { whole = image.whole; within = lies; block = can.long; body = can.full; fits = (let number = can.is_write.number in omega (arith, number)) }
 
   -- what is in writing says what the attempt writes
-  pub new_says : MaySay s.host (says_for s p f) → said (new_value w) ≡ block_said (says_for s p f)
+  pub new_says : MaySay cluster_version s.host (says_for s p f) → said (new_value w) ≡ block_said (says_for s p f)
   new_says may = ap block_said (claims_back cluster_version (says_for s p f) s.host may)
 
-  stands_writing : (new : DiskState) (cell : Cell (List ℕ)) → StandsFor (own_place s) (in_writing w) new → IsSoundAt s.host (own_place s) new → cell.confirmed ≡ said (old_value w) → cell.writing ≡ Some (said (new_value w)) → Stands new s.slot s.host cell
+  stands_writing : (new : DiskState) (cell : Cell (List ℕ)) → StandsFor cluster_version (own_place s) (in_writing w) new → IsSoundAt cluster_version s.host (own_place s) new → cell.confirmed ≡ said (old_value w) → cell.writing ≡ Some (said (new_value w)) → Stands new s.slot s.host cell
   stands_writing new cell holds sound confirmed writing =
       record {
         reads = λ bytes left. elim (holds bytes left) [
@@ -152,7 +152,7 @@ module _ (slots : ℕ) (any : Setup) (p : Phase) (d : ℕ) (f : Answers) (disk :
 
   module _ (can : CanWrite s.host (says_for s p f) w) where
     -- while a call is due
-    pub due_stands : (new : DiskState) (image' : IsImage slots new) (call : WriteCall) (cell : Cell (List ℕ)) → IsPlaced w new → IsDue call w new → cell.confirmed ≡ said (old_value w) → cell.writing ≡ Some (said (new_value w)) → Stands new s.slot s.host cell
+    pub due_stands : (new : DiskState) (image' : IsImage cluster_version slots new) (call : WriteCall) (cell : Cell (List ℕ)) → IsPlaced w new → IsDue call w new → cell.confirmed ≡ said (old_value w) → cell.writing ≡ Some (said (new_value w)) → Stands new s.slot s.host cell
     due_stands new image' call cell place due confirmed writing =
         stands_writing new cell (due_reads call w new place due) (sound_while_due s.host w (says_for s p f) new place can.is_write call due) confirmed writing
 
@@ -164,21 +164,21 @@ module _ (slots : ℕ) (any : Setup) (p : Phase) (d : ℕ) (f : Answers) (disk :
   -- WHERE IT BEGINS
 
   module _ (old : Cell (List ℕ)) (stands : Stands disk s.slot s.host old) (settled : KnowsFor (Putting p CloseGate) disk s f d old) where
-    now : seen_in (block_in (own_place s) disk.bytes) ≡ seen_block (last_row (f d)) s.host
+    now : seen_in cluster_version (block_in cluster_version (own_place s) disk.bytes) ≡ seen_block (last_row (f d)) s.host
     now = settled disk.bytes (may_leave_now disk)
 
-    same_bytes : block_in (own_place s) disk.bytes ≡ w.block
+    same_bytes : block_in cluster_version (own_place s) disk.bytes ≡ w.block
     same_bytes = ap (λ (b : DecodedBlock). b.bytes) now
 
     -- over the block as it was read it may write
-    pub can_begin : MaySay s.host (says_for s p f) → length (body_saying (says_for s p f)) ≡ BODY_LENGTH → nat_le LAST_SEQUENCE (seen_block (last_row (f d)) s.host).sequence ≡ false → CanWrite s.host (says_for s p f) w
+    pub can_begin : MaySay cluster_version s.host (says_for s p f) → length (body_saying cluster_version (says_for s p f)) ≡ BODY_LENGTH → nat_le LAST_SEQUENCE (seen_block (last_row (f d)) s.host).sequence ≡ false → CanWrite s.host (says_for s p f) w
     can_begin may full unspent =
         record {
           is_write = record {
-            sound = subst (IsSoundBlock (IsSound s.host)) same_bytes (stands.sound disk.bytes (may_leave_now disk));
+            sound = subst (IsSoundBlock cluster_version (IsSound cluster_version s.host)) same_bytes (stands.sound disk.bytes (may_leave_now disk));
             may_say = may;
             body = refl;
-            number = number_fits (value_of w.block) (seen_block (last_row (f d)) s.host).sequence (ap (λ (b : List ℕ). sequence_or_zero (value_of b)) (sym same_bytes) ∙ ap (λ (b : DecodedBlock). b.sequence) now) unspent;
+            number = number_fits (value_of cluster_version w.block) (seen_block (last_row (f d)) s.host).sequence (ap (λ (b : List ℕ). sequence_or_zero (value_of cluster_version b)) (sym same_bytes) ∙ ap (λ (b : DecodedBlock). b.sequence) now) unspent;
           };
           long = ap length (sym same_bytes) ∙ length-block_in cluster_version (own_place s) disk.bytes lies;
           full = full;
@@ -189,4 +189,4 @@ module _ (slots : ℕ) (any : Setup) (p : Phase) (d : ℕ) (f : Answers) (disk :
 
     -- the old value is the confirmed one
     pub old_is : old.writing ≡ None → old.confirmed ≡ said (old_value w)
-    old_is rests = confirmed_is disk s.slot s.host old stands rests ∙ ap (λ (b : List ℕ). said (value_of b)) same_bytes
+    old_is rests = confirmed_is disk s.slot s.host old stands rests ∙ ap (λ (b : List ℕ). said (value_of cluster_version b)) same_bytes

@@ -11,8 +11,7 @@ use Rattle.torn_block.specs.declared.write_steps.WriteCall.TheVariants.{CloseGat
 use Rattle.torn_block.proofs.RegisterLaws.{known_synced}
 use Rattle.torn_block.specs.Stage.{Write128, call_of, next_call, old_value, new_value, IsDue, Stands as Next}
 use Rattle.torn_block.proofs.StageLaws.{done_reads, done_leads_on}
-use Rattle.paxos_block.specs.Saying.{Said as PBlock}
-use Rattle.paxos_block.specs.Saying.{MaySay, body_saying}
+use Rattle.paxos_block.specs.Saying.{Said as PBlock, MaySay, body_saying}
 use Rattle.paxos_block.proofs.WriteLemmas.{sound_when_done}
 use Rattle.attempt.specs.Calls.{Phase, Kind, Attaching, Syncing, Reading, Putting}
 use Rattle.attempt.specs.Answers as answers
@@ -89,8 +88,8 @@ module _ (slots : ℕ) (any : Setup) (p : Phase) (d : ℕ) (f : Answers) (disk n
 
   -- what it takes to begin
   pub record CanBegin : Type 0 where
-    pub may : MaySay s.host (says_for s p f)
-    pub full : length (body_saying (says_for s p f)) ≡ BODY_LENGTH
+    pub may : MaySay cluster_version s.host (says_for s p f)
+    pub full : length (body_saying cluster_version (says_for s p f)) ≡ BODY_LENGTH
     pub unspent : nat_le LAST_SEQUENCE (seen_block (last_row (f d)) s.host).sequence ≡ false
     pub rests : old.writing ≡ None
 

@@ -85,15 +85,15 @@ module _ (any : Setup) (f : Answers) (k : ℕ) (disk new : DiskState) (answer : 
     pub is_next_read : IsNext (f k) Reading
     is_next_read = subst (IsNext (f k)) is_read is
 
-    pub row_is : decoded_row (row_of s.slot disk.bytes) ≡ Some row
+    pub row_is : decoded_row cluster_version (row_of cluster_version s.slot disk.bytes) ≡ Some row
     row_is = row_told disk new (boot_of (f k)) s.slot answer row read_step tells
 
     -- what is read of the own block
     abbrev pub value_read : Value
-    value_read = value_of (block_in (own_place s) disk.bytes)
+    value_read = value_of cluster_version (block_in cluster_version (own_place s) disk.bytes)
 
-    pub seen_is : (g : ℕ) → g < HOSTS → seen_at row g ≡ seen_in (block_in (place_of (VoteOf s.slot g)) disk.bytes)
-    seen_is g below = said_sees cluster_version (row_of s.slot disk.bytes) row g below row_is ∙ ap seen_in (block_of-row_of cluster_version s.slot g disk.bytes below)
+    pub seen_is : (g : ℕ) → g < HOSTS → seen_at row g ≡ seen_in cluster_version (block_in cluster_version (place_of cluster_version (VoteOf s.slot g)) disk.bytes)
+    seen_is g below = said_sees cluster_version (row_of cluster_version s.slot disk.bytes) row g below row_is ∙ ap (seen_in cluster_version) (block_of-row_of cluster_version s.slot g disk.bytes below)
 
     other_reads : (g : ℕ) (cell : Cell (List ℕ)) → g < HOSTS → Stands disk s.slot g cell → IsReading cell (blocks_said row g)
     other_reads g cell below stands = subst (IsReading cell) (ap (λ (b : DecodedBlock). block_said b.says) (sym (seen_is g below))) (stands.reads disk.bytes (may_leave_now disk))

@@ -23,11 +23,12 @@ use Rattle.world_safety.specs.Marks.{AllSay}
 -- WHAT A BLOCK STANDS FOR
 
 -- it stays, where there are no other outcomes
-pub stands_by : (disk new : DiskState) (slot host : ℕ) (cell : Cell (List ℕ)) → Outcomes cluster_version disk (place_of (VoteOf slot host)) new → Stands disk slot host cell → Stands new slot host cell
+pub stands_by : (disk new : DiskState) (slot host : ℕ) (cell : Cell (List ℕ)) → Outcomes cluster_version disk (place_of cluster_version (VoteOf slot host)) new → Stands disk slot host cell
+    → Stands new slot host cell
 stands_by disk new slot host cell o is =
     record {
-      reads = λ bytes may. (let b = o bytes may in subst (λ (block : List ℕ). IsReading cell (said (value_of block))) (sym b.2) (is.reads b.0 b.1));
-      sound = λ bytes may. (let b = o bytes may in subst (IsSoundBlock (IsSound host)) (sym b.2) (is.sound b.0 b.1));
+      reads = λ bytes may. (let b = o bytes may in subst (λ (block : List ℕ). IsReading cell (said (value_of cluster_version block))) (sym b.2) (is.reads b.0 b.1));
+      sound = λ bytes may. (let b = o bytes may in subst (IsSoundBlock cluster_version (IsSound cluster_version host)) (sym b.2) (is.sound b.0 b.1));
     }
 
 -- a cell of the same block will do
@@ -37,22 +38,22 @@ reads_same old new x same (inr e) = inr (same.writing ∙ e)
 
 pub stands_same : (disk : DiskState) (slot host : ℕ) (old new : Cell (List ℕ)) → IsSameBlock old new → Stands disk slot host old → Stands disk slot host new
 stands_same disk slot host old new same is =
-    record { reads = λ bytes may. reads_same old new (said (value_of (block_in (place_of (VoteOf slot host)) bytes))) same (is.reads bytes may); sound = is.sound }
+    record { reads = λ bytes may. reads_same old new (said (value_of cluster_version (block_in cluster_version (place_of cluster_version (VoteOf slot host)) bytes))) same (is.reads bytes may); sound = is.sound }
 
 -- a block at rest stands for what it is now
-pub stands_resting : (disk : DiskState) (slot host : ℕ) (old new : Cell (List ℕ)) → Stands disk slot host old → IsAtRest (place_of (VoteOf slot host)) disk
-    → new.confirmed ≡ said (value_of (block_in (place_of (VoteOf slot host)) disk.bytes)) → Stands disk slot host new
+pub stands_resting : (disk : DiskState) (slot host : ℕ) (old new : Cell (List ℕ)) → Stands disk slot host old → IsAtRest cluster_version (place_of cluster_version (VoteOf slot host)) disk
+    → new.confirmed ≡ said (value_of cluster_version (block_in cluster_version (place_of cluster_version (VoteOf slot host)) disk.bytes)) → Stands disk slot host new
 stands_resting disk slot host old new is rests confirmed =
-    record { reads = λ bytes may. inl (ap (λ (block : List ℕ). said (value_of block)) (rests bytes may) ∙ sym confirmed); sound = is.sound }
+    record { reads = λ bytes may. inl (ap (λ (block : List ℕ). said (value_of cluster_version block)) (rests bytes may) ∙ sym confirmed); sound = is.sound }
 
 -- after a crash it is at rest
 pub stands_crashed : (disk new : DiskState) (slot host : ℕ) (old cell : Cell (List ℕ)) → Crashes disk new → Stands disk slot host old
-    → cell.confirmed ≡ said (value_of (block_in (place_of (VoteOf slot host)) new.bytes)) → Stands new slot host cell
+    → cell.confirmed ≡ said (value_of cluster_version (block_in cluster_version (place_of cluster_version (VoteOf slot host)) new.bytes)) → Stands new slot host cell
 stands_crashed disk new slot host old cell crash is confirmed =
-    let place = place_of (VoteOf slot host) in
+    let place = place_of cluster_version (VoteOf slot host) in
     record {
-      reads = λ bytes may. inl (ap (λ (block : List ℕ). said (value_of block)) (rests_crashed cluster_version place disk new crash bytes may) ∙ sym confirmed);
-      sound = λ bytes may. subst (IsSoundBlock (IsSound host)) (sym (rests_crashed cluster_version place disk new crash bytes may)) (is.sound new.bytes crash.bytes);
+      reads = λ bytes may. inl (ap (λ (block : List ℕ). said (value_of cluster_version block)) (rests_crashed cluster_version place disk new crash bytes may) ∙ sym confirmed);
+      sound = λ bytes may. subst (IsSoundBlock cluster_version (IsSound cluster_version host)) (sym (rests_crashed cluster_version place disk new crash bytes may)) (is.sound new.bytes crash.bytes);
     }
 
 -- a lost disk has the same bytes
@@ -70,14 +71,14 @@ both_closed true false c first second is = absurd (cc)
 both_closed false true c first second is = absurd (cc)
 both_closed false false c first second is = (refl, refl)
 
-blank_closed : (block : List ℕ) → value_of block ≡ None → (half : Half) → is_open (copy_of half block) ≡ false
+blank_closed : (block : List ℕ) → value_of cluster_version block ≡ None → (half : Half) → is_open (copy_of cluster_version half block) ≡ false
 blank_closed block is First =
-    (both_closed (is_open (copy_of First block)) (is_open (copy_of Second block)) (nat_lt (sequence_of (copy_of First block)) (sequence_of (copy_of Second block))) (copy_of First block) (copy_of Second block) is).0
+    (both_closed (is_open (copy_of cluster_version First block)) (is_open (copy_of cluster_version Second block)) (nat_lt (sequence_of (copy_of cluster_version First block)) (sequence_of (copy_of cluster_version Second block))) (copy_of cluster_version First block) (copy_of cluster_version Second block) is).0
 blank_closed block is Second =
-    (both_closed (is_open (copy_of First block)) (is_open (copy_of Second block)) (nat_lt (sequence_of (copy_of First block)) (sequence_of (copy_of Second block))) (copy_of First block) (copy_of Second block) is).1
+    (both_closed (is_open (copy_of cluster_version First block)) (is_open (copy_of cluster_version Second block)) (nat_lt (sequence_of (copy_of cluster_version First block)) (sequence_of (copy_of cluster_version Second block))) (copy_of cluster_version First block) (copy_of cluster_version Second block) is).1
 
 -- so it is sound
-pub blank_sound : (host : ℕ) (block : List ℕ) → value_of block ≡ None → IsSoundBlock (IsSound host) block
+pub blank_sound : (host : ℕ) (block : List ℕ) → value_of cluster_version block ≡ None → IsSoundBlock cluster_version (IsSound cluster_version host) block
 blank_sound host block is =
     record {
       copies = λ half opened. absurd (true≢false (sym opened ∙ blank_closed block is half));
@@ -91,15 +92,15 @@ reads_blank value (inr e) = absurd (cc)
 -- every block of a fresh disk is blank
 pub stands_fresh : (size slot host : ℕ) → Stands (fresh_disk size) slot host (record { confirmed = blank; writing = None; stage = away })
 stands_fresh size slot host =
-    let place = place_of (VoteOf slot host) in
+    let place = place_of cluster_version (VoteOf slot host) in
     let rests = fresh_rests cluster_version place size in
     record {
-      reads = λ bytes may. inl (ap said (reads_blank (value_of (block_in place bytes)) (rests.0 bytes may)));
-      sound = λ bytes may. blank_sound host (block_in place bytes) (reads_blank (value_of (block_in place bytes)) (rests.0 bytes may));
+      reads = λ bytes may. inl (ap said (reads_blank (value_of cluster_version (block_in cluster_version place bytes)) (rests.0 bytes may)));
+      sound = λ bytes may. blank_sound host (block_in cluster_version place bytes) (reads_blank (value_of cluster_version (block_in cluster_version place bytes)) (rests.0 bytes may));
     }
 
 -- so none is marked
-pub fresh_unmarked : (size slot host : ℕ) → AllSay (λ says. says.mark ≡ true → ⊥) (place_of (VoteOf slot host)) (fresh_disk size)
+pub fresh_unmarked : (size slot host : ℕ) → AllSay (λ says. says.mark ≡ true → ⊥) (place_of cluster_version (VoteOf slot host)) (fresh_disk size)
 fresh_unmarked size slot host bytes may marked =
-    let blank_value = reads_blank (value_of (block_in (place_of (VoteOf slot host)) bytes)) ((fresh_rests cluster_version (place_of (VoteOf slot host)) size).0 bytes may) in
-    true≢false (sym marked ∙ ap (λ (v : Value). (says_of v).mark) blank_value)
+    let blank_value = reads_blank (value_of cluster_version (block_in cluster_version (place_of cluster_version (VoteOf slot host)) bytes)) ((fresh_rests cluster_version (place_of cluster_version (VoteOf slot host)) size).0 bytes may) in
+    true≢false (sym marked ∙ ap (λ (v : Value). (says_of cluster_version v).mark) blank_value)

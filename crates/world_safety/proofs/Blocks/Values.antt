@@ -25,20 +25,20 @@ use Rattle.world_safety.proofs.Blocks.Owning.{done_is}
 abbrev pub Adds : (old value : Value) → ℕ → DiskState → DiskState → Type 0
 Adds old value place disk new =
     (bytes : List ℕ) → MayLeave new bytes
-    → ((before : List ℕ) × MayLeave disk before × (value_of (block_in place bytes) ≡ value_of (block_in place before)))
-    ⊎ ((value_of (block_in place bytes) ≡ value) × (value_of (block_in place disk.bytes) ≡ old))
+    → ((before : List ℕ) × MayLeave disk before × (value_of cluster_version (block_in cluster_version place bytes) ≡ value_of cluster_version (block_in cluster_version place before)))
+    ⊎ ((value_of cluster_version (block_in cluster_version place bytes) ≡ value) × (value_of cluster_version (block_in cluster_version place disk.bytes) ≡ old))
 
 -- where there are no other outcomes, no value is added
 pub adds_none : (old value : Value) (place : ℕ) (disk new : DiskState) → Outcomes cluster_version disk place new → Adds old value place disk new
-adds_none old value place disk new o bytes left = let b = o bytes left in inl (b.0, b.1, ap value_of b.2)
+adds_none old value place disk new o bytes left = let b = o bytes left in inl (b.0, b.1, ap (value_of cluster_version) b.2)
 
 pub all_say_by : (P : PBlock → Type 0) (place : ℕ) (disk new : DiskState) → Outcomes cluster_version disk place new → AllSay P place disk → AllSay P place new
-all_say_by P place disk new o all bytes left = let b = o bytes left in subst (λ (block : List ℕ). P (says_of (value_of block))) (sym b.2) (all b.0 b.1)
+all_say_by P place disk new o all bytes left = let b = o bytes left in subst (λ (block : List ℕ). P (says_of cluster_version (value_of cluster_version block))) (sym b.2) (all b.0 b.1)
 
-pub all_say_added : (P : PBlock → Type 0) (old value : Value) (place : ℕ) (disk new : DiskState) → Adds old value place disk new → (P (says_of old) → P (says_of value)) → AllSay P place disk → AllSay P place new
+pub all_say_added : (P : PBlock → Type 0) (old value : Value) (place : ℕ) (disk new : DiskState) → Adds old value place disk new → (P (says_of cluster_version old) → P (says_of cluster_version value)) → AllSay P place disk → AllSay P place new
 all_say_added P old value place disk new adds added all bytes left = elim (adds bytes left) [
-  | inl b ↦ subst (λ (v : Value). P (says_of v)) (sym b.2) (all b.0 b.1)
-  | inr is ↦ subst (λ (v : Value). P (says_of v)) (sym is.0) (added (subst (λ (v : Value). P (says_of v)) is.1 (all disk.bytes (may_leave_now disk))))
+  | inl b ↦ subst (λ (v : Value). P (says_of cluster_version v)) (sym b.2) (all b.0 b.1)
+  | inr is ↦ subst (λ (v : Value). P (says_of cluster_version v)) (sym is.0) (added (subst (λ (v : Value). P (says_of cluster_version v)) is.1 (all disk.bytes (may_leave_now disk))))
 ]
 
 -- what only reads leaves the bytes
@@ -55,14 +55,14 @@ module _ (any : Write128) (disk : DiskState) (placed : IsPlaced (record any { ve
   -- a call of the write leaves the block as it was; or the block reads as its owner read it, and then as that or the new value
   data IsPut : Type 0 where
     Leaves : (bytes : new.bytes ≡ disk.bytes) → (outcomes : Outcomes cluster_version disk w.place new) → IsPut
-    Puts : (now : value_of (block_in w.place disk.bytes) ≡ old_value w) → (reads : StandsFor w.place (in_writing w) new) → IsPut
+    Puts : (now : value_of cluster_version (block_in cluster_version w.place disk.bytes) ≡ old_value w) → (reads : StandsFor cluster_version w.place (in_writing w) new) → IsPut
 
   -- a sync
   syncs : (answer : Answer) → Step disk (Sync boot) answer new → IsPut
   syncs answer step = Leaves (bytes_left disk new (Sync boot) answer tt step) (calm_outcomes cluster_version disk new w.place (Sync boot) answer tt step)
 
   -- a write
-  module _ (call next : WriteCall) (due : IsDue call w disk) (leads : Next (next_call call) w new → IsDue next w new) (now : value_of (block_in w.place disk.bytes) ≡ old_value w) where
+  module _ (call next : WriteCall) (due : IsDue call w disk) (leads : Next (next_call call) w new → IsDue next w new) (now : value_of cluster_version (block_in cluster_version w.place disk.bytes) ≡ old_value w) where
     writes : (answer : Answer) → Step disk (call_of call w boot) answer new → IsPut
     writes Done step = Puts now (due_reads next w new placed_then (leads (done_leads_on w disk placed call boot new due step)))
     writes (Booted number) step = absurd (let one = step.2.0 in let two = done_is call w boot disk in cc)
@@ -87,7 +87,7 @@ module _ (any : Write128) (disk : DiskState) (placed : IsPlaced (record any { ve
   adds_by (Leaves bytes outcomes) = adds_none (old_value w) (new_value w) w.place disk new outcomes
   adds_by (Puts now reads) = λ bytes left. elim (reads bytes left) [
     | inl kept ↦ inl (disk.bytes, may_leave_now disk, kept ∙ sym now)
-    | inr written ↦ inr (some_is (value_of (block_in w.place bytes)) (new_value w) written, now)
+    | inr written ↦ inr (some_is (value_of cluster_version (block_in cluster_version w.place bytes)) (new_value w) written, now)
   ]
 
   pub put_adds : (call : WriteCall) (answer : Answer) → IsDue call w disk → Step disk (call_of call w boot) answer new → Adds (old_value w) (new_value w) w.place disk new
@@ -95,13 +95,13 @@ module _ (any : Write128) (disk : DiskState) (placed : IsPlaced (record any { ve
 
   -- and it reads as before, or as the new value where it read as its owner read it
   abbrev pub ReadsOn : Type 0
-  ReadsOn = (value_of (block_in w.place new.bytes) ≡ value_of (block_in w.place disk.bytes)) ⊎ ((value_of (block_in w.place new.bytes) ≡ new_value w) × (value_of (block_in w.place disk.bytes) ≡ old_value w))
+  ReadsOn = (value_of cluster_version (block_in cluster_version w.place new.bytes) ≡ value_of cluster_version (block_in cluster_version w.place disk.bytes)) ⊎ ((value_of cluster_version (block_in cluster_version w.place new.bytes) ≡ new_value w) × (value_of cluster_version (block_in cluster_version w.place disk.bytes) ≡ old_value w))
 
   reads_by : IsPut → ReadsOn
-  reads_by (Leaves bytes outcomes) = inl (ap (λ (l : List ℕ). value_of (block_in w.place l)) bytes)
+  reads_by (Leaves bytes outcomes) = inl (ap (λ (l : List ℕ). value_of cluster_version (block_in cluster_version w.place l)) bytes)
   reads_by (Puts now reads) = elim (reads new.bytes (may_leave_now new)) [
     | inl kept ↦ inl (kept ∙ sym now)
-    | inr written ↦ inr (some_is (value_of (block_in w.place new.bytes)) (new_value w) written, now)
+    | inr written ↦ inr (some_is (value_of cluster_version (block_in cluster_version w.place new.bytes)) (new_value w) written, now)
   ]
 
   pub put_reads : (call : WriteCall) (answer : Answer) → IsDue call w disk → Step disk (call_of call w boot) answer new → ReadsOn

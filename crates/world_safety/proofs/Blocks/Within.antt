@@ -27,33 +27,33 @@ closing_short : (opened : Bool) → length {A = ℕ} (if opened then 0 ∷ [] el
 closing_short true = omega arith
 closing_short false = omega arith
 
-put_within : (any : Setup) (p : Phase) (d boot : ℕ) (f : Answers) (call : WriteCall) → length (body_saying (says_for (at_cluster any) p f)) ≡ BODY_LENGTH → IsWithin (VoteOf (at_cluster any).slot (at_cluster any).host) (call_of call (write_on (at_cluster any) p d f) boot)
+put_within : (any : Setup) (p : Phase) (d boot : ℕ) (f : Answers) (call : WriteCall) → length (body_saying cluster_version (says_for (at_cluster any) p f)) ≡ BODY_LENGTH → IsWithin cluster_version (VoteOf (at_cluster any).slot (at_cluster any).host) (call_of call (write_on (at_cluster any) p d f) boot)
 put_within s p d boot f CloseGate full =
     let w = write_on (at_cluster s) p d f in
-    let a = offset_fits cluster_version (target_of w.block) in
-    let b = closing_short (is_open (copy_of (target_of w.block) w.block)) in
+    let a = offset_fits cluster_version (target_of cluster_version w.block) in
+    let b = closing_short (is_open (copy_of cluster_version (target_of cluster_version w.block) w.block)) in
     (omega arith, omega (arith, a, b))
 put_within s p d boot f SyncClosed full = tt
 put_within s p d boot f PutBody full =
     let w = write_on (at_cluster s) p d f in
-    let a = offset_fits cluster_version (target_of w.block) in
-    let b = length-tail_with cluster_version (next_sequence w.block) w.body full in
+    let a = offset_fits cluster_version (target_of cluster_version w.block) in
+    let b = length-tail_with cluster_version (next_sequence cluster_version w.block) w.body full in
     (omega arith, omega (arith, a, b))
 put_within s p d boot f SyncBody full = tt
 put_within s p d boot f OpenGate full =
     let w = write_on (at_cluster s) p d f in
-    let a = offset_fits cluster_version (target_of w.block) in
+    let a = offset_fits cluster_version (target_of cluster_version w.block) in
     (omega arith, omega (arith, a))
 put_within s p d boot f SyncOpened full = tt
 
-pub within : (any : Setup) (d : ℕ) (f : Answers) (kind : Kind) → ((p : Phase) (call : WriteCall) → kind ≡ Putting p call → length (body_saying (says_for (at_cluster any) p f)) ≡ BODY_LENGTH) → IsWithin (VoteOf (at_cluster any).slot (at_cluster any).host) (call_by (at_cluster any) d f kind)
+pub within : (any : Setup) (d : ℕ) (f : Answers) (kind : Kind) → ((p : Phase) (call : WriteCall) → kind ≡ Putting p call → length (body_saying cluster_version (says_for (at_cluster any) p f)) ≡ BODY_LENGTH) → IsWithin cluster_version (VoteOf (at_cluster any).slot (at_cluster any).host) (call_by (at_cluster any) d f kind)
 within s d f Attaching full = tt
 within s d f Syncing full = tt
 within s d f Reading full = tt
 within s d f (Putting p call) full = put_within (at_cluster s) p d _ f call (full p call (λ i. Putting p call))
 
 -- in a phase with a write the attempt may write
-pub may_write : (any : Setup) (f : Answers) (host_below : (at_cluster any).host < HOSTS) (votes : (d : ℕ) → TellsVotes (f d)) (p : Phase) (d : ℕ) (call : WriteCall) → IsLong (at_cluster any).input → IsIn (at_cluster any) p f → IsNext (f d) (Putting p call) → MayWrite (at_cluster any) f host_below votes p
+pub may_write : (any : Setup) (f : Answers) (host_below : (at_cluster any).host < HOSTS) (votes : (d : ℕ) → TellsVotes cluster_version (f d)) (p : Phase) (d : ℕ) (call : WriteCall) → IsLong cluster_version (at_cluster any).input → IsIn (at_cluster any) p f → IsNext (f d) (Putting p call) → MayWrite (at_cluster any) f host_below votes p
 may_write s f host_below votes Opening d call input come is = absurd (writing Opening call (length (f d)) is).0
 may_write s f host_below votes One d call input come is = may_write_one (at_cluster s) f host_below votes come
 may_write s f host_below votes Two d call input come is = may_write_two (at_cluster s) f host_below votes input come

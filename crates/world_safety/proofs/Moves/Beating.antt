@@ -44,43 +44,43 @@ full : length beat_body ≡ BODY_LENGTH
 unfolding beat_body
 full = refl
 
-put_within : (s : beat.Setup) (a : List beat_answers.Heard) (boot : ℕ) (call : WriteCall) → IsWithin (BeatOf s.host) (call_of call (beat.write_on s a) boot)
+put_within : (s : beat.Setup) (a : List beat_answers.Heard) (boot : ℕ) (call : WriteCall) → IsWithin cluster_version (BeatOf s.host) (call_of call (beat.write_on s a) boot)
 put_within s a boot CloseGate =
     let w = beat.write_on s a in
-    let at = offset_fits cluster_version (target_of w.block) in
-    let short = closing_short (is_open (copy_of (target_of w.block) w.block)) in
+    let at = offset_fits cluster_version (target_of cluster_version w.block) in
+    let short = closing_short (is_open (copy_of cluster_version (target_of cluster_version w.block) w.block)) in
     (omega arith, omega (arith, at, short))
 put_within s a boot SyncClosed = tt
 put_within s a boot PutBody =
     let w = beat.write_on s a in
-    let at = offset_fits cluster_version (target_of w.block) in
-    let long = length-tail_with cluster_version (next_sequence w.block) w.body full in
+    let at = offset_fits cluster_version (target_of cluster_version w.block) in
+    let long = length-tail_with cluster_version (next_sequence cluster_version w.block) w.body full in
     (omega arith, omega (arith, at, long))
 put_within s a boot SyncBody = tt
 put_within s a boot OpenGate =
     let w = beat.write_on s a in
-    let at = offset_fits cluster_version (target_of w.block) in
+    let at = offset_fits cluster_version (target_of cluster_version w.block) in
     (omega arith, omega (arith, at))
 put_within s a boot SyncOpened = tt
 
-kind_within : (s : beat.Setup) (a : List beat_answers.Heard) (kind : beat.Kind) → IsWithin (BeatOf s.host) (beat.call_by s a kind)
+kind_within : (s : beat.Setup) (a : List beat_answers.Heard) (kind : beat.Kind) → IsWithin cluster_version (BeatOf s.host) (beat.call_by s a kind)
 kind_within s a beat.Attaching = tt
 kind_within s a beat.Syncing = tt
 kind_within s a beat.Reading = tt
 kind_within s a (beat.Putting p call) = put_within s a _ call
 
-call_within : (s : beat.Setup) (a : List beat_answers.Heard) (o : Option beat.Kind) (d k : ℕ) (call : Call) → with_disk d (option_map (beat.call_by s a) o) ≡ Some (k, call) → IsWithin (BeatOf s.host) call
+call_within : (s : beat.Setup) (a : List beat_answers.Heard) (o : Option beat.Kind) (d k : ℕ) (call : Call) → with_disk d (option_map (beat.call_by s a) o) ≡ Some (k, call) → IsWithin cluster_version (BeatOf s.host) call
 call_within s a None d k call is = absurd (cc)
 call_within s a (Some kind) d k call is =
     let pair : (d, beat.call_by s a kind) ≡ (k, call) = cc in
-    subst (IsWithin (BeatOf s.host)) (ap (λ (q : ℕ × Call). q.1) pair) (kind_within s a kind)
+    subst (IsWithin cluster_version (BeatOf s.host)) (ap (λ (q : ℕ × Call). q.1) pair) (kind_within s a kind)
 
-status_within : (s : beat.Setup) (f : beat_answers.Answers) (st : beat.Status) (k : ℕ) (call : Call) → beat.next_in s f st ≡ Some (k, call) → IsWithin (BeatOf s.host) call
+status_within : (s : beat.Setup) (f : beat_answers.Answers) (st : beat.Status) (k : ℕ) (call : Call) → beat.next_in s f st ≡ Some (k, call) → IsWithin cluster_version (BeatOf s.host) call
 status_within s f (beat.Due d) k call is = call_within s (f d) (slice_get seventeen (length (f d))) d k call is
 status_within s f (beat.Ended end) k call is = absurd (cc)
 
 -- a call of a beat is within the host's heartbeat block
-pub beat_within : (s : beat.Setup) (f : beat_answers.Answers) (k : ℕ) (call : Call) → beat.next_call s f ≡ Some (k, call) → IsWithin (BeatOf s.host) call
+pub beat_within : (s : beat.Setup) (f : beat_answers.Answers) (k : ℕ) (call : Call) → beat.next_call s f ≡ Some (k, call) → IsWithin cluster_version (BeatOf s.host) call
 beat_within s f k call is = status_within s f (beat.status s f) k call is
 
 -- A CALL OF IT
@@ -93,7 +93,7 @@ module _ (c : Shape) (w : World) (ms : Moves) (tied : Tied c w ms) where
     run : IsRunning c w ms h is.memory
     run = running_at c w ms tied h is.memory is.running
 
-    inside : IsWithin (BeatOf h) call
+    inside : IsWithin cluster_version (BeatOf h) call
     inside = beat_within (beat_of c h) (beat_answers.on heard) k call is.due
 
     at_disk : (P : ℕ → DiskState → Type 0) → P k (disk_step (w.disk k) e) → ((d : ℕ) → P d (w.disk d)) → (d : ℕ) → P d (disks d)
@@ -104,18 +104,18 @@ module _ (c : Shape) (w : World) (ms : Moves) (tied : Tied c w ms) where
     differ : (j g : ℕ) → BeatOf h ≢ VoteOf j g
     differ j g same = absurd (cc)
 
-    spared : (j g d : ℕ) → j < c.slots → g < HOSTS → Spares (place_of (VoteOf j g)) (w.disk d) (disks d)
+    spared : (j g d : ℕ) → j < c.slots → g < HOSTS → Spares (place_of cluster_version (VoteOf j g)) (w.disk d) (disks d)
     spared j g d j_below g_below =
-        at_disk (λ i disk. Spares (place_of (VoteOf j g)) (w.disk i) disk)
+        at_disk (λ i disk. Spares (place_of cluster_version (VoteOf j g)) (w.disk i) disk)
         (spares_others c.slots (BeatOf h) (VoteOf j g) (w.disk k) (disk_step (w.disk k) e) call answer run.below (j_below, g_below) (differ j g) (tied.images k) inside step)
-        (λ i. spares_same (place_of (VoteOf j g)) (w.disk i))
+        (λ i. spares_same (place_of cluster_version (VoteOf j g)) (w.disk i))
         d
 
     -- all else stands as before
     pub beat_but : TiedBut c (with_disks w disks) ms h
     beat_but =
         but_one c w disks ms ms c.slots h k (tied_but c w ms h tied) tied.history
-        (at_disk (λ d disk. IsImage c.slots disk) (stays_image cluster_version c.slots (BeatOf h) run.below (w.disk k) (tied.images k) call answer (disk_step (w.disk k) e) inside step) tied.images)
+        (at_disk (λ d disk. IsImage cluster_version c.slots disk) (stays_image cluster_version c.slots (BeatOf h) run.below (w.disk k) (tied.images k) call answer (disk_step (w.disk k) e) inside step) tied.images)
         (λ g. refl)
         (λ g off j. same_host g (machine ms j))
         (λ j g d other. block_same ((machine ms j).cell g d))

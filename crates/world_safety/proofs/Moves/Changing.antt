@@ -3,6 +3,7 @@ use Rattle.std.specs.Prelude.{nat_le, ◌&&◌}
 use Rattle.std.proofs.Common.{ℕ, ◌<◌, ◌≡◌, ◌≢◌, ◌==◌, ◌⊎◌, inl, true, true≢false, Bool, false, cond, None, List, [], ◌∷◌, ◌++◌, length, refl, sym, subst, ap, ◌∙◌}
 use Rattle.std.proofs.lemmas.Bool.{eq-eqb}
 use Rattle.disk.specs.Disk.{DiskState, Call, Answer}
+use Rattle.torn_block.specs.Layout.{cluster_version}
 use Rattle.torn_block.specs.declared.layout.TheConstants.{HOSTS, LAST_SEQUENCE}
 use Rattle.torn_block.specs.declared.write_steps.WriteCall.TheVariants.{CloseGate}
 use Rattle.paxos_block.specs.Places.{VoteOf, place_of, IsImage}
@@ -129,9 +130,9 @@ module _ (c : Shape) (w : World) (ms : Moves) (h k : ℕ) (call : Call) (answer 
     unmarked Two = refl
 
     abbrev IsKept : ℕ → ℕ → ℕ → PBlock → Type 0
-    IsKept j g d says = says.mark ≡ true → MaySayOn (place_of (VoteOf j g)) (w.disk d) says ⊎ HasLearned w g j says
+    IsKept j g d says = says.mark ≡ true → MaySayOn (place_of cluster_version (VoteOf j g)) (w.disk d) says ⊎ HasLearned w g j says
 
-    own_kept : AllSay (IsKept slot h k) (place_of (VoteOf slot h)) new
+    own_kept : AllSay (IsKept slot h k) (place_of cluster_version (VoteOf slot h)) new
     own_kept =
         own_says c.slots s is.phase k f (w.disk k) new answer old cell own_call (IsKept slot h k)
         (λ marked. absurd (true≢false (sym marked ∙ unmarked is.phase)))
@@ -141,25 +142,25 @@ module _ (c : Shape) (w : World) (ms : Moves) (h k : ℕ) (call : Call) (answer 
     differ : (j g d : ℕ) → IsOther slot h k j g d → d ≡ k → VoteOf slot h ≢ VoteOf j g
     differ j g d other same equal = other (let a : slot ≡ j = cc in sym a) (let b : h ≡ g = cc in sym b) same
 
-    spared : (j g d : ℕ) → j < c.slots → g < HOSTS → IsOther slot h k j g d → Spares (place_of (VoteOf j g)) (w.disk d) (disks d)
+    spared : (j g d : ℕ) → j < c.slots → g < HOSTS → IsOther slot h k j g d → Spares (place_of cluster_version (VoteOf j g)) (w.disk d) (disks d)
     spared j g d j_below g_below =
-        at_disk (λ i disk. IsOther slot h k j g i → Spares (place_of (VoteOf j g)) (w.disk i) disk)
+        at_disk (λ i disk. IsOther slot h k j g i → Spares (place_of cluster_version (VoteOf j g)) (w.disk i) disk)
         (λ other. spares_others c.slots (VoteOf slot h) (VoteOf j g) (w.disk k) new (call_by s k f is.kind) answer (trying.fits, run.below) (j_below, g_below) (differ j g k other refl) image inside step_by)
-        (λ i off other. spares_same (place_of (VoteOf j g)) (w.disk i))
+        (λ i off other. spares_same (place_of cluster_version (VoteOf j g)) (w.disk i))
         d
 
     -- no block is marked by it
     pub marks_then : KeepsMarks c w (with_disks w disks)
     marks_then =
-        by_block slot h k (λ j g d. j < c.slots → g < HOSTS → AllSay (IsKept j g d) (place_of (VoteOf j g)) (disks d))
-        (λ slot_below host_below. at_disk (λ d disk. d ≡ k → AllSay (IsKept slot h d) (place_of (VoteOf slot h)) disk) (λ same. own_kept) (λ d off same. absurd (off same)) k refl)
+        by_block slot h k (λ j g d. j < c.slots → g < HOSTS → AllSay (IsKept j g d) (place_of cluster_version (VoteOf j g)) (disks d))
+        (λ slot_below host_below. at_disk (λ d disk. d ≡ k → AllSay (IsKept slot h d) (place_of cluster_version (VoteOf slot h)) disk) (λ same. own_kept) (λ d off same. absurd (off same)) k refl)
         (λ j g d other j_below g_below. marks_by w j g (w.disk d) (disks d) (spared j g d j_below g_below other).outcomes)
 
     -- the machines have come to where the disks and the other hosts stand
     pub but_then : TiedBut c (with_disks w disks) ms2 h
     but_then =
         but_one c w disks ms1 ms2 slot h k r.tied its.history
-        (at_disk (λ d disk. IsImage c.slots disk) image_then (λ d off. tied.images d))
+        (at_disk (λ d disk. IsImage cluster_version c.slots disk) image_then (λ d off. tied.images d))
         (λ g. ap (λ (l : ℕ → List (List ℕ)). l g) (learned_same slot ms1 events))
         (other_hosts slot h k ms1 ms2 its.others there_then)
         (other_blocks slot h k ms1 ms2 its.others there_then)

@@ -57,7 +57,7 @@ module _ (c : Shape) (w : World) (ms : Moves) (tied : Tied c w ms) where
 
     -- what a block reads as then
     abbrev value_left : ℕ → ℕ → Value
-    value_left j g = value_of (block_in (place_of (VoteOf j g)) left)
+    value_left j g = value_of cluster_version (block_in cluster_version (place_of cluster_version (VoteOf j g)) left)
 
     -- of the blocks that there are
     abbrev blocks_left : ℕ → ℕ → Block (List ℕ)
@@ -97,7 +97,7 @@ module _ (c : Shape) (w : World) (ms : Moves) (tied : Tied c w ms) where
         stands_crashed (w.disk k) crashed j g ((machine ms j).cell g k) ((machine behind j).cell g k) crash (tied.stands j g k slot below)
         (ap (λ (cell : Cell (List ℕ)). cell.confirmed) (cell_here j g) ∙ left_is j g slot below)
 
-    image_crashed : IsImage c.slots crashed
+    image_crashed : IsImage cluster_version c.slots crashed
     image_crashed =
         record { whole = length-replicate (length (w.disk k).bytes) false ∙ sym crash.bytes.as_many; long = crash.bytes.as_many ∙ (tied.images k).long }
 
@@ -116,7 +116,7 @@ module _ (c : Shape) (w : World) (ms : Moves) (tied : Tied c w ms) where
         at_crash (λ i disk. Knows (w.disk i) (setup_of c g m operation) f i ((machine ms (length m.learned)).cell g i) → Knows disk (setup_of c g m operation) f i ((machine behind (length m.learned)).cell g i))
         (λ known. knows_crashed (setup_of c g m operation) f k (w.disk k) crashed ((machine ms (length m.learned)).cell g k) ((machine behind (length m.learned)).cell g k) crash known)
         (λ i off known. knows_spared c.slots (setup_of c g m operation) f i (w.disk i) (w.disk i) ((machine ms (length m.learned)).cell g i) ((machine behind (length m.learned)).cell g i) (tied.images i) slot_below below
-        (spares_same (place_of (VoteOf (length m.learned) g)) (w.disk i)) (block_by ((machine ms (length m.learned)).cell g i) ((machine behind (length m.learned)).cell g i) (cell_there (length m.learned) g i off)) known)
+        (spares_same (place_of cluster_version (VoteOf (length m.learned) g)) (w.disk i)) (block_by ((machine ms (length m.learned)).cell g i) ((machine behind (length m.learned)).cell g i) (cell_there (length m.learned) g i off)) known)
         d
 
     pub crash_goes : Goes c w (Crashed k left) ms
@@ -125,7 +125,7 @@ module _ (c : Shape) (w : World) (ms : Moves) (tied : Tied c w ms) where
           more = crash_move ∷ [];
           tied = record {
             history = crash_history;
-            images = at_crash (λ d disk. IsImage c.slots disk) image_crashed (λ d off. tied.images d);
+            images = at_crash (λ d disk. IsImage cluster_version c.slots disk) image_crashed (λ d off. tied.images d);
             stands = λ j g d slot below.
                 at_crash (λ i disk. Stands disk j g ((machine behind j).cell g i)) (crash_stands j g slot below)
                 (λ i off. stands_same (w.disk i) j g ((machine ms j).cell g i) ((machine behind j).cell g i) (block_by ((machine ms j).cell g i) ((machine behind j).cell g i) (cell_there j g i off)) (tied.stands j g i slot below))
@@ -135,7 +135,7 @@ module _ (c : Shape) (w : World) (ms : Moves) (tied : Tied c w ms) where
           inputs = λ j v input. absurd (elim input [ inl puts ↦ puts | inr rest ↦ rest ]);
           host = λ g of. absurd (cc);
           carries = tt;
-          marks = λ slot host d slot_below below. marks_by w slot host (w.disk d) (crash_disks d) (outcomes_then (place_of (VoteOf slot host)) d);
+          marks = λ slot host d slot_below below. marks_by w slot host (w.disk d) (crash_disks d) (outcomes_then (place_of cluster_version (VoteOf slot host)) d);
         }
 
   -- A DISK IS LOST
@@ -150,7 +150,7 @@ module _ (c : Shape) (w : World) (ms : Moves) (tied : Tied c w ms) where
     lost_keeps : (g : ℕ) → KeepsKnown c w (with_disks w lost_disks) ms ms g
     lost_keeps g m operation f d slot_below below known =
         knows_spared c.slots (setup_of c g m operation) f d (w.disk d) (lost_disks d) ((machine ms (length m.learned)).cell g d) ((machine ms (length m.learned)).cell g d) (tied.images d) slot_below below
-        (at_lost (λ i disk. Spares (place_of (VoteOf (length m.learned) g)) (w.disk i) disk) (λ i. spares_lost (place_of (VoteOf (length m.learned) g)) (w.disk i)) (λ i. spares_same (place_of (VoteOf (length m.learned) g)) (w.disk i)) d)
+        (at_lost (λ i disk. Spares (place_of cluster_version (VoteOf (length m.learned) g)) (w.disk i) disk) (λ i. spares_lost (place_of cluster_version (VoteOf (length m.learned) g)) (w.disk i)) (λ i. spares_same (place_of cluster_version (VoteOf (length m.learned) g)) (w.disk i)) d)
         (block_same ((machine ms (length m.learned)).cell g d)) known
 
     lost_spares : (place d : ℕ) → Spares place (w.disk d) (lost_disks d)
@@ -158,13 +158,13 @@ module _ (c : Shape) (w : World) (ms : Moves) (tied : Tied c w ms) where
 
     lost_marking : (g : ℕ) → KeepsMarking c w (with_disks w lost_disks) g
     lost_marking g s a d is_host slot_below below known =
-        mark_spared c.slots s a (w.disk d) (lost_disks d) (tied.images d) slot_below (subst (λ (j : ℕ). j < HOSTS) (sym is_host) below) (lost_spares (place_of (VoteOf s.slot s.host)) d) known
+        mark_spared c.slots s a (w.disk d) (lost_disks d) (tied.images d) slot_below (subst (λ (j : ℕ). j < HOSTS) (sym is_host) below) (lost_spares (place_of cluster_version (VoteOf s.slot s.host)) d) known
 
     lost_tied : Tied c (next_world c w (Lost k)) ms
     lost_tied =
         record {
           history = tied.history;
-          images = at_lost (λ d disk. IsImage c.slots disk) (λ d. record { whole = (tied.images d).whole; long = (tied.images d).long }) tied.images;
+          images = at_lost (λ d disk. IsImage cluster_version c.slots disk) (λ d. record { whole = (tied.images d).whole; long = (tied.images d).long }) tied.images;
           stands = λ j g d slot below.
               at_lost (λ i disk. Stands disk j g ((machine ms j).cell g i)) (λ i. stands_lost (w.disk i) j g ((machine ms j).cell g i) (tied.stands j g i slot below)) (λ i. tied.stands j g i slot below) d;
           hosts = λ g. host_kept c w (with_disks w lost_disks) ms ms g (λ j. same_host g (machine ms j)) refl (lost_keeps g) (lost_marking g) (w.host g) (tied.hosts g);
@@ -178,5 +178,5 @@ module _ (c : Shape) (w : World) (ms : Moves) (tied : Tied c w ms) where
           inputs = λ j v input. absurd input;
           host = λ g of. absurd (cc);
           carries = tt;
-          marks = λ slot host d slot_below below. marks_by w slot host (w.disk d) (lost_disks d) (lost_spares (place_of (VoteOf slot host)) d).outcomes;
+          marks = λ slot host d slot_below below. marks_by w slot host (w.disk d) (lost_disks d) (lost_spares (place_of cluster_version (VoteOf slot host)) d).outcomes;
         }

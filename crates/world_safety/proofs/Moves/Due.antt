@@ -120,28 +120,28 @@ module _ (c : Shape) (w : World) (ms : Moves) (h k : ℕ) (call : Call) (answer 
   may : (put : WriteCall) → IsNext (f k) (Putting is.phase put) → MayWrite s f run.below trying.votes is.phase
   may put there = may_write s f run.below trying.votes is.phase k put trying.input due_at.come there
 
-  full : (q : Phase) (put : WriteCall) → is.kind ≡ Putting q put → length (body_saying (says_for s q f)) ≡ BODY_LENGTH
+  full : (q : Phase) (put : WriteCall) → is.kind ≡ Putting q put → length (body_saying cluster_version (says_for s q f)) ≡ BODY_LENGTH
   full q put same =
-      subst (λ (p : Phase). length (body_saying (says_for s p f)) ≡ BODY_LENGTH) (sym (phase_is q put same))
+      subst (λ (p : Phase). length (body_saying cluster_version (says_for s p f)) ≡ BODY_LENGTH) (sym (phase_is q put same))
       (may put (subst (λ (p : Phase). IsNext (f k) (Putting p put)) (phase_is q put same) (subst (λ (kind : Kind). IsNext (f k) kind) same is.kind_is))).fills
 
-  inside : IsWithin (VoteOf slot h) (call_by s k f is.kind)
+  inside : IsWithin cluster_version (VoteOf slot h) (call_by s k f is.kind)
   inside = within s k f is.kind full
 
-  image : IsImage c.slots (w.disk k)
+  image : IsImage cluster_version c.slots (w.disk k)
   image = tied.images k
 
-  image_then : IsImage c.slots new
+  image_then : IsImage cluster_version c.slots new
   image_then = stays_image cluster_version c.slots (VoteOf slot h) (trying.fits, run.below) (w.disk k) image (call_by s k f is.kind) answer new inside step_by
 
-  row_long : length (row_of slot (w.disk k).bytes) ≡ ROW_LENGTH
+  row_long : length (row_of cluster_version slot (w.disk k).bytes) ≡ ROW_LENGTH
   row_long =
-      let n : (row_place slot + ROW_LENGTH) - row_place slot ≡ ROW_LENGTH = omega arith in
-      ap (λ (i : ℕ). length (take i (drop (row_place slot) (w.disk k).bytes))) n
-      ∙ length-take-le ROW_LENGTH (drop (row_place slot) (w.disk k).bytes) (let size = image.long in let below = trying.fits in omega (arith, length-drop (row_place slot) (w.disk k).bytes))
+      let n : (row_place cluster_version slot + ROW_LENGTH) - row_place cluster_version slot ≡ ROW_LENGTH = omega arith in
+      ap (λ (i : ℕ). length (take i (drop (row_place cluster_version slot) (w.disk k).bytes))) n
+      ∙ length-take-le ROW_LENGTH (drop (row_place cluster_version slot) (w.disk k).bytes) (let size = image.long in let below = trying.fits in omega (arith, length-drop (row_place cluster_version slot) (w.disk k).bytes))
 
-  shows : (row : List DecodedBlock) → heard_as answer ≡ answers.Told (Some row) → ShowsVotes row
-  shows row tells = row_shows cluster_version (row_of slot (w.disk k).bytes) row row_long (row_is s f k (w.disk k) new answer is.kind waiting.part.good is.kind_is is.fits step_by row tells run.below)
+  shows : (row : List DecodedBlock) → heard_as answer ≡ answers.Told (Some row) → ShowsVotes cluster_version row
+  shows row tells = row_shows cluster_version (row_of cluster_version slot (w.disk k).bytes) row row_long (row_is s f k (w.disk k) new answer is.kind waiting.part.good is.kind_is is.fits step_by row tells run.below)
 
   -- ALL OF IT
 
@@ -156,10 +156,10 @@ module _ (c : Shape) (w : World) (ms : Moves) (h k : ℕ) (call : Call) (answer 
     pub waiting : IsWaiting s is.phase (f k)
     pub phase_is : (q : Phase) (put : WriteCall) → is.kind ≡ Putting q put → q ≡ is.phase
     pub may : (put : WriteCall) → IsNext (f k) (Putting is.phase put) → MayWrite s f run.below trying.votes is.phase
-    pub inside : IsWithin (VoteOf slot h) (call_by s k f is.kind)
-    pub image : IsImage c.slots (w.disk k)
-    pub image_then : IsImage c.slots new
-    pub shows : (row : List DecodedBlock) → heard_as answer ≡ answers.Told (Some row) → ShowsVotes row
+    pub inside : IsWithin cluster_version (VoteOf slot h) (call_by s k f is.kind)
+    pub image : IsImage cluster_version c.slots (w.disk k)
+    pub image_then : IsImage cluster_version c.slots new
+    pub shows : (row : List DecodedBlock) → heard_as answer ≡ answers.Told (Some row) → ShowsVotes cluster_version row
 
   pub due_of : Due
   due_of =

@@ -1,6 +1,7 @@
 -- Behind an answer the host goes by the status of its attempt.
 use Rattle.std.specs.Prelude.{map, nat_le, max, ◌-◌, if◌then◌else◌}
 use Rattle.std.proofs.Common.{ℕ, ◌<◌, ◌≡◌, inr, Bool, true, false, Option, Some, None, List, [], ◌∷◌, ◌++◌, length, refl, subst}
+use Rattle.torn_block.specs.Layout.{cluster_version}
 use Rattle.torn_block.specs.declared.layout.TheConstants.{HOSTS}
 use Rattle.attempt.specs.Answers.{Answered, on}
 use Rattle.attempt.specs.Proposal.{ballot}
@@ -27,9 +28,9 @@ use Rattle.attempt.specs.Votes.{IsLong, TellsVotes}
 use Rattle.world_safety.proofs.Moves.Machines.{machine_runs}
 use Rattle.world_safety.proofs.Moves.Hosts.{Late, stays_late, says_late, begins_late, goes_on_late, taught, but_learns, learned_then, learns_late}
 
-module _ (c : Shape) (w : World) (ms : Moves) (h : ℕ) (m : Memory) (t : Attempt) (heard : List Answered) (tied : TiedBut c w ms h) (below : h < HOSTS) (fits : length m.learned < c.slots) (input : IsLong (input_of t.operation))
+module _ (c : Shape) (w : World) (ms : Moves) (h : ℕ) (m : Memory) (t : Attempt) (heard : List Answered) (tied : TiedBut c w ms h) (below : h < HOSTS) (fits : length m.learned < c.slots) (input : IsLong cluster_version (input_of t.operation))
     (learned : (slots_after ms).learned h ≡ map spelling m.learned) (follows : Follows (setup_of c h m t.operation) heard (machine ms (length m.learned)))
-    (knows : (d : ℕ) → Knows (w.disk d) (setup_of c h m t.operation) (on heard) d ((machine ms (length m.learned)).cell h d)) (votes : (d : ℕ) → TellsVotes (on heard d))
+    (knows : (d : ℕ) → Knows (w.disk d) (setup_of c h m t.operation) (on heard) d ((machine ms (length m.learned)).cell h d)) (votes : (d : ℕ) → TellsVotes cluster_version (on heard d))
     (decides : (v : List ℕ) → status (setup_of c h m t.operation) (on heard) ≡ Ended (Decided v) → IsChosen c.disks (machine ms (length m.learned)) v) where
   abbrev s : Setup
   s = setup_of c h m t.operation

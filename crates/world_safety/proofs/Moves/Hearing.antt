@@ -50,7 +50,7 @@ pub record IsAnswerHeard (c : Shape) (w w' : World) (ms : Moves) (h : ℕ) (m : 
   pub learned : (slots_after (ms ++ early)).learned h ≡ map spelling m.learned
   pub follows : Follows (setup_of c h m t.operation) heard (machine (ms ++ early) (length m.learned))
   pub knows : (d : ℕ) → Knows (w'.disk d) (setup_of c h m t.operation) (on heard) d ((machine (ms ++ early) (length m.learned)).cell h d)
-  pub votes : (d : ℕ) → TellsVotes (on heard d)
+  pub votes : (d : ℕ) → TellsVotes cluster_version (on heard d)
   pub inputs : (j : ℕ) (v : List ℕ) → IsInput (events_of_slot j early) v → IsPutIn (setup_of c h m t.operation) heard j v
   pub carries : Carries (machine (ms ++ early) (length m.learned)) (setup_of c h m t.operation) (on heard)
   pub marks : KeepsMarks c w w'
@@ -104,8 +104,8 @@ module _ (c : Shape) (w : World) (ms : Moves) (h k : ℕ) (call : Call) (answer 
     changes : Changes c w ms h k call answer left m t now known r lead.events
     changes = record { history = history_then; others = arrives.others; block = arrives.block }
 
-    votes_then : (d : ℕ) → TellsVotes (more f k (heard_as answer) d)
-    votes_then = by_disk f k (heard_as answer) (λ d a. TellsVotes a) (votes_more cluster_version (f k) (heard_as answer) (trying.votes k) shows) (λ d off. trying.votes d)
+    votes_then : (d : ℕ) → TellsVotes cluster_version (more f k (heard_as answer) d)
+    votes_then = by_disk f k (heard_as answer) (λ d a. TellsVotes cluster_version a) (votes_more cluster_version (f k) (heard_as answer) (trying.votes k) shows) (λ d off. trying.votes d)
 
     abbrev early : Moves
     early = r.pre ++ in_slot slot lead.events
@@ -136,7 +136,7 @@ module _ (c : Shape) (w : World) (ms : Moves) (h k : ℕ) (call : Call) (answer 
           learned = subst (λ (l : Moves). (slots_after l).learned h ≡ map spelling m.learned) regroup (ap (λ (l : ℕ → List (List ℕ)). l h) (learned_same slot ms1 lead.events) ∙ r.learned);
           follows = subst (λ (l : Moves). Follows s heard (machine l slot)) regroup arrives.follows;
           knows = subst (λ (l : Moves). (d : ℕ) → Knows (disks d) s (on heard) d ((machine l slot).cell h d)) regroup (subst (λ (g : Answers). (d : ℕ) → Knows (disks d) s g d ((machine ms2 slot).cell h d)) (sym (on_more t.heard x)) (known_then c w ms h k call answer left m t now known r lead.events changes));
-          votes = subst (λ (g : Answers). (d : ℕ) → TellsVotes (g d)) (sym (on_more t.heard x)) votes_then;
+          votes = subst (λ (g : Answers). (d : ℕ) → TellsVotes cluster_version (g d)) (sym (on_more t.heard x)) votes_then;
           inputs = input_then;
           carries = subst (λ (l : Moves). Carries (machine l slot) s (on heard)) regroup (subst (λ (n : Machine). Carries n s (on heard)) (sym here_then) (record {
             proposed = λ v proposes. proposed_by s (events_of_slot slot ms1) t.heard x v lead proposes;

@@ -83,7 +83,7 @@ module _ (c : Shape) (w w' : World) (ms ms' : Moves) (g : ℕ) (same : SameHosts
 abbrev pub SameBlocks : Moves → Moves → Type 0
 SameBlocks ms ms' = (k g d : ℕ) → IsSameBlock ((machine ms k).cell g d) ((machine ms' k).cell g d)
 
-pub keeps_known : (c : Shape) (w : World) (ms ms' : Moves) → ((d : ℕ) → IsImage c.slots (w.disk d)) → SameBlocks ms ms' → (g : ℕ) → KeepsKnown c w w ms ms' g
+pub keeps_known : (c : Shape) (w : World) (ms ms' : Moves) → ((d : ℕ) → IsImage cluster_version c.slots (w.disk d)) → SameBlocks ms ms' → (g : ℕ) → KeepsKnown c w w ms ms' g
 keeps_known c w ms ms' images same g m operation f d fits below known =
     let s = setup_of c g m operation in
     knows_spared c.slots s f d (w.disk d) (w.disk d) ((machine ms (length m.learned)).cell g d) ((machine ms' (length m.learned)).cell g d) (images d) fits below (spares_same _ (w.disk d)) (same (length m.learned) g d) known
@@ -131,7 +131,7 @@ module _ (c : Shape) (w : World) (ms : Moves) (h n : ℕ) where
 first_kind : (kind : Kind) (P : Kind → Type 0) → Some Attaching ≡ Some kind → P Attaching → P kind
 first_kind kind P is p = let same : Attaching ≡ kind = cc in subst P same p
 
-pub begins_trying : (c : Shape) (w : World) (ms : Moves) (h : ℕ) (m : Memory) (operation : Operation) (tries : ℕ) → length m.learned < c.slots → IsLong (input_of operation)
+pub begins_trying : (c : Shape) (w : World) (ms : Moves) (h : ℕ) (m : Memory) (operation : Operation) (tries : ℕ) → length m.learned < c.slots → IsLong cluster_version (input_of operation)
     → IsTrying c w (ms ++ At (length m.learned) (Starts h) ∷ []) h (begins m operation tries) (record { operation = operation; tries = tries; heard = [] })
 begins_trying c w ms h m operation tries fits long =
     let s = setup_of c h m operation in
@@ -195,7 +195,7 @@ module _ (c : Shape) (w : World) (ms : Moves) (h : ℕ) (m : Memory) (tied : Tie
       go false input = input
 
   -- it begins an attempt on its next slot
-  pub begins_late : (operation : Operation) (tries : ℕ) → length m.learned < c.slots → IsLong (input_of operation) → Late c w ms h trying (begins m operation tries)
+  pub begins_late : (operation : Operation) (tries : ℕ) → length m.learned < c.slots → IsLong cluster_version (input_of operation) → Late c w ms h trying (begins m operation tries)
   begins_late operation tries fits long =
       record {
         late = At (length m.learned) (Starts h) ∷ [];
@@ -211,7 +211,7 @@ module _ (c : Shape) (w : World) (ms : Moves) (h : ℕ) (m : Memory) (tied : Tie
       }
 
   -- or all slots are learned
-  pub goes_on_late : (operation : Operation) (tries : ℕ) → IsLong (input_of operation) → Late c w ms h trying (goes_on c m operation tries)
+  pub goes_on_late : (operation : Operation) (tries : ℕ) → IsLong cluster_version (input_of operation) → Late c w ms h trying (goes_on c m operation tries)
   goes_on_late operation tries long = go (nat_lt (length m.learned) c.slots) refl
     where
       go : (t : Bool) → nat_lt (length m.learned) c.slots ≡ t → Late c w ms h trying (if t then begins m operation tries else says m (full_answer operation (length m.learned)))

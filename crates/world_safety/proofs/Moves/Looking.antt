@@ -4,6 +4,7 @@ use Rattle.std.proofs.Common.{ℕ, ◌<◌, ◌≡◌, ◌==◌, inl, Bool, true
 use Rattle.disk.specs.declared.fault.DiskFault.TheVariants.{Reset, Failed, Gone}
 use Rattle.disk.specs.Disk.{DiskState, Call, Attach, Read, Write, Sync, Answer, Booted, Told, Done, Fault}
 use Rattle.disk.specs.Crash.{MayLeave}
+use Rattle.torn_block.specs.Layout.{cluster_version}
 use Rattle.torn_block.specs.declared.layout.TheConstants.{HOSTS, ROW_LENGTH}
 use Rattle.paxos_block.specs.Places.{row_place}
 use Rattle.attempt.specs.Answers.{Heard, Answers, on, heard_as, boot_of}
@@ -58,7 +59,7 @@ leaves old (Read boot at len) Done left calm = refl
 call_calm : (s : look.Setup) (a : List Heard) → IsCalm (look.call_on s a)
 call_calm s a = by (nat_lt (length a) 1)
   where
-    by : (b : Bool) → IsCalm (if b then Attach else Read (boot_of a) (row_place s.slot) ROW_LENGTH)
+    by : (b : Bool) → IsCalm (if b then Attach else Read (boot_of a) (row_place cluster_version s.slot) ROW_LENGTH)
     by true = tt
     by false = tt
 

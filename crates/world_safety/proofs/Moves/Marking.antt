@@ -12,10 +12,9 @@ use Rattle.torn_block.specs.declared.write_steps.WriteCall.TheVariants.{CloseGat
 use Rattle.torn_block.specs.Block.{is_open, copy_of, target_of, next_sequence}
 use Rattle.torn_block.specs.Stage.{call_of}
 use Rattle.torn_block.proofs.PlaceLaws.{offset_fits, length-tail_with}
-use Rattle.paxos_block.specs.Saying.{Said as PBlock}
+use Rattle.paxos_block.specs.Saying.{Said as PBlock, body_saying}
 use Rattle.paxos_block.specs.Places.{VoteOf, place_of, row_of, row_place, IsImage, IsWithin}
 use Rattle.paxos_block.specs.Row.{DecodedBlock}
-use Rattle.paxos_block.specs.Saying.{body_saying}
 use Rattle.paxos_block.proofs.PlaceLemmas.{stays_image}
 use Rattle.attempt.specs.Calls.{Phase, Opening, One, Two, Kind, Attaching, Syncing, Reading, Putting, seventeen, start}
 use Rattle.attempt.specs.Answers.{Heard, Answered, Answers, on, heard_as, all_good, row_in, seen_block}
@@ -154,34 +153,34 @@ closing_short : (opened : Bool) → length {A = ℕ} (if opened then 0 ∷ [] el
 closing_short true = omega arith
 closing_short false = omega arith
 
-own_long : (s : mark.Setup) (a : List Heard) → s.host < HOSTS → TellsVotes a → IsLong (mark.own_block s a).says.inp
+own_long : (s : mark.Setup) (a : List Heard) → s.host < HOSTS → TellsVotes cluster_version a → IsLong cluster_version (mark.own_block s a).says.inp
 own_long s a below votes = by (row_in Opening a) refl
   where
-    by : (o : Option (List DecodedBlock)) → row_in Opening a ≡ o → IsLong (seen_block o s.host).says.inp
+    by : (o : Option (List DecodedBlock)) → row_in Opening a ≡ o → IsLong cluster_version (seen_block o s.host).says.inp
     by None is = tt
     by (Some row) is = (votes_told cluster_version Opening a row votes is s.host below).long
 
-module _ (s : mark.Setup) (a : List Heard) (full : length (body_saying (mark.with_mark (mark.own_block s a).says)) ≡ BODY_LENGTH) where
-  put_within : (boot : ℕ) (call : WriteCall) → IsWithin (VoteOf s.slot s.host) (call_of call (mark.write_on s a) boot)
+module _ (s : mark.Setup) (a : List Heard) (full : length (body_saying cluster_version (mark.with_mark (mark.own_block s a).says)) ≡ BODY_LENGTH) where
+  put_within : (boot : ℕ) (call : WriteCall) → IsWithin cluster_version (VoteOf s.slot s.host) (call_of call (mark.write_on s a) boot)
   put_within boot CloseGate =
       let w = mark.write_on s a in
-      let at = offset_fits cluster_version (target_of w.block) in
-      let short = closing_short (is_open (copy_of (target_of w.block) w.block)) in
+      let at = offset_fits cluster_version (target_of cluster_version w.block) in
+      let short = closing_short (is_open (copy_of cluster_version (target_of cluster_version w.block) w.block)) in
       (omega arith, omega (arith, at, short))
   put_within boot SyncClosed = tt
   put_within boot PutBody =
       let w = mark.write_on s a in
-      let at = offset_fits cluster_version (target_of w.block) in
-      let long = length-tail_with cluster_version (next_sequence w.block) w.body full in
+      let at = offset_fits cluster_version (target_of cluster_version w.block) in
+      let long = length-tail_with cluster_version (next_sequence cluster_version w.block) w.body full in
       (omega arith, omega (arith, at, long))
   put_within boot SyncBody = tt
   put_within boot OpenGate =
       let w = mark.write_on s a in
-      let at = offset_fits cluster_version (target_of w.block) in
+      let at = offset_fits cluster_version (target_of cluster_version w.block) in
       (omega arith, omega (arith, at))
   put_within boot SyncOpened = tt
 
-  pub mark_within : (kind : Kind) → IsWithin (VoteOf s.slot s.host) (mark.call_by s a kind)
+  pub mark_within : (kind : Kind) → IsWithin cluster_version (VoteOf s.slot s.host) (mark.call_by s a kind)
   mark_within Attaching = tt
   mark_within Syncing = tt
   mark_within Reading = tt
@@ -248,10 +247,10 @@ module _ (c : Shape) (w : World) (ms : Moves) (tied : Tied c w ms) where
     fits : Fits (mark.call_by s a due.kind) (heard_as answer)
     fits = step_fits (w.disk k) new (mark.call_by s a due.kind) answer step_by
 
-    inside : IsWithin (VoteOf t.slot h) (mark.call_by s a due.kind)
+    inside : IsWithin cluster_version (VoteOf t.slot h) (mark.call_by s a due.kind)
     inside = mark_within s a (fills cluster_version (mark.with_mark (mark.own_block s a).says) (own_long s a run.below (marking.votes k))) due.kind
 
-    image_then : IsImage c.slots new
+    image_then : IsImage cluster_version c.slots new
     image_then = stays_image cluster_version c.slots (VoteOf t.slot h) (marking.fits, run.below) (w.disk k) (tied.images k) (mark.call_by s a due.kind) answer new inside step_by
 
     behind : AfterMark s (a ++ heard_as answer ∷ []) (w.disk k) new ((machine ms t.slot).cell h k)
@@ -273,11 +272,11 @@ module _ (c : Shape) (w : World) (ms : Moves) (tied : Tied c w ms) where
         })
 
     -- it is within the host's block of a slot
-    pub mark_inside : (t.slot < c.slots) × IsWithin (VoteOf t.slot h) call
-    mark_inside = (marking.fits, subst (IsWithin (VoteOf t.slot h)) (sym due.call_is) inside)
+    pub mark_inside : (t.slot < c.slots) × IsWithin cluster_version (VoteOf t.slot h) call
+    mark_inside = (marking.fits, subst (IsWithin cluster_version (VoteOf t.slot h)) (sym due.call_is) inside)
 
     -- and promises no other ballot there
-    pub promises : promised (place_of (VoteOf t.slot h)) new ≡ promised (place_of (VoteOf t.slot h)) (w.disk k)
+    pub promises : promised (place_of cluster_version (VoteOf t.slot h)) new ≡ promised (place_of cluster_version (VoteOf t.slot h)) (w.disk k)
     promises = behind.promises
 
     at_disk : (P : ℕ → DiskState → Type 0) → P k new → ((d : ℕ) → d ≢ k → P d (w.disk d)) → (d : ℕ) → P d (disks d)
@@ -288,18 +287,18 @@ module _ (c : Shape) (w : World) (ms : Moves) (tied : Tied c w ms) where
     differ : (j g d : ℕ) → IsOther t.slot h k j g d → d ≡ k → VoteOf t.slot h ≢ VoteOf j g
     differ j g d other same equal = other (let one : t.slot ≡ j = cc in sym one) (let two : h ≡ g = cc in sym two) same
 
-    spared : (j g d : ℕ) → j < c.slots → g < HOSTS → IsOther t.slot h k j g d → Spares (place_of (VoteOf j g)) (w.disk d) (disks d)
+    spared : (j g d : ℕ) → j < c.slots → g < HOSTS → IsOther t.slot h k j g d → Spares (place_of cluster_version (VoteOf j g)) (w.disk d) (disks d)
     spared j g d j_below g_below =
-        at_disk (λ i disk. IsOther t.slot h k j g i → Spares (place_of (VoteOf j g)) (w.disk i) disk)
+        at_disk (λ i disk. IsOther t.slot h k j g i → Spares (place_of cluster_version (VoteOf j g)) (w.disk i) disk)
         (λ other. spares_others c.slots (VoteOf t.slot h) (VoteOf j g) (w.disk k) new (mark.call_by s a due.kind) answer (marking.fits, run.below) (j_below, g_below) (differ j g k other refl) (tied.images k) inside step_by)
-        (λ i off other. spares_same (place_of (VoteOf j g)) (w.disk i))
+        (λ i off other. spares_same (place_of cluster_version (VoteOf j g)) (w.disk i))
         d
 
     -- all else stands as before
     mark_but : TiedBut c (with_disks w disks) ms h
     mark_but =
         but_one c w disks ms ms t.slot h k (tied_but c w ms h tied) tied.history
-        (at_disk (λ d disk. IsImage c.slots disk) image_then (λ d off. tied.images d))
+        (at_disk (λ d disk. IsImage cluster_version c.slots disk) image_then (λ d off. tied.images d))
         (λ g. refl)
         (λ g off j. same_host g (machine ms j))
         (λ j g d other. block_same ((machine ms j).cell g d))
@@ -317,9 +316,9 @@ module _ (c : Shape) (w : World) (ms : Moves) (tied : Tied c w ms) where
     value_learned (Some command) is says inp = record { memory = m; command = command; running = it.running; learned = is; inp = inp }
 
     abbrev IsKept : ℕ → ℕ → ℕ → PBlock → Type 0
-    IsKept j g d says = says.mark ≡ true → MaySayOn (place_of (VoteOf j g)) (w.disk d) says ⊎ HasLearned w g j says
+    IsKept j g d says = says.mark ≡ true → MaySayOn (place_of cluster_version (VoteOf j g)) (w.disk d) says ⊎ HasLearned w g j says
 
-    own_kept : AllSay (IsKept t.slot h k) (place_of (VoteOf t.slot h)) new
+    own_kept : AllSay (IsKept t.slot h k) (place_of cluster_version (VoteOf t.slot h)) new
     own_kept bytes left marked = elim (behind.marks bytes left marked) [
       | inl before ↦ inl before
       | inr inp ↦ inr (value_learned (slice_get m.learned t.slot) refl _ inp)
@@ -327,23 +326,23 @@ module _ (c : Shape) (w : World) (ms : Moves) (tied : Tied c w ms) where
 
     mark_keeps : KeepsMarks c w (with_disks w disks)
     mark_keeps =
-        by_block t.slot h k (λ j g d. j < c.slots → g < HOSTS → AllSay (IsKept j g d) (place_of (VoteOf j g)) (disks d))
-        (λ slot_below host_below. at_disk (λ d disk. d ≡ k → AllSay (IsKept t.slot h d) (place_of (VoteOf t.slot h)) disk) (λ same. own_kept) (λ d off same. absurd (off same)) k refl)
+        by_block t.slot h k (λ j g d. j < c.slots → g < HOSTS → AllSay (IsKept j g d) (place_of cluster_version (VoteOf j g)) (disks d))
+        (λ slot_below host_below. at_disk (λ d disk. d ≡ k → AllSay (IsKept t.slot h d) (place_of cluster_version (VoteOf t.slot h)) disk) (λ same. own_kept) (λ d off same. absurd (off same)) k refl)
         (λ j g d other j_below g_below. marks_by w j g (w.disk d) (disks d) (spared j g d j_below g_below other).outcomes)
 
     -- WHAT IT KNOWS THEN
 
-    row_long : length (row_of t.slot (w.disk k).bytes) ≡ ROW_LENGTH
+    row_long : length (row_of cluster_version t.slot (w.disk k).bytes) ≡ ROW_LENGTH
     row_long =
-        let n : (row_place t.slot + ROW_LENGTH) - row_place t.slot ≡ ROW_LENGTH = omega arith in
-        ap (λ (i : ℕ). length (take i (drop (row_place t.slot) (w.disk k).bytes))) n
-        ∙ length-take-le ROW_LENGTH (drop (row_place t.slot) (w.disk k).bytes) (let size = (tied.images k).long in let below = marking.fits in omega (arith, length-drop (row_place t.slot) (w.disk k).bytes))
+        let n : (row_place cluster_version t.slot + ROW_LENGTH) - row_place cluster_version t.slot ≡ ROW_LENGTH = omega arith in
+        ap (λ (i : ℕ). length (take i (drop (row_place cluster_version t.slot) (w.disk k).bytes))) n
+        ∙ length-take-le ROW_LENGTH (drop (row_place cluster_version t.slot) (w.disk k).bytes) (let size = (tied.images k).long in let below = marking.fits in omega (arith, length-drop (row_place cluster_version t.slot) (w.disk k).bytes))
 
-    told_by : (row : List DecodedBlock) → heard_as answer ≡ answers.Told (Some row) → ShowsVotes row
+    told_by : (row : List DecodedBlock) → heard_as answer ≡ answers.Told (Some row) → ShowsVotes cluster_version row
     told_by row tells = by due.kind step_by fits
       where
-        by : (kind : Kind) → Step (w.disk k) (mark.call_by s a kind) answer new → Fits (mark.call_by s a kind) (heard_as answer) → ShowsVotes row
-        by Reading go fit = row_shows cluster_version (row_of t.slot (w.disk k).bytes) row row_long (row_told (w.disk k) new _ t.slot answer row go tells)
+        by : (kind : Kind) → Step (w.disk k) (mark.call_by s a kind) answer new → Fits (mark.call_by s a kind) (heard_as answer) → ShowsVotes cluster_version row
+        by Reading go fit = row_shows cluster_version (row_of cluster_version t.slot (w.disk k).bytes) row row_long (row_told (w.disk k) new _ t.slot answer row go tells)
         by Attaching go fit = absurd (subst (Fits (mark.call_by s a Attaching)) tells fit)
         by Syncing go fit = absurd (subst (Fits (mark.call_by s a Syncing)) tells fit)
         by (Putting p CloseGate) go fit = absurd (subst (Fits (mark.call_by s a (Putting p CloseGate))) tells fit)
@@ -360,10 +359,10 @@ module _ (c : Shape) (w : World) (ms : Moves) (tied : Tied c w ms) where
         (at_disk (λ d disk. d ≡ k → KnowsMark disk s (a ++ heard_as answer ∷ [])) (λ same. behind.knows) (λ d off same. absurd (off same)) k refl)
         (λ d off. at_disk (λ i disk. i ≢ k → KnowsMark disk s (on t.heard i)) (λ ne. absurd (ne refl)) (λ i other ne. marking.knows i) d off))
 
-    votes_then : (d : ℕ) → TellsVotes (on (t.heard ++ x ∷ []) d)
+    votes_then : (d : ℕ) → TellsVotes cluster_version (on (t.heard ++ x ∷ []) d)
     votes_then =
-        subst (λ (f : Answers). (d : ℕ) → TellsVotes (f d)) (sym (on_more t.heard x))
-        (by_disk (on t.heard) k (heard_as answer) (λ d b. TellsVotes b) (votes_more cluster_version a (heard_as answer) (marking.votes k) told_by) (λ d off. marking.votes d))
+        subst (λ (f : Answers). (d : ℕ) → TellsVotes cluster_version (f d)) (sym (on_more t.heard x))
+        (by_disk (on t.heard) k (heard_as answer) (λ d b. TellsVotes cluster_version b) (votes_more cluster_version a (heard_as answer) (marking.votes k) told_by) (λ d off. marking.votes d))
 
     abbrev w2 : World
     w2 = with_disks w disks

@@ -115,14 +115,14 @@ module _ (c : Shape) (w : World) (ms : Moves) (tied : Tied c w ms) where
 -- an entry on no disk leaves all blocks
 pub marks_stay : (c : Shape) (w : World) (e : Filled) → ((d : ℕ) → is_on d e ≡ false) → KeepsMarks c w (next_world c w e)
 marks_stay c w e off slot host d slot_below below =
-    subst (λ (b : Bool). AllSay (λ says. says.mark ≡ true → MaySayOn (place_of (VoteOf slot host)) (w.disk d) says ⊎ HasLearned w host slot says) (place_of (VoteOf slot host)) (cond b (disk_step (w.disk d) e) (w.disk d)))
+    subst (λ (b : Bool). AllSay (λ says. says.mark ≡ true → MaySayOn (place_of cluster_version (VoteOf slot host)) (w.disk d) says ⊎ HasLearned w host slot says) (place_of cluster_version (VoteOf slot host)) (cond b (disk_step (w.disk d) e) (w.disk d)))
     (sym (off d))
     (λ bytes left marked. inl (bytes, left, refl))
 
 -- and so does one that leaves a block no other outcome
-pub marks_by : (w : World) (slot host : ℕ) (disk new : DiskState) → Outcomes cluster_version disk (place_of (VoteOf slot host)) new
-    → AllSay (λ says. says.mark ≡ true → MaySayOn (place_of (VoteOf slot host)) disk says ⊎ HasLearned w host slot says) (place_of (VoteOf slot host)) new
-marks_by w slot host disk new o bytes left marked = let b = o bytes left in inl (b.0, b.1, ap (λ (block : List ℕ). says_of (value_of block)) (sym b.2))
+pub marks_by : (w : World) (slot host : ℕ) (disk new : DiskState) → Outcomes cluster_version disk (place_of cluster_version (VoteOf slot host)) new
+    → AllSay (λ says. says.mark ≡ true → MaySayOn (place_of cluster_version (VoteOf slot host)) disk says ⊎ HasLearned w host slot says) (place_of cluster_version (VoteOf slot host)) new
+marks_by w slot host disk new o bytes left marked = let b = o bytes left in inl (b.0, b.1, ap (λ (block : List ℕ). says_of cluster_version (value_of cluster_version block)) (sym b.2))
 
 -- ON ONE DISK
 

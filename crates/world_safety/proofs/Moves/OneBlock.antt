@@ -2,6 +2,7 @@
 use Rattle.std.proofs.Common.{ℕ, ◌<◌, ◌≡◌, ◌≢◌, inl, inr, length, refl, sym, subst}
 use Rattle.std.proofs.lemmas.Bool.{cases_eq}
 use Rattle.disk.specs.Disk.{DiskState}
+use Rattle.torn_block.specs.Layout.{cluster_version}
 use Rattle.torn_block.specs.declared.layout.TheConstants.{HOSTS}
 use Rattle.paxos_block.specs.Places.{VoteOf, place_of, IsImage}
 use Rattle.slot_log.specs.Shape.{Shape}
@@ -61,10 +62,10 @@ module _ (slot h k : ℕ) where
       | inr away ↦ host_by g (machine ms j) (machine ms' j) (machine ms j) (there j away) (same_host g (machine ms j))
     ]
 
-module _ (c : Shape) (w : World) (disks : ℕ → DiskState) (ms ms' : Moves) (slot h k : ℕ) (is : TiedBut c w ms h) (history : IsHistory c.disks ms') (images : (d : ℕ) → IsImage c.slots (disks d))
+module _ (c : Shape) (w : World) (disks : ℕ → DiskState) (ms ms' : Moves) (slot h k : ℕ) (is : TiedBut c w ms h) (history : IsHistory c.disks ms') (images : (d : ℕ) → IsImage cluster_version c.slots (disks d))
     (learned : (g : ℕ) → (slots_after ms').learned g ≡ (slots_after ms).learned g) (hosts : (g : ℕ) → g ≢ h → SameHosts ms ms' g)
     (blocks : (j g d : ℕ) → IsOther slot h k j g d → IsSameBlock ((machine ms j).cell g d) ((machine ms' j).cell g d))
-    (spares : (j g d : ℕ) → j < c.slots → g < HOSTS → IsOther slot h k j g d → Spares (place_of (VoteOf j g)) (w.disk d) (disks d))
+    (spares : (j g d : ℕ) → j < c.slots → g < HOSTS → IsOther slot h k j g d → Spares (place_of cluster_version (VoteOf j g)) (w.disk d) (disks d))
     (own : slot < c.slots → h < HOSTS → Stands (disks k) slot h ((machine ms' slot).cell h k)) where
   abbrev w' : World
   w' = with_disks w disks
@@ -83,6 +84,6 @@ module _ (c : Shape) (w : World) (disks : ℕ → DiskState) (ms ms' : Moves) (s
             (spares (length m.learned) g d fits below other) (blocks (length m.learned) g d other) known))
             (λ s a d is_host fits below known. (let other : IsOther slot h k s.slot g d = λ a b e. off b in
             mark_spared c.slots s a (w.disk d) (disks d) (is.images d) fits (subst (λ (j : ℕ). j < HOSTS) (sym is_host) below)
-            (subst (λ (j : ℕ). Spares (place_of (VoteOf s.slot j)) (w.disk d) (disks d)) (sym is_host) (spares s.slot g d fits below other)) known))
+            (subst (λ (j : ℕ). Spares (place_of cluster_version (VoteOf s.slot j)) (w.disk d) (disks d)) (sym is_host) (spares s.slot g d fits below other)) known))
             (w.host g) (is.others g off);
       }

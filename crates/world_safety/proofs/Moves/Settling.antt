@@ -4,6 +4,7 @@ use Rattle.std.proofs.Common.{ℕ, ◌≡◌, ◌≢◌, ◌==◌, inl, inr, Boo
 use Rattle.std.proofs.lemmas.Bool.{cases_eq}
 use Rattle.disk.specs.Disk.{DiskState, Call, Answer}
 use Rattle.disk.proofs.CrashLemmas.{may_leave_now}
+use Rattle.torn_block.specs.Layout.{cluster_version}
 use Rattle.torn_block.specs.Block.{value_of}
 use Rattle.torn_block.specs.Place.{block_in}
 use Rattle.torn_block.specs.Register.{Value, IsAtRest}
@@ -98,7 +99,7 @@ module _ (c : Shape) (w : World) (ms : Moves) (h k : ℕ) (call : Call) (answer 
 
   module _ (row : List DecodedBlock) (tells : heard_as answer ≡ answers.Told (Some row)) where
     abbrev value : Value
-    value = value_of (block_in (own_place s) (w.disk k).bytes)
+    value = value_of cluster_version (block_in cluster_version (own_place s) (w.disk k).bytes)
 
     abbrev resting : Cell (List ℕ)
     resting = at_rest (said value) ((machine ms slot).cell h k).stage
@@ -127,7 +128,7 @@ module _ (c : Shape) (w : World) (ms : Moves) (h k : ℕ) (call : Call) (answer 
     is_read : IsNext (f k) Reading
     is_read = is_next_read s f k (w.disk k) new answer is.kind waiting.part.good is.kind_is is.fits step_by row tells run.below
 
-    rests_now : IsAtRest (own_place s) (w.disk k)
+    rests_now : IsAtRest cluster_version (own_place s) (w.disk k)
     rests_now = (trying.knows k).next (current s f k (w.disk k) new answer is.kind waiting.part.good is.kind_is is.fits step_by row tells run.below) Reading is_read
 
     reads_it : IsReading ((machine ms slot).cell h k) (said value)
@@ -148,7 +149,7 @@ module _ (c : Shape) (w : World) (ms : Moves) (h k : ℕ) (call : Call) (answer 
         (λ g. ap (λ (l : ℕ → List (List ℕ)). l g) (learned_same slot ms (settling ∷ [])))
         (other_hosts slot h k ms settled others_now settled_there)
         (other_blocks slot h k ms settled others_now settled_there)
-        (λ j g d j_below g_below other. spares_same (place_of (VoteOf j g)) (w.disk d))
+        (λ j g d j_below g_below other. spares_same (place_of cluster_version (VoteOf j g)) (w.disk d))
         (λ slot_below host_below. stands_resting (w.disk k) slot h ((machine ms slot).cell h k) ((machine settled slot).cell h k) own_stands rests_now confirmed_now)
 
     own_known : Knows (w.disk k) s f k ((machine settled slot).cell h k)

@@ -7,6 +7,7 @@ use Rattle.std.proofs.lemmas.Option.{slice_get_within}
 use Rattle.disk.specs.Disk.{DiskState}
 use Rattle.disk.specs.Simulated.{fresh_disk}
 use Rattle.disk.proofs.StepLemmas.{shape_fresh}
+use Rattle.torn_block.specs.Layout.{cluster_version}
 use Rattle.torn_block.specs.declared.layout.TheConstants.{HOSTS}
 use Rattle.paxos_block.specs.Places.{VoteOf, IsImage, place_of, image_length}
 use Rattle.lock_command.specs.declared.command.Command.{Command}
@@ -48,10 +49,10 @@ module _ (c : Shape) (log : List Filled) (commands : List Command) (at_first : s
   is_next = at_next c log zero (Migrated c.disks commands) at_first
 
   -- each disk is as the migration left it, or fresh where there is none
-  by_disk_first : (P : DiskState → Bool → Type 0) → P (migrated_to (opening_disk c) commands) true → P (fresh_disk (image_length c.slots)) false → (d : ℕ) → P (begun_world.disk d) (nat_lt d c.disks)
+  by_disk_first : (P : DiskState → Bool → Type 0) → P (migrated_to (opening_disk c) commands) true → P (fresh_disk (image_length cluster_version c.slots)) false → (d : ℕ) → P (begun_world.disk d) (nat_lt d c.disks)
   by_disk_first P here there d = go (nat_lt d c.disks)
     where
-      go : (b : Bool) → P (cond b (migrated_to (opening_disk c) commands) (fresh_disk (image_length c.slots))) b
+      go : (b : Bool) → P (cond b (migrated_to (opening_disk c) commands) (fresh_disk (image_length cluster_version c.slots))) b
       go true = here
       go false = there
 
@@ -74,23 +75,23 @@ module _ (c : Shape) (log : List Filled) (commands : List Command) (at_first : s
       subst (Stands (begun_world.disk d) slot host) (sym (ap (λ (m : Machine). m.cell host d) (sym (machine_is moves_first slot)) ∙ are.cells slot host d))
       (by_disk_first (λ disk b. Stands disk slot host (at_rest (cond (host == 0) (cond b (voted (slice_get values slot)) blank) blank) away))
       (stands_migrated c commands can slot host (at_rest (cond (host == 0) (voted (slice_get values slot)) blank) away) slot_below below (said_here slot host))
-      (subst (λ x. Stands (fresh_disk (image_length c.slots)) slot host (at_rest x away)) (sym (said_there slot host)) (stands_fresh (image_length c.slots) slot host))
+      (subst (λ x. Stands (fresh_disk (image_length cluster_version c.slots)) slot host (at_rest x away)) (sym (said_there slot host)) (stands_fresh (image_length cluster_version c.slots) slot host))
       d)
 
   pub tied_begun : Tied c begun_world moves_first
   tied_begun =
       record {
         history = are.history;
-        images = by_disk_first (λ disk b. IsImage c.slots disk) (image c commands can) (let shape = shape_fresh (image_length c.slots) in record { whole = shape.0; long = shape.1 });
+        images = by_disk_first (λ disk b. IsImage cluster_version c.slots disk) (image c commands can) (let shape = shape_fresh (image_length cluster_version c.slots) in record { whole = shape.0; long = shape.1 });
         stands = stand;
         hosts = λ h. are.learned h;
       }
 
   -- the block of each slot of the log is marked on each disk
-  pub marked_first : (slot d : ℕ) (v : List ℕ) → d < c.disks → slice_get values slot ≡ Some v → AllSay (λ says. says.mark ≡ true) (place_of (VoteOf slot 0)) (begun_world.disk d)
+  pub marked_first : (slot d : ℕ) (v : List ℕ) → d < c.disks → slice_get values slot ≡ Some v → AllSay (λ says. says.mark ≡ true) (place_of cluster_version (VoteOf slot 0)) (begun_world.disk d)
   marked_first slot d v inside is =
       let below : slot < c.slots = let within = slice_get_within values slot v is in let few = can.slots in let size = length-map commands spelling in omega arith in
-      subst (λ (b : Bool). AllSay (λ says. says.mark ≡ true) (place_of (VoteOf slot 0)) (cond b (migrated_to (opening_disk c) commands) (fresh_disk (image_length c.slots)))) (sym (lt-ltb d c.disks inside)) (marked_migrated c commands can slot v below is)
+      subst (λ (b : Bool). AllSay (λ says. says.mark ≡ true) (place_of cluster_version (VoteOf slot 0)) (cond b (migrated_to (opening_disk c) commands) (fresh_disk (image_length cluster_version c.slots)))) (sym (lt-ltb d c.disks inside)) (marked_migrated c commands can slot v below is)
 
   pub migrated_here : (slot : ℕ) (v : List ℕ) → IsMigrated log slot v → slice_get values slot ≡ Some v
   migrated_here slot v is = ap (λ (l : List Command). slice_get (map spelling l) slot) (sym (migrated_is log c.disks commands at_first)) ∙ is
@@ -100,7 +101,7 @@ module _ (c : Shape) (log : List Filled) (commands : List Command) (at_first : s
 
   pub marks_begun : AllMarksTrue c begun_world (IsChosenBefore c log (suc zero))
   marks_begun slot host d slot_below below =
-      by_disk_first (λ disk b. AllSay (IsMarkTrue (IsChosenBefore c log (suc zero) slot)) (place_of (VoteOf slot host)) disk)
+      by_disk_first (λ disk b. AllSay (IsMarkTrue (IsChosenBefore c log (suc zero) slot)) (place_of cluster_version (VoteOf slot host)) disk)
       (marks_migrated c commands can (IsChosenBefore c log (suc zero) slot) slot host slot_below below (λ v is. inr (omega arith, migrated_there slot v is)))
-      (λ bytes left marked. absurd (fresh_unmarked (image_length c.slots) slot host bytes left marked))
+      (λ bytes left marked. absurd (fresh_unmarked (image_length cluster_version c.slots) slot host bytes left marked))
       d

@@ -91,14 +91,14 @@ row_true c w ms Known all h k call answer left m t now row tells g below =
 
 -- a row that is told to a look holds the blocks of its slot on the disk
 pub look_sees : (s : look.Setup) (a : List Heard) (disk new : DiskState) (call : Call) (answer : Answer) → look.call_on s a ≡ call → Step disk call answer new → (row : List DecodedBlock) → heard_as answer ≡ answers.Told (Some row)
-    → (g : ℕ) → g < HOSTS → seen_at row g ≡ seen_in (block_in (place_of (VoteOf s.slot g)) disk.bytes)
+    → (g : ℕ) → g < HOSTS → seen_at row g ≡ seen_in cluster_version (block_in cluster_version (place_of cluster_version (VoteOf s.slot g)) disk.bytes)
 look_sees s a disk new call answer due step row tells g below = by (nat_lt (length a) 1) (subst (λ (q : Call). Step disk q answer new) (sym due) step)
   where
-    by : (b : Bool) → Step disk (if b then Attach else Read (boot_of a) (row_place s.slot) ROW_LENGTH) answer new → seen_at row g ≡ seen_in (block_in (place_of (VoteOf s.slot g)) disk.bytes)
+    by : (b : Bool) → Step disk (if b then Attach else Read (boot_of a) (row_place cluster_version s.slot) ROW_LENGTH) answer new → seen_at row g ≡ seen_in cluster_version (block_in cluster_version (place_of cluster_version (VoteOf s.slot g)) disk.bytes)
     by true attached = absurd (subst (λ (x : Heard). Fits Attach x) tells (step_fits disk new Attach answer attached))
     by false reads =
-        said_sees cluster_version (row_of s.slot disk.bytes) row g below (row_told disk new (boot_of a) s.slot answer row reads tells)
-        ∙ ap seen_in (block_of-row_of cluster_version s.slot g disk.bytes below)
+        said_sees cluster_version (row_of cluster_version s.slot disk.bytes) row g below (row_told disk new (boot_of a) s.slot answer row reads tells)
+        ∙ ap (seen_in cluster_version) (block_of-row_of cluster_version s.slot g disk.bytes below)
 
 -- so it shows true marks
 pub look_row_true : (c : Shape) (w : World) (Known : ℕ → List ℕ → Type 0) → AllMarksTrue c w Known → (s : look.Setup) (a : List Heard) (k : ℕ) (new : DiskState) (call : Call) (answer : Answer) → s.slot < c.slots → look.call_on s a ≡ call → Step (w.disk k) call answer new

@@ -2,6 +2,7 @@
 use Rattle.std.specs.Prelude.{slice_get, ◌-◌}
 use Rattle.std.proofs.Common.{ℕ, zero, suc, ◌+◌, ◌<◌, ◌≤◌, ◌≡◌, ◌⊎◌, true, inl, inr, Option, Some, None, List, [], ◌∷◌, ◌++◌, length, take, append-nil, append_assoc, refl, sym, subst, ap, ◌∙◌, arith}
 use Rattle.disk.proofs.StepLemmas.{shape_fresh}
+use Rattle.torn_block.specs.Layout.{cluster_version}
 use Rattle.paxos_block.specs.Places.{image_length}
 use Rattle.attempt.specs.Answers.{Answered, on, heard_as}
 use Rattle.std.proofs.lemmas.Bool.{cases_eq}
@@ -49,8 +50,8 @@ tied_first : (c : Shape) → Tied c (at c [] zero) []
 tied_first c =
     record {
       history = tt;
-      images = λ d. (let shape = shape_fresh (image_length c.slots) in record { whole = shape.0; long = shape.1 });
-      stands = λ slot h d slot_below below. stands_fresh (image_length c.slots) slot h;
+      images = λ d. (let shape = shape_fresh (image_length cluster_version c.slots) in record { whole = shape.0; long = shape.1 });
+      stands = λ slot h d slot_below below. stands_fresh (image_length cluster_version c.slots) slot h;
       hosts = λ h. refl;
     }
 
@@ -250,7 +251,7 @@ module _ (c : Shape) (log : List Filled) (run : IsRun c log) where
       record {
         tied = tied_first c;
         hosts = λ h. tt;
-        marks = λ slot host d slot_below below bytes left marked. absurd (fresh_unmarked (image_length c.slots) slot host bytes left marked);
+        marks = λ slot host d slot_below below bytes left marked. absurd (fresh_unmarked (image_length cluster_version c.slots) slot host bytes left marked);
         chosen = λ slot v is. absurd (none_before slot v is);
         first = λ same. refl;
       }

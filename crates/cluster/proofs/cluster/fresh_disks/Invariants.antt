@@ -1,12 +1,13 @@
 use Rattle.std.specs.Prelude.{replicate}
 use Rattle.std.proofs.Common.{◌≡◌, ◌≤◌, vec_capacity, None}
 use Rattle.disk.specs.Simulated.{fresh_disk}
+use Rattle.torn_block.specs.Layout.{cluster_version}
 use Rattle.paxos_block.specs.Places.{image_length}
 use Rattle.cluster.proofs.cluster.fresh_disks.Given as goal
 
 abbrev pub invariant-loop : goal.invariant-loop
 invariant-loop l =
     record {
-      items : l.disks.items ≡ replicate l.counter (record { disk = fresh_disk (image_length l.config.slots); failing = None; failures = 0 });
+      items : l.disks.items ≡ replicate l.counter (record { disk = fresh_disk (image_length cluster_version l.config.slots); failing = None; failures = 0 });
       room : l.count ≤ vec_capacity l.disks;
     }

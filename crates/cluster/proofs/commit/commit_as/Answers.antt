@@ -1,5 +1,6 @@
 use Rattle.std.proofs.Common.{◌≡◌, ℕ, ◌<◌, ◌++◌, ◌∷◌, [], List, length, sym, ap, subst, ◌∙◌, arith, false}
 use Rattle.disk.specs.Disk.{Call, Answer}
+use Rattle.torn_block.specs.Layout.{cluster_version}
 use Rattle.phases.specs.Calls.{call_of_need}
 use Rattle.slot_log.specs.Shape.{Shape}
 use Rattle.host.specs.Host.{Memory, hears_from, is_idle}
@@ -43,7 +44,7 @@ module _ (g : _) (c : goal.After-book-1 g) where
   run : IsFreshRun shape (log ++ called_by shape own book c.args.touched.outcome ∷ [])
   run = calls shape log own book.own (answer_in c.args.touched.outcome book.row) book.disk c.journal.invariant.run c.append.ensures.parts.1 c.append.ensures.parts.0 made.due made.fits made.step
 
-  due : ◌≡◌ {A = ℕ × Call} (book.own.number, (due_in shape own).1) (call_of_need c.call.result)
+  due : ◌≡◌ {A = ℕ × Call} (book.own.number, (due_in shape own).1) (call_of_need cluster_version c.call.result)
   due = ap due_or (sym made.due ∙ next_is shape own c.seat.inside.core c.seat.inside.submitting c.seat.invariant.running ∙ c.call.ensures.next shape own.number c.seat.invariant.running.memory c.seat.invariant.running.leads)
 
   host_same : c.seat.inside.core.learner.host ≡ own.number

@@ -2,6 +2,7 @@ use Rattle.std.proofs.Common.{ℕ, length, refl, sym, ap, subst, ◌∙◌, arit
 use Rattle.disk.specs.Disk.{DiskState}
 use Rattle.disk.specs.Simulated.{SimState}
 use Rattle.disk.specs.Cut.{HasFirst}
+use Rattle.torn_block.specs.Layout.{cluster_version}
 use Rattle.paxos_block.specs.Places.{image_length}
 use Rattle.world.specs.Entry.{Lost}
 use Rattle.world.specs.declared.entry.Entry.TheVariants as kept
@@ -31,7 +32,7 @@ invariant_of-book g c =
     let closed = ap (λ (b : BookState _). b.open_call) c.book.view_is ∙ c.requires.closed in
     record {
       number = ap (λ (o : Own). o.number) c.spend.ensures.disk ∙ b.number;
-      whole = subst (λ (s : SimState). HasFirst (image_length shape.slots) s.disk) (sym c.lose.ensures) b.whole;
+      whole = subst (λ (s : SimState). HasFirst (image_length cluster_version shape.slots) s.disk) (sym c.lose.ensures) b.whole;
       so = befell shape _ b.so closed _ (length c.args.journal.now.log) (Lost own.number) c.spend.ensures.disk closed b.so.tells
           (omega (arith, b.so.size, ap (λ (s : SimState). length s.disk.bytes) c.lose.ensures)) (ap (λ (s : SimState). image_on shape s.disk) c.lose.ensures);
     }

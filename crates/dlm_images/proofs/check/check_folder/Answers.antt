@@ -2,6 +2,7 @@ use Rattle.std.specs.Prelude.{IfOk}
 use Rattle.std.proofs.Common.{◌≡◌, ◌++◌, ℕ, List, length, map, take, drop, slice_get, Some, sym, ◌∙◌, ap, subst}
 use Rattle.std.proofs.lemmas.List.{length-map, take_at}
 use Rattle.disk.specs.FileStates.{FileState, FileGives}
+use Rattle.torn_block.specs.Layout.{cluster_version}
 use Rattle.paxos_block.specs.Places.{image_length}
 use Rattle.dlm_images.specs.Damage.{FailsIfUnread, IsToldOfFolder}
 use Rattle.dlm_images.specs.Reading.{AreReadIfSound}
@@ -27,9 +28,9 @@ invariant_of-folder g c =
       small = c.args.folder.now.small;
       as_many = ap length same ∙ many ∙ c.args.folder.now.as_many;
       long =
-          subst (λ (l : List FileState). (k : ℕ) (d : FileState) → slice_get l k ≡ Some d → d.size ≡ image_length slots) (sym same)
-          (sized _ c.deref_mut.result.now new (image_length slots) c.check_disks.ensures.devices
-          (subst (λ (l : List FileState). (k : ℕ) (d : FileState) → slice_get l k ≡ Some d → d.size ≡ image_length slots) (sym value) c.args.folder.now.long));
+          subst (λ (l : List FileState). (k : ℕ) (d : FileState) → slice_get l k ≡ Some d → d.size ≡ image_length cluster_version slots) (sym same)
+          (sized _ c.deref_mut.result.now new (image_length cluster_version slots) c.check_disks.ensures.devices
+          (subst (λ (l : List FileState). (k : ℕ) (d : FileState) → slice_get l k ≡ Some d → d.size ≡ image_length cluster_version slots) (sym value) c.args.folder.now.long));
     }
 
 pub returns-clause-told : goal.returns-clause-told

@@ -21,7 +21,7 @@ returns-clause-damaged g c = λ tells.
 pub returns-clause-some : goal.returns-clause-some
 returns-clause-some g c = λ tells.
     let old = g.D.Disk.state c.args.device.now in
-    subst (λ (l : List ℕ). Contains c.damaged_hosts.result true ↔ IsDamagedRow l)
+    subst (λ (l : List ℕ). Contains c.damaged_hosts.result true ↔ IsDamagedRow cluster_version l)
     (read_tells old (g.D.Disk.state c.read.new.self) c.args.boot.number c.row_place.result (row_length cluster_version) c.in_ok-read.field-0 c.read.new.into (c.in_ok-read.ensures.step tells)
     ∙ ap (λ (at : ℕ). slice_range old.bytes at (at + row_length cluster_version)) c.row_place.ensures)
     c.damaged_hosts.ensures.row

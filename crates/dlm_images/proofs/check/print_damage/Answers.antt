@@ -3,6 +3,7 @@ use Rattle.std.specs.Io.KnownBytes.{Appends}
 use Rattle.std.proofs.KnownBytes.{Appends-trans}
 use Rattle.disk.specs.Disk.{DiskState, Device}
 use Rattle.std.specs.Prelude.{◌↔◌, ◌⊎◌, ◌||◌}
+use Rattle.torn_block.specs.Layout.{cluster_version}
 use Rattle.paxos_block.specs.Places.{area_of}
 use Rattle.heartbeat.specs.Beat.{IsDamagedArea}
 use Rattle.std.proofs.lemmas.Result.{err_from_is_err_and}
@@ -46,7 +47,7 @@ returns-clause-found g c = λ t0.
     let old = g.D.Disk.state c.args.device.now in
     let same = attach_keeps old (g.D.Disk.state c.attach.new.self) c.attach.result (c.attach.ensures.step t0) in
     image_is c.args.any.now c.in_ok-beats.beats c.print_rows.new.any
-    (subst (λ (d : DiskState). IsTrue c.in_ok-beats.beats ↔ IsDamagedArea (area_of d.bytes)) same (c.in_ok-beats.ensures.found t1))
+    (subst (λ (d : DiskState). IsTrue c.in_ok-beats.beats ↔ IsDamagedArea (area_of cluster_version d.bytes)) same (c.in_ok-beats.ensures.found t1))
     (subst (λ (d : DiskState). IsTrue c.print_rows.new.any ↔ (IsTrue (c.args.any.now || c.in_ok-beats.beats) ⊎ IsDamagedBelow c.args.slots d.bytes))
     (c.print_area.ensures.unchanged t1 ∙ same) (c.in_ok-print_rows.ensures.found t2))
 
@@ -57,7 +58,7 @@ returns-in_err-print_rows-clause-cause g c = λ t0 any.
     let old = g.D.Disk.state c.args.device.now in
     let same = attach_keeps old (g.D.Disk.state c.attach.new.self) c.attach.result (c.attach.ensures.step t0) in
     image_cause c.args.any.now c.in_ok-beats.beats
-    (subst (λ (d : DiskState). IsTrue c.in_ok-beats.beats ↔ IsDamagedArea (area_of d.bytes)) same (c.in_ok-beats.ensures.found t1))
+    (subst (λ (d : DiskState). IsTrue c.in_ok-beats.beats ↔ IsDamagedArea (area_of cluster_version d.bytes)) same (c.in_ok-beats.ensures.found t1))
     (subst (λ (d : DiskState). IsTrue (c.args.any.now || c.in_ok-beats.beats) ⊎ IsDamagedBelow c.args.slots d.bytes) (c.print_area.ensures.unchanged t1 ∙ same)
     (c.print_rows.ensures.cause t2 any))
 
@@ -68,7 +69,7 @@ returns-clause-cause g c = λ t0 any.
     let old = g.D.Disk.state c.args.device.now in
     let same = attach_keeps old (g.D.Disk.state c.attach.new.self) c.attach.result (c.attach.ensures.step t0) in
     image_cause c.args.any.now c.in_ok-beats.beats
-    (subst (λ (d : DiskState). IsTrue c.in_ok-beats.beats ↔ IsDamagedArea (area_of d.bytes)) same (c.in_ok-beats.ensures.found t1))
+    (subst (λ (d : DiskState). IsTrue c.in_ok-beats.beats ↔ IsDamagedArea (area_of cluster_version d.bytes)) same (c.in_ok-beats.ensures.found t1))
     (subst (λ (d : DiskState). IsTrue (c.args.any.now || c.in_ok-beats.beats) ⊎ IsDamagedBelow c.args.slots d.bytes) (c.print_area.ensures.unchanged t1 ∙ same)
     (c.print_rows.ensures.cause t2 any))
 
@@ -87,7 +88,7 @@ returns-in_err-print_rows-clause-left g c =
     let fault = c.in_err-print_rows.field-0.0 in
     image_left fault a b e c.args.disk c.args.slots c.args.any.now c.in_ok-beats.beats c.print_rows.new.any old.bytes
     (subst (λ (d : DiskState). Appends a b (area_text c.args.disk d.bytes)) same (c.in_ok-beats.ensures.text t1))
-    (subst (λ (d : DiskState). IsTrue c.in_ok-beats.beats ↔ IsDamagedArea (area_of d.bytes)) same (c.in_ok-beats.ensures.found t1))
+    (subst (λ (d : DiskState). IsTrue c.in_ok-beats.beats ↔ IsDamagedArea (area_of cluster_version d.bytes)) same (c.in_ok-beats.ensures.found t1))
     (subst (λ (d : DiskState). IsLeftInRows fault c.args.disk c.args.slots d.bytes b e (c.args.any.now || c.in_ok-beats.beats) c.print_rows.new.any)
     (c.print_area.ensures.unchanged t1 ∙ same) (c.in_err-print_rows.ensures.left t2)))
 

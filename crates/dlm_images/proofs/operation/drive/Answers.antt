@@ -2,6 +2,7 @@ use Rattle.std.proofs.Common.{◌≡◌, ◌≤◌, ◌<◌, ℕ, length, slice_
 use Rattle.std.proofs.lemmas.Option.{slice_get-get_or}
 use Rattle.std.proofs.lemmas.List.{length-set}
 use Rattle.disk.specs.Disk as device
+use Rattle.torn_block.specs.Layout.{cluster_version}
 use Rattle.paxos_block.specs.Places.{image_length}
 use Rattle.slot_log.specs.Shape.{Shape}
 use Rattle.attempt.specs.Answers.{Heard, heard_as}
@@ -27,17 +28,17 @@ pub answer_of-heard-requires : goal.answer_of-heard-requires
 answer_of-heard-requires g c =
     let same : c.loop-made.host.learner.shape ≡ c.args.host.now.learner.shape = c.loop-made.invariant.driven.leads.learner.shape in
     let shape = c.args.host.now.learner.shape in
-    let lies : IsWithin (image_length shape.slots) c.call-need.result.call = subst (λ (s : Shape). IsWithin (image_length s.slots) c.call-need.result.call) same c.call-need.ensures.range in
+    let lies : IsWithin cluster_version (image_length cluster_version shape.slots) c.call-need.result.call = subst (λ (s : Shape). IsWithin cluster_version (image_length cluster_version s.slots) c.call-need.result.call) same c.call-need.ensures.range in
     let there : c.call-need.result.disk < shape.disks = subst (λ (s : Shape). c.call-need.result.disk < s.disks) same c.call-need.ensures.disk in
     let few : c.from.result < length c.loop-made.disks = omega (arith, there, c.from.ensures, c.requires.as_many, c.loop-made.invariant.as_many) in
     let large = c.loop-made.invariant.large c.from.result _ (slice_get-get_or c.loop-made.disks c.from.result c.index-disks-from.result few) in
-    within_more (image_length shape.slots) _ c.call-need.result.call large lies
+    within_more (image_length cluster_version shape.slots) _ c.call-need.result.call large lies
 
 pub loop-made-preserved : goal.loop-made-preserved
 loop-made-preserved g c = record {
   driven =
       let few : c.args.host.now.learner.shape.disks ≤ 7 = omega (arith, c.requires.few.0, c.requires.as_many) in
-      let due = call_of_need c.call-need.result in
+      let due = call_of_need cluster_version c.call-need.result in
       let y : Made = record { disk = due.0; call = due.1; answer = device_answer c.answer_of-heard.result } in
       let shape = c.args.host.now.learner.shape in
       let same : c.loop-made.host.learner.shape ≡ shape = c.loop-made.invariant.driven.leads.learner.shape in
@@ -72,8 +73,8 @@ loop-made-preserved g c = record {
       let there : c.call-need.result.disk < shape.disks = subst (λ (s : Shape). c.call-need.result.disk < s.disks) same c.call-need.ensures.disk in
       let few : c.from.result < length c.loop-made.disks = omega (arith, there, c.from.ensures, c.requires.as_many, c.loop-made.invariant.as_many) in
       let large = c.loop-made.invariant.large c.from.result _ (slice_get-get_or c.loop-made.disks c.from.result c.index-disks-from.result few) in
-      set_keeps (λ d. image_length shape.slots ≤ (g.D.Disk.device d).size) c.loop-made.disks c.from.result c.answer_of-heard.new.disk
-      (subst (λ (e : device.Device). image_length shape.slots ≤ e.size) (sym c.answer_of-heard.ensures.device) large)
+      set_keeps (λ d. image_length cluster_version shape.slots ≤ (g.D.Disk.device d).size) c.loop-made.disks c.from.result c.answer_of-heard.new.disk
+      (subst (λ (e : device.Device). image_length cluster_version shape.slots ≤ e.size) (sym c.answer_of-heard.ensures.device) large)
       c.loop-made.invariant.large;
 }
 

@@ -2,6 +2,7 @@ use Rattle.std.proofs.Common.{◌≡◌, ◌≤◌, ◌<◌, ℕ, Some, get_or, 
 use Rattle.std.proofs.lemmas.Option.{slice_get-get_or}
 use Rattle.std.proofs.lemmas.List.{length-set}
 use Rattle.disk.specs.Disk as device
+use Rattle.torn_block.specs.Layout.{cluster_version}
 use Rattle.paxos_block.specs.Places.{image_length}
 use Rattle.phases.specs.Calls.{IsWithin, call_of_need, device_answer}
 use Rattle.migration.specs.Image.{Setup}
@@ -35,11 +36,11 @@ returns-in-Some-clause-calls g c = λ done is. all_made (setup_by c.args.config 
 pub answer_of-heard-requires : goal.answer_of-heard-requires
 answer_of-heard-requires g c =
     let of = c.loop-made.invariant.moving.leads.of in
-    let lies : IsWithin (image_length c.args.config.slots) c.call-need.result.call = subst (λ (s : Setup). IsWithin (image_length s.slots) c.call-need.result.call) of c.call-need.ensures.range in
+    let lies : IsWithin cluster_version (image_length cluster_version c.args.config.slots) c.call-need.result.call = subst (λ (s : Setup). IsWithin cluster_version (image_length cluster_version s.slots) c.call-need.result.call) of c.call-need.ensures.range in
     let there : c.call-need.result.disk < c.args.config.disks = subst (λ (s : Setup). c.call-need.result.disk < s.disks) of c.call-need.ensures.disk in
     let few : c.from.result < length c.loop-made.disks = omega (arith, there, c.from.ensures, c.requires.as_many, c.loop-made.invariant.as_many) in
     let large = c.loop-made.invariant.large c.from.result _ (slice_get-get_or c.loop-made.disks c.from.result c.index-disks-from.result few) in
-    within_more (image_length c.args.config.slots) _ c.call-need.result.call large lies
+    within_more (image_length cluster_version c.args.config.slots) _ c.call-need.result.call large lies
 
 pub loop-made-preserved : goal.loop-made-preserved
 loop-made-preserved g c =
@@ -47,7 +48,7 @@ loop-made-preserved g c =
     let of = c.loop-made.invariant.moving.leads.of in
     let there : c.call-need.result.disk < c.args.config.disks = subst (λ (s : Setup). c.call-need.result.disk < s.disks) of c.call-need.ensures.disk in
     let within : c.from.result < length c.loop-made.disks = omega (arith, there, c.from.ensures, c.requires.as_many, c.loop-made.invariant.as_many) in
-    let due = call_of_need c.call-need.result in record {
+    let due = call_of_need cluster_version c.call-need.result in record {
       moving = moves_more g.D.Disk.gives s c.args.disks.now c.loop-made.disks (slice_set c.loop-made.disks c.from.result c.answer_of-heard.new.disk) c.loop-made.migrator c.hear.new.self c.loop-made._made
           (record { disk = due.0; call = due.1; answer = device_answer c.answer_of-heard.result })
           (λ answers leads. c.call-need.ensures.next s answers leads)
@@ -62,7 +63,7 @@ loop-made-preserved g c =
       as_many = length-set c.loop-made.disks c.from.result _ ∙ c.loop-made.invariant.as_many;
       large =
           let large = c.loop-made.invariant.large c.from.result _ (slice_get-get_or c.loop-made.disks c.from.result c.index-disks-from.result within) in
-          set_keeps (λ d. image_length c.args.config.slots ≤ (g.D.Disk.device d).size) c.loop-made.disks c.from.result c.answer_of-heard.new.disk
-          (subst (λ (e : device.Device). image_length c.args.config.slots ≤ e.size) (sym c.answer_of-heard.ensures.device) large)
+          set_keeps (λ d. image_length cluster_version c.args.config.slots ≤ (g.D.Disk.device d).size) c.loop-made.disks c.from.result c.answer_of-heard.new.disk
+          (subst (λ (e : device.Device). image_length cluster_version c.args.config.slots ≤ e.size) (sym c.answer_of-heard.ensures.device) large)
           c.loop-made.invariant.large;
     }

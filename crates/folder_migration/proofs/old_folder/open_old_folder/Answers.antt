@@ -3,7 +3,7 @@ use Rattle.std.proofs.lemmas.List.{length-set, length-append}
 use Rattle.disk.specs.declared.fault.ImageFault.{ImageFault}
 use Rattle.torn_block.specs.Layout.{Version1}
 use Rattle.disk.specs.FileStates.{FileState}
-use Rattle.paxos_block.specs.layouts.Places.{image_length}
+use Rattle.paxos_block.specs.Places.{image_length}
 use Rattle.paxos_block.specs.declared.header.Header.{Header}
 use Rattle.paxos_block.specs.Headers.{IsHeader}
 use Rattle.folder_migration.specs.OldFolders.{IsDiskOf}

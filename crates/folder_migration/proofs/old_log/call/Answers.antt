@@ -3,9 +3,8 @@ use Rattle.std.proofs.lemmas.Option.{slice_get-get_or}
 use Rattle.torn_block.specs.Layout.{Version1}
 use Rattle.disk.specs.Disk as device
 use Rattle.attempt.specs.Heard.{Fits}
-use Rattle.paxos_block.specs.layouts.Places.{image_length}
-use Rattle.phases.specs.Calls.{device_answer}
-use Rattle.phases.specs.layouts.Calls.{call_of_need}
+use Rattle.paxos_block.specs.Places.{image_length}
+use Rattle.phases.specs.Calls.{device_answer, call_of_need}
 use Rattle.dlm_images.proofs.Driving.{set_keeps}
 use Rattle.folder_migration.proofs.Recovering.{heard_same, leads_as, alone_as}
 use Rattle.folder_migration.proofs.old_log.call.Goals as goal

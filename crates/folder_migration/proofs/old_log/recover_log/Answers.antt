@@ -1,8 +1,8 @@
 use Rattle.std.proofs.Common.{sym, subst}
 use Rattle.torn_block.specs.Layout.{Version1}
 use Rattle.slot_log.specs.Shape.{Shape}
-use Rattle.slot_log.specs.layouts.Kept.{LeadsTo}
-use Rattle.slot_log.specs.layouts.Learning.{fresh, goes_on}
+use Rattle.slot_log.specs.Kept.{LeadsTo}
+use Rattle.slot_log.specs.Learning.{fresh, goes_on}
 use Rattle.slot_log.specs.declared.operation.Operation.TheVariants.{Recovering}
 use Rattle.folder_migration.proofs.old_log.recover_log.Goals as goal
 

@@ -2,6 +2,7 @@ use Rattle.std.proofs.Common.{◌≡◌, ◌<◌, ◌+◌, ◌∙◌, ℕ, Bool,
 use Rattle.std.specs.Prelude.{slice_index_or}
 use Rattle.std.proofs.lemmas.List.{get_or-set_same, get_or-set_other, length-set}
 use Rattle.std.proofs.lemmas.Bool.{cases_lt}
+use Rattle.torn_block.specs.Layout.{cluster_version}
 use Rattle.torn_block.specs.declared.layout.TheConstants.{HOSTS}
 use Rattle.torn_block.specs.Damage.{block_of}
 use Rattle.heartbeat.specs.Beat.{is_damaged_block}
@@ -10,7 +11,7 @@ use Rattle.heartbeat.proofs.DamageLemmas.{damaged_are, damaged_in_tells, some_da
 use Rattle.heartbeat.proofs.area.damaged_beats.Invariants.{Looked}
 use Rattle.heartbeat.proofs.area.damaged_beats.Goals as goal
 
-one_more : (area : List ℕ) (damaged : List Bool) (host : ℕ) (is : Bool) → Looked area damaged host → host < HOSTS → is ≡ is_damaged_block (block_of host area) → Looked area (set damaged host is) (host + 1)
+one_more : (area : List ℕ) (damaged : List Bool) (host : ℕ) (is : Bool) → Looked area damaged host → host < HOSTS → is ≡ is_damaged_block (block_of cluster_version host area) → Looked area (set damaged host is) (host + 1)
 one_more area damaged host is sofar below tested =
     record {
       count = length-set damaged host is ∙ sofar.count;
@@ -20,7 +21,7 @@ one_more area damaged host is sofar below tested =
             | inl lt ↦ get_or-set_other damaged host k is false (λ same. absurd (omega arith)) ∙ sofar.tests k lt
             | inr ge ↦
                 (let same : host ≡ k = omega arith in
-                subst (λ (j : ℕ). slice_index_or (set damaged host is) j false ≡ is_damaged_block (block_of j area)) same
+                subst (λ (j : ℕ). slice_index_or (set damaged host is) j false ≡ is_damaged_block (block_of cluster_version j area)) same
                 (get_or-set_same damaged host is false (omega (arith, sofar.count)) ∙ tested))
           ];
     }

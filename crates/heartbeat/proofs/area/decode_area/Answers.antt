@@ -38,7 +38,7 @@ pub returns-clause-damaged : goal.returns-clause-damaged
 returns-clause-damaged c = (
   (λ t. absurd cc),
   (λ damage.
-      absurd (sound_is_not_damaged cluster_version IsBeat is_beat (block_of damage.0 c.args.bytes.now) (c.loop-host.invariant.done damage.0 (let below = damage.1 in omega arith)).sound damage.2)),
+      absurd (sound_is_not_damaged cluster_version IsBeat is_beat (block_of cluster_version damage.0 c.args.bytes.now) (c.loop-host.invariant.done damage.0 (let below = damage.1 in omega arith)).sound damage.2)),
 )
 
 pub returns-in_err-counters-clause-unsaid : goal.returns-in_err-counters-clause-unsaid

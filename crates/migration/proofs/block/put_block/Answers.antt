@@ -1,5 +1,5 @@
 use Rattle.std.proofs.Common.{◌≡◌, ◌∙◌, ◌++◌, ℕ, List, length, replicate, ap, ap₂, arith}
-use Rattle.paxos_block.specs.layouts.Saying.{zeros}
+use Rattle.paxos_block.specs.Saying.{zeros}
 use Rattle.migration.proofs.block.put_block.Goals as goal
 
 pub returns : goal.returns

@@ -1,7 +1,7 @@
 use Rattle.std.proofs.Common.{◌∙◌, ◌++◌, ℕ, List, ap₂}
 use Rattle.std.proofs.lemmas.List.{drop-replicate}
 use Rattle.torn_block.specs.declared.layout.TheConstants.{BLOCK_LENGTH, ROW_LENGTH}
-use Rattle.paxos_block.specs.layouts.Saying.{zeros}
+use Rattle.paxos_block.specs.Saying.{zeros}
 use Rattle.migration.proofs.block.row_for.Goals as goal
 
 pub returns : goal.returns

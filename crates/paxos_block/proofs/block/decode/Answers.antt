@@ -2,8 +2,8 @@ use Rattle.std.proofs.Common.{◌≡◌, ◌∙◌, ◌++◌, ◌-◌, ℕ, List
 use Rattle.std.proofs.lemmas.List.{take-append-drop}
 use Rattle.std.specs.Option.{option_map}
 use Rattle.std.specs.Prelude.{IfSome}
-use Rattle.torn_block.specs.layouts.Plan.{body_in}
-use Rattle.paxos_block.specs.layouts.Saying.{Said, said_as, MaySay, body_saying, said_by}
+use Rattle.torn_block.specs.Plan.{body_in}
+use Rattle.paxos_block.specs.Saying.{Said, said_as, MaySay, body_saying, said_by}
 use Rattle.paxos_block.proofs.SayingLemmas.{said_found, said_only}
 use Rattle.paxos_block.proofs.block.decode.Given.{Over}
 use Rattle.paxos_block.proofs.block.decode.Goals as goal

@@ -1,5 +1,5 @@
 use Rattle.std.proofs.Common.{◌∙◌, ◌∷◌, []}
-use Rattle.paxos_block.specs.layouts.Saying.{heading}
+use Rattle.paxos_block.specs.Saying.{heading}
 use Rattle.paxos_block.proofs.block.heading.Goals as goal
 
 pub returns : goal.returns

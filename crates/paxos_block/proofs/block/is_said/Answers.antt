@@ -4,8 +4,8 @@ use Rattle.std.specs.List.{list_all}
 use Rattle.std.proofs.lemmas.Bool.{both_ways}
 use Rattle.std.proofs.lemmas.List.{take_rest}
 use Rattle.torn_block.specs.Layout.{value_length}
-use Rattle.paxos_block.specs.layouts.Ballot.{may_promise}
-use Rattle.paxos_block.specs.layouts.Saying.{number_at}
+use Rattle.paxos_block.specs.Ballot.{may_promise}
+use Rattle.paxos_block.specs.Saying.{number_at}
 use Rattle.paxos_block.proofs.SayingLemmas.{said_filled, not_said_unheaded, not_said_unfilled, filled_tells, filled_since, number_behind}
 use Rattle.paxos_block.proofs.block.is_said.Goals as goal
 

@@ -2,8 +2,8 @@ use Rattle.std.proofs.Common.{◌≡◌, ◌∙◌, List, ℕ, Option, Some, Non
 use Rattle.std.specs.Prelude.{is_some}
 use Rattle.std.specs.Option.{option_map}
 use Rattle.std.proofs.lemmas.Bool.{and_parts, and_from, both_ways}
-use Rattle.paxos_block.specs.layouts.Ballot.{may_promise}
-use Rattle.paxos_block.specs.layouts.Saying.{Said, said_as, may_mark}
+use Rattle.paxos_block.specs.Ballot.{may_promise}
+use Rattle.paxos_block.specs.Saying.{Said, said_as, may_mark}
 use Rattle.paxos_block.proofs.SayingLemmas.{may_say_tells, may_say_since}
 use Rattle.paxos_block.proofs.block.may_say.Goals as goal
 

@@ -1,7 +1,7 @@
 use Rattle.std.proofs.Common.{◌≡◌, ◌∙◌, ◌++◌, ◌-◌, ℕ, List, length, take, drop, ap}
 use Rattle.std.proofs.lemmas.List.{take_rest}
-use Rattle.torn_block.specs.layouts.Block.{body_of}
-use Rattle.paxos_block.specs.layouts.Saying.{claim_of}
+use Rattle.torn_block.specs.Block.{body_of}
+use Rattle.paxos_block.specs.Saying.{claim_of}
 use Rattle.paxos_block.proofs.cell.claim_in.Goals as goal
 
 body_is : (copy : List ℕ) → take 7 (drop 1 copy) ++ take (length copy - 16) (drop 16 copy) ≡ body_of copy

@@ -1,7 +1,7 @@
 use Rattle.std.proofs.Common.{◌∙◌, ℕ, List, sym, ap}
 use Rattle.torn_block.specs.declared.block.Half.{Half}
-use Rattle.torn_block.specs.layouts.Block.{body_of, copy_of}
-use Rattle.paxos_block.specs.layouts.Saying.{claim_of}
+use Rattle.torn_block.specs.Block.{body_of, copy_of}
+use Rattle.paxos_block.specs.Saying.{claim_of}
 use Rattle.paxos_block.proofs.cell.half_says.Goals as goal
 
 pub returns-in-First : goal.returns-in-First

@@ -1,6 +1,6 @@
 use Rattle.std.proofs.Common.{◌∙◌, ℕ, sym, ap, take, drop}
 use Rattle.std.proofs.lemmas.Bool.{not-true}
-use Rattle.torn_block.specs.layouts.Block.{is_open}
+use Rattle.torn_block.specs.Block.{is_open}
 use Rattle.paxos_block.proofs.RowLemmas.{shut_is_blank}
 use Rattle.paxos_block.proofs.cell.is_blank.Goals as goal
 

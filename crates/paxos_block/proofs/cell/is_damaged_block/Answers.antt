@@ -1,6 +1,6 @@
 use Rattle.std.proofs.Common.{◌∙◌, ℕ, List, ap, take, drop}
-use Rattle.torn_block.specs.layouts.Damage.{first_of, is_damaged}
-use Rattle.paxos_block.specs.layouts.Row.{is_sound}
+use Rattle.torn_block.specs.Damage.{first_of, is_damaged}
+use Rattle.paxos_block.specs.Row.{is_sound}
 use Rattle.paxos_block.proofs.cell.is_damaged_block.Goals as goal
 
 pub returns : goal.returns

@@ -1,9 +1,9 @@
 use Rattle.std.proofs.Common.{◌≡◌, ◌∙◌, ◌++◌, ℕ, List, Bool, ◌-◌, length, take, drop, sym, ap}
 use Rattle.std.specs.Prelude.{◌&&◌}
 use Rattle.std.proofs.lemmas.List.{take_rest}
-use Rattle.torn_block.specs.layouts.Block.{body_of}
-use Rattle.paxos_block.specs.layouts.Saying.{is_said}
-use Rattle.torn_block.specs.layouts.Damage.{is_sequence}
+use Rattle.torn_block.specs.Block.{body_of}
+use Rattle.paxos_block.specs.Saying.{is_said}
+use Rattle.torn_block.specs.Damage.{is_sequence}
 use Rattle.paxos_block.proofs.cell.is_sound.Goals as goal
 
 body_is : (copy : List ℕ) → take 7 (drop 1 copy) ++ take (length copy - 16) (drop 16 copy) ≡ body_of copy

@@ -1,7 +1,7 @@
 use Rattle.std.proofs.Common.{◌≡◌, ◌∙◌, ℕ, List, Bool, sym, ap, arith, take, drop}
 use Rattle.torn_block.specs.Layout.{Version}
-use Rattle.paxos_block.specs.layouts.Row.{IsSound, is_sound}
-use Rattle.torn_block.specs.layouts.Damage.{first_of, second_of, is_damaged}
+use Rattle.paxos_block.specs.Row.{IsSound, is_sound}
+use Rattle.torn_block.specs.Damage.{first_of, second_of, is_damaged}
 use Rattle.torn_block.proofs.DamageLaws.{damaged_tells, sound_block_tells}
 use Rattle.paxos_block.proofs.RowLemmas.{sound_tells, sound_since}
 use Rattle.paxos_block.proofs.cell.read_cell.Goals as goal

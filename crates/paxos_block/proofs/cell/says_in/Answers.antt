@@ -1,5 +1,5 @@
 use Rattle.std.proofs.Common.{◌∙◌, ap}
-use Rattle.paxos_block.specs.layouts.Saying.{said_as}
+use Rattle.paxos_block.specs.Saying.{said_as}
 use Rattle.paxos_block.proofs.RowLemmas.{blank_says, current_says}
 use Rattle.paxos_block.proofs.cell.says_in.Goals as goal
 

@@ -3,13 +3,13 @@ use Rattle.std.specs.Prelude.{◌==◌, if◌then◌else◌}
 use Rattle.std.specs.Option.{IsSomeAnd, option_map, option_or}
 use Rattle.std.proofs.lemmas.Bool.{cases_lt, cases_eq, eq-eqb, ne_eqb}
 use Rattle.torn_block.specs.Layout.{Version, hosts_in}
-use Rattle.torn_block.specs.layouts.Damage.{IsSoundBlock, block_of}
+use Rattle.torn_block.specs.Damage.{IsSoundBlock, block_of}
 use Rattle.paxos_block.specs.declared.cell.Cell.{Cell}
 use Rattle.paxos_block.specs.declared.gist.Gist.{Gist}
-use Rattle.paxos_block.specs.layouts.Gist.{IsGist}
-use Rattle.paxos_block.specs.layouts.Saying.{Said, said_as}
-use Rattle.paxos_block.specs.layouts.Row.{DecodedBlock, IsCell, IsDamagedRow, IsSeenAs, IsSound, blank_cell, number_or_zero, row_seen, seen_at}
-use Rattle.paxos_block.specs.layouts.Votes.{says_in, greatest, later_of, latest_below, marked, marked_below}
+use Rattle.paxos_block.specs.Gist.{IsGist}
+use Rattle.paxos_block.specs.Saying.{Said, said_as}
+use Rattle.paxos_block.specs.Row.{DecodedBlock, IsCell, IsDamagedRow, IsSeenAs, IsSound, blank_cell, number_or_zero, row_seen, seen_at}
+use Rattle.paxos_block.specs.Votes.{says_in, greatest, later_of, latest_below, marked, marked_below}
 use Rattle.paxos_block.proofs.RowLemmas.{damaged_row, seen_at-row_seen, sound_row}
 use Rattle.paxos_block.proofs.VoteLemmas.{greatest_next, latest_other, latest_own, later_blank, marked_next, or_none, other_mbal, others_other, others_own}
 use Rattle.paxos_block.proofs.gist.read_gist.Invariants.{Sofar}

@@ -1,11 +1,11 @@
 use Rattle.std.proofs.Common.{◌≡◌, ◌<◌, ◌≤◌, ℕ, List}
 use Rattle.std.specs.Option.{option_map}
 use Rattle.torn_block.specs.Layout.{Version}
-use Rattle.torn_block.specs.layouts.Damage.{IsSoundBlock, block_of}
+use Rattle.torn_block.specs.Damage.{IsSoundBlock, block_of}
 use Rattle.paxos_block.specs.declared.gist.Gist.{Gist}
-use Rattle.paxos_block.specs.layouts.Saying.{Said, said_as}
-use Rattle.paxos_block.specs.layouts.Row.{IsSound, IsSeenAs, blank_cell, row_seen, seen_at}
-use Rattle.paxos_block.specs.layouts.Votes.{says_in, greatest, latest_below, marked_below}
+use Rattle.paxos_block.specs.Saying.{Said, said_as}
+use Rattle.paxos_block.specs.Row.{IsSound, IsSeenAs, blank_cell, row_seen, seen_at}
+use Rattle.paxos_block.specs.Votes.{says_in, greatest, latest_below, marked_below}
 use Rattle.paxos_block.proofs.VoteLemmas.{other_mbal}
 use Rattle.paxos_block.proofs.gist.read_gist.Given as goal
 

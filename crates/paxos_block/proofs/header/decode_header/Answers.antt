@@ -2,7 +2,7 @@ use Rattle.std.proofs.Common.{◌∙◌, ◌<◌, ◌≤◌, ℕ, Ok, refl, sym,
 use Rattle.std.proofs.lemmas.Bool.{both_ways}
 use Rattle.torn_block.specs.declared.layout.TheConstants.{HEADER_LENGTH}
 use Rattle.paxos_block.specs.declared.header.Header.{Header}
-use Rattle.paxos_block.specs.layouts.Headers.{IsRight, header_in}
+use Rattle.paxos_block.specs.Headers.{IsRight, header_in}
 use Rattle.paxos_block.proofs.HeaderLemmas.{right_since, right_tells, right_gate}
 use Rattle.paxos_block.proofs.header.decode_header.Given.{Over}
 use Rattle.paxos_block.proofs.header.decode_header.Goals as goal

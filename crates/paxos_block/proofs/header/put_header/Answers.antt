@@ -1,8 +1,8 @@
 use Rattle.std.proofs.Common.{◌≡◌, ◌-◌, length, refl, ap, arith}
 use Rattle.torn_block.specs.declared.layout.TheConstants.{HEADER_LENGTH}
 use Rattle.paxos_block.specs.declared.header.TheConstants.{ZEROS_AT}
-use Rattle.paxos_block.specs.layouts.Saying.{zeros}
-use Rattle.paxos_block.specs.layouts.Headers.{header_saying}
+use Rattle.paxos_block.specs.Saying.{zeros}
+use Rattle.paxos_block.specs.Headers.{header_saying}
 use Rattle.paxos_block.proofs.header.put_header.Goals as goal
 
 pub returns : goal.returns

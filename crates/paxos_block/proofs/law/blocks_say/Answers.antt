@@ -1,6 +1,6 @@
 use Rattle.paxos_block.proofs.SayingLemmas.{claims_back}
 use Rattle.paxos_block.proofs.RowLemmas.{sound_says}
-use Rattle.paxos_block.specs.layouts.Row.{IsSound, is_sound}
+use Rattle.paxos_block.specs.Row.{IsSound, is_sound}
 use Rattle.torn_block.proofs.DamageLaws.{sound_is_not_damaged}
 use Rattle.paxos_block.proofs.law.blocks_say.Goals as goal
 

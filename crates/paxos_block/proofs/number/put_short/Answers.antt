@@ -1,6 +1,6 @@
 use Rattle.std.proofs.Common.{◌∙◌, ◌++◌, ℕ, List, ap, arith}
 use Rattle.std.proofs.lemmas.List.{drop_all, append-nil}
-use Rattle.paxos_block.specs.layouts.Headers.{short_bytes}
+use Rattle.paxos_block.specs.Headers.{short_bytes}
 use Rattle.paxos_block.proofs.number.put_short.Goals as goal
 
 pub returns : goal.returns

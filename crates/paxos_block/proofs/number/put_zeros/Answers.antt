@@ -1,4 +1,4 @@
-use Rattle.paxos_block.specs.layouts.Saying.{zeros}
+use Rattle.paxos_block.specs.Saying.{zeros}
 use Rattle.paxos_block.proofs.number.put_zeros.Goals as goal
 
 pub returns : goal.returns

@@ -1,4 +1,4 @@
-use Rattle.paxos_block.specs.layouts.Headers.{short_at}
+use Rattle.paxos_block.specs.Headers.{short_at}
 use Rattle.paxos_block.proofs.number.short_in.Goals as goal
 
 pub returns : goal.returns

@@ -5,8 +5,8 @@ use Rattle.torn_block.specs.declared.layout.TheConstants.{HOSTS_ROOM}
 use Rattle.torn_block.specs.Layout.{Version, hosts_in}
 use Rattle.torn_block.proofs.LayoutLaws.{few_hosts}
 use Rattle.paxos_block.specs.declared.cell.Cell.{Cell}
-use Rattle.paxos_block.specs.layouts.Row.{IsCell, IsRow, IsDamagedRow, IsSound, is_sound, blank_cell}
-use Rattle.torn_block.specs.layouts.Damage.{block_of}
+use Rattle.paxos_block.specs.Row.{IsCell, IsRow, IsDamagedRow, IsSound, is_sound, blank_cell}
+use Rattle.torn_block.specs.Damage.{block_of}
 use Rattle.torn_block.proofs.DamageLaws.{sound_is_not_damaged}
 use Rattle.paxos_block.proofs.RowLemmas.{damaged_row, row_is_said, row_is_not_unsaid}
 use Rattle.paxos_block.proofs.row.read_row.Invariants.{Cells, Others}

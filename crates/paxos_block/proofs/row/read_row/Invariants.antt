@@ -2,9 +2,9 @@ use Rattle.std.proofs.Common.{◌≡◌, ◌<◌, ◌≤◌, ℕ, List, length}
 use Rattle.std.specs.List.{HoldsAt}
 use Rattle.torn_block.specs.declared.layout.TheConstants.{HOSTS_ROOM}
 use Rattle.torn_block.specs.Layout.{Version, hosts_in}
-use Rattle.torn_block.specs.layouts.Damage.{block_of}
+use Rattle.torn_block.specs.Damage.{block_of}
 use Rattle.paxos_block.specs.declared.cell.Cell.{Cell}
-use Rattle.paxos_block.specs.layouts.Row.{IsCell, blank_cell}
+use Rattle.paxos_block.specs.Row.{IsCell, blank_cell}
 use Rattle.paxos_block.proofs.row.read_row.Given as goal
 
 -- the cells of hosts that the layout does not have are blank, up to one

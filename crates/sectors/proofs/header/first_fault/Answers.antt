@@ -2,7 +2,7 @@ use Rattle.std.proofs.Common.{◌≡◌, ◌==◌, ◌∙◌, ◌-◌, ℕ, true
 use Rattle.std.specs.List.{list_all}
 use Rattle.std.proofs.lemmas.Bool.{iff_false, both_ways}
 use Rattle.std.proofs.lemmas.List.{take_rest}
-use Rattle.paxos_block.specs.layouts.Saying.{zeros}
+use Rattle.paxos_block.specs.Saying.{zeros}
 use Rattle.paxos_block.proofs.SayingLemmas.{zero_tells, zero_since}
 use Rattle.sectors.specs.declared.fault.DeviceFault.TheVariants.{WrongVersion, WrongDisk, WrongSlots, WrongSectorSize, WrongParts, WrongHosts, WrongWrites, WrongRest, TooShort}
 use Rattle.sectors.specs.declared.header.DeviceHeader.{DeviceHeader}

@@ -2,8 +2,8 @@ use Rattle.std.proofs.Common.{◌∙◌, ◌==◌, ℕ, ap}
 use Rattle.std.specs.Prelude.{slice_index}
 use Rattle.std.proofs.lemmas.List.{take_rest}
 use Rattle.byteorder.specs.Endian.{big_number}
-use Rattle.paxos_block.specs.layouts.Saying.{number_at}
-use Rattle.paxos_block.specs.layouts.Headers.{short_at}
+use Rattle.paxos_block.specs.Saying.{number_at}
+use Rattle.paxos_block.specs.Headers.{short_at}
 use Rattle.sectors.specs.declared.header.DeviceHeader.{DeviceHeader}
 use Rattle.sectors.specs.Headers.{header_in}
 use Rattle.sectors.proofs.header.header_in.Goals as goal

@@ -1,5 +1,5 @@
 use Rattle.std.proofs.Common.{◌≡◌, ◌-◌, length, refl, ap, arith}
-use Rattle.paxos_block.specs.layouts.Saying.{zeros}
+use Rattle.paxos_block.specs.Saying.{zeros}
 use Rattle.sectors.specs.Headers.{header_saying}
 use Rattle.sectors.proofs.header.put_header.Goals as goal
 

@@ -1,6 +1,6 @@
 use Rattle.std.proofs.Common.{◌+◌, ◌++◌, ◌∙◌, ℕ, drop, ap}
 use Rattle.std.proofs.lemmas.List.{drop-drop}
-use Rattle.torn_block.specs.layouts.Block.{number_bytes}
+use Rattle.torn_block.specs.Block.{number_bytes}
 use Rattle.sectors.proofs.name.put_name.Goals as goal
 
 pub returns-clause-put : goal.returns-clause-put

@@ -1,4 +1,4 @@
-use Rattle.paxos_block.specs.layouts.Saying.{number_at}
+use Rattle.paxos_block.specs.Saying.{number_at}
 use Rattle.sectors.proofs.number.number_in.Goals as goal
 
 pub returns : goal.returns

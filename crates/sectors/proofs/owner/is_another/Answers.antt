@@ -1,6 +1,6 @@
 use Rattle.std.proofs.Common.{◌∙◌, sym}
 use Rattle.std.proofs.lemmas.Bool.{both_ways}
-use Rattle.paxos_block.specs.layouts.Saying.{zeros}
+use Rattle.paxos_block.specs.Saying.{zeros}
 use Rattle.sectors.specs.Names.{nobody}
 use Rattle.sectors.proofs.Owners.{is_other, others_differ}
 use Rattle.sectors.proofs.owner.is_another.Goals as goal

@@ -1,7 +1,8 @@
 use Rattle.std.proofs.Common.{◌≡◌, ◌∙◌, ◌+◌, ◌*◌, ◌-◌, ◌<◌, ℕ, List, sym, ap, subst, arith}
 use Rattle.disk.specs.Disk.{put_at}
+use Rattle.torn_block.specs.Layout.{cluster_version}
 use Rattle.torn_block.specs.Damage as row
-use Rattle.paxos_block.specs.layouts.Saying.{zeros}
+use Rattle.paxos_block.specs.Saying.{zeros}
 use Rattle.sectors.specs.Row.{IsRowOf, sector_in}
 use Rattle.sectors.specs.Sector.{block_of}
 use Rattle.sectors.proofs.RowLaws.{put_next, gathered}
@@ -11,7 +12,7 @@ pub loop-host-preserved : goal.loop-host-preserved
 loop-host-preserved c = (
   c.put_block.array_long,
   subst
-      (λ (l : List ℕ). (k : ℕ) → k < c.loop-host.host + 1 → row.block_of k l ≡ block_of (sector_in c.args.geometry.now k c.args.sectors.now))
+      (λ (l : List ℕ). (k : ℕ) → k < c.loop-host.host + 1 → row.block_of cluster_version k l ≡ block_of (sector_in c.args.geometry.now k c.args.sectors.now))
       (sym c.put_block.ensures)
       (put_next c.args.geometry.now c.args.sectors.now c.loop-host.row c.block_of.result.now c.loop-host.host c.loop-host.invariant.0 c.block_of.ensures.long
       (omega (arith, c.loop-host-test.true, c.from-hosts.ensures, c.requires.shape.hosts.1)) c.block_of.ensures.block c.loop-host.invariant.1),

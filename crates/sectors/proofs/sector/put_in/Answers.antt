@@ -1,7 +1,7 @@
 use Rattle.std.proofs.Common.{◌+◌, ◌++◌, ◌∙◌, ℕ, List, drop, ap}
 use Rattle.std.proofs.lemmas.List.{drop-drop}
 use Rattle.disk.specs.Disk.{put_at}
-use Rattle.torn_block.specs.layouts.Block.{number_bytes}
+use Rattle.torn_block.specs.Block.{number_bytes}
 use Rattle.sectors.proofs.sector.put_in.Goals as goal
 
 pub returns-clause-put : goal.returns-clause-put

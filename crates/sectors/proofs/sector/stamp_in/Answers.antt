@@ -1,7 +1,7 @@
 use Rattle.std.proofs.Common.{◌∙◌, ap}
 use Rattle.std.proofs.lemmas.List.{take_rest}
 use Rattle.byteorder.specs.Endian.{big_number}
-use Rattle.paxos_block.specs.layouts.Saying.{number_at}
+use Rattle.paxos_block.specs.Saying.{number_at}
 use Rattle.sectors.proofs.sector.stamp_in.Goals as goal
 
 pub returns : goal.returns

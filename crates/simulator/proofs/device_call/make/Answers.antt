@@ -4,6 +4,7 @@ use Rattle.disk.specs.declared.fault.DiskFault.{DiskFault}
 use Rattle.disk.specs.declared.fault.DiskFault.TheVariants.{Reset, Gone}
 use Rattle.disk.specs.Disk.{DiskState, Device, Answer, Call, Attach, Read, Write, Sync, success_of, done_by}
 use Rattle.disk.specs.Simulated.{SimState, outcome_by, refusal_of}
+use Rattle.torn_block.specs.Layout.{cluster_version}
 use Rattle.phases.specs.Calls.{device_call_of}
 use Rattle.world.specs.Entry.{called_by}
 use Rattle.world.specs.Happens.{answer_by}
@@ -34,7 +35,7 @@ calm_outcome s (Sync boot) = refused s (Sync boot) s.disk.gone (boot == s.disk.b
 pub returns : goal.returns
 returns c =
     let old = c.args.disk.now in
-    let call = device_call_of c.args.call.now in
+    let call = device_call_of cluster_version c.args.call.now in
     let gave = c.answer_of.ensures.gave ∙ ap (outcome_by old call (refusal_of old.disk call)) c.requires.calm ∙ calm_outcome old call in
     record {
       answer = ap (λ (p : SimState × Answer). p.1) gave;

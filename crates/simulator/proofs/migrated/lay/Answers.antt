@@ -2,6 +2,7 @@ use Rattle.std.proofs.Common.{ℕ, ◌≡◌, List, [], length, take, get_or, sy
 use Rattle.std.proofs.lemmas.List.{length-take-le, take_all, take_more}
 use Rattle.disk.specs.Disk.{written, synced}
 use Rattle.disk.specs.Simulated.{SimState, fresh_disk}
+use Rattle.torn_block.specs.Layout.{cluster_version}
 use Rattle.torn_block.specs.declared.layout.TheConstants.{ROW_LENGTH}
 use Rattle.paxos_block.specs.Places.{image_length, row_place}
 use Rattle.migration.specs.Image.{rows_for}
@@ -47,10 +48,10 @@ loop-slot-preserved c =
     let value = get_or values at.slot [] in
     let many = length-take-le at.slot values (omega (arith, at.auto.slot-end)) in
     let long : length c.row_for.result ≡ ROW_LENGTH = omega arith in
-    let place : c.row_place.result ≡ row_place (length (take at.slot values)) = c.row_place.ensures ∙ ap row_place (sym many) in
+    let place : c.row_place.result ≡ row_place cluster_version (length (take at.slot values)) = c.row_place.ensures ∙ ap (row_place cluster_version) (sym many) in
     let wrote = c.write.ensures
     ∙ ap (λ (n : ℕ). record at.disk { disk = written at.disk.disk n c.row_for.result }) place
-    ∙ ap (λ (l : List ℕ). record at.disk { disk = written at.disk.disk (row_place (length (take at.slot values))) l }) c.row_for.ensures in
+    ∙ ap (λ (l : List ℕ). record at.disk { disk = written at.disk.disk (row_place cluster_version (length (take at.slot values))) l }) c.row_for.ensures in
     subst (λ (l : List (List ℕ)). HasRows slots l c.write.new.disk) (sym (take_more values at.slot [] c.loop-slot-test.true))
     (one_row_more slots (take at.slot values) value at.disk c.write.new.disk (omega (arith, many, c.loop-slot-test.true, c.requires.fits)) (ap length (sym c.row_for.ensures) ∙ long) at.invariant wrote)
 
@@ -74,4 +75,4 @@ returns c =
     let at = c.loop-slot in
     let values = c.args.values.now in
     c.sync.ensures ∙ ap (λ (s : SimState). record s { disk = synced s.disk }) at.invariant.is
-    ∙ ap (λ (l : List (List ℕ)). calm (synced (written (fresh_disk (image_length c.args.config.slots)) (row_place 0) (rows_for l)))) (take_all at.slot values c.loop-slot-test.false)
+    ∙ ap (λ (l : List (List ℕ)). calm (synced (written (fresh_disk (image_length cluster_version c.args.config.slots)) (row_place cluster_version 0) (rows_for l)))) (take_all at.slot values c.loop-slot-test.false)

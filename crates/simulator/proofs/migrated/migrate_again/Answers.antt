@@ -3,6 +3,7 @@ use Rattle.std.proofs.Common.{ℕ, ◌<◌, ◌≡◌, ◌≢◌, List, [], ◌�
 use Rattle.std.proofs.lemmas.List.{length-map, take_all, take_more_set, replicate_more}
 use Rattle.disk.specs.Disk.{written, synced}
 use Rattle.disk.specs.Simulated.{SimState, fresh_disk}
+use Rattle.torn_block.specs.Layout.{cluster_version}
 use Rattle.paxos_block.specs.Places.{image_length, row_place}
 use Rattle.migration.specs.Image.{rows_for}
 use Rattle.lock_command.specs.Command.{spelling}
@@ -26,11 +27,11 @@ lay-requires-clause-fresh c =
 pub loop-at-preserved : goal.loop-at-preserved
 loop-at-preserved c =
     let at = c.loop-at in
-    let size = image_length c.args.config.slots in
+    let size = image_length cluster_version c.args.config.slots in
     let left : SimState = calm (migrated_to (fresh_disk size) c.args.log.now) in
     let inside : at.at < length at.disks = omega (arith, c.loop-at-test.true, c.from-many.ensures, c.disks.ensures.value, c.requires.many, at.auto.disks) in
     let laid : c.lay.new.disk ≡ left =
-    c.lay.ensures ∙ ap (λ (l : List (List ℕ)). calm (synced (written (fresh_disk size) (row_place 0) (rows_for l)))) (c.deref.ensures.value ∙ c.in_ok-spelled.ensures.values) in
+    c.lay.ensures ∙ ap (λ (l : List (List ℕ)). calm (synced (written (fresh_disk size) (row_place cluster_version 0) (rows_for l)))) (c.deref.ensures.value ∙ c.in_ok-spelled.ensures.values) in
     record {
       done =
           take_more_set at.disks at.at c.lay.new.disk inside
@@ -45,7 +46,7 @@ loop-at-preserved c =
 pub returns : goal.returns
 returns c =
     let at = c.loop-at in
-    let left : SimState = calm (migrated_to (fresh_disk (image_length c.args.config.slots)) c.args.log.now) in
+    let left : SimState = calm (migrated_to (fresh_disk (image_length cluster_version c.args.config.slots)) c.args.log.now) in
     let all : at.at ≡ c.args.config.disks = omega (arith, c.loop-at-test.false, at.auto.at-end, c.from-many.ensures, c.disks.ensures.value) in
     record {
       disks =

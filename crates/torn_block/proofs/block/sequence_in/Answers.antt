@@ -1,7 +1,7 @@
 use Rattle.std.proofs.Common.{◌∙◌, ap}
 use Rattle.std.proofs.lemmas.List.{take_rest}
 use Rattle.byteorder.specs.Endian.{big_number}
-use Rattle.torn_block.specs.layouts.Block.{sequence_of}
+use Rattle.torn_block.specs.Block.{sequence_of}
 use Rattle.torn_block.proofs.block.sequence_in.Goals as goal
 
 pub returns : goal.returns

@@ -1,6 +1,6 @@
 use Rattle.std.proofs.Common.{◌≡◌, ◌∷◌, [], ℕ, List, take, drop, set, length, sym, ap, arith, append_assoc, refl}
 use Rattle.std.proofs.lemmas.List.{take_rest}
-use Rattle.torn_block.specs.layouts.Block.{tail_with, number_bytes}
+use Rattle.torn_block.specs.Block.{tail_with, number_bytes}
 use Rattle.torn_block.proofs.write_steps.put_copy.Goals as goal
 
 lone : (xs : List ℕ) (y : ℕ) → length xs ≡ 1 → set xs 0 y ≡ y ∷ []

@@ -1,6 +1,6 @@
 use Rattle.std.proofs.Common.{◌∙◌, ◌++◌, ℕ, List, ap, arith}
 use Rattle.std.proofs.lemmas.List.{drop_all, append-nil}
-use Rattle.torn_block.specs.layouts.Block.{number_bytes}
+use Rattle.torn_block.specs.Block.{number_bytes}
 use Rattle.torn_block.proofs.write_steps.put_number.Goals as goal
 
 pub returns : goal.returns

@@ -1,6 +1,7 @@
 use Rattle.std.proofs.Common.{◌≡◌, ℕ, ◌≤◌, None, Option, sym, ap, subst, ◌∙◌}
 use Rattle.std.specs.Prelude.{IsTrue}
 use Rattle.disk.specs.Disk.{Device, DiskState, Answer}
+use Rattle.torn_block.specs.Layout.{cluster_version}
 use Rattle.paxos_block.specs.Places.{image_length}
 use Rattle.slot_log.specs.Shape.{Shape}
 use Rattle.cluster_tie.specs.Parts.{Own}
@@ -55,7 +56,7 @@ invariant_of-self g c =
       so = record {
         number = i.so.number;
         tells = subst (λ (d : Device). IsTrue d.tells) (sym c.make-outcome.ensures.device) i.so.tells;
-        size = subst (λ (d : Device). image_length (shape g c).slots ≤ d.size) (sym c.make-outcome.ensures.device) i.so.size;
+        size = subst (λ (d : Device). image_length cluster_version (shape g c).slots ≤ d.size) (sym c.make-outcome.ensures.device) i.so.size;
         disk = record { call = (due_in (shape g c) (seat g c)).1; fits = m.fits; step = m.step };
       };
     }

@@ -1,4 +1,5 @@
 use Rattle.std.proofs.Common.{◌≡◌, ◌≤◌, ◌++◌, ℕ, List, Option, Some, length, take, drop, slice_get, arith, refl, sym, ◌∙◌, subst, ap}
+use Rattle.torn_block.specs.Layout.{cluster_version}
 use Rattle.paxos_block.specs.Places.{image_length}
 use Rattle.slot_log.specs.Shape.{Shape}
 use Rattle.host.specs.declared.answer.HostAnswer.{HostAnswer}
@@ -32,8 +33,8 @@ drive-requires-clause-few g c =
 pub drive-requires-clause-large : goal.drive-requires-clause-large
 drive-requires-clause-large g c =
     let same : c.begin.new.self.learner.shape ≡ c.self.inside.core.learner.shape = begun_shape (λ s m. starts s m c.args.task) c.self.inside.core c.begin.new.self c.self.invariant.known c.begin.ensures in
-    subst (λ (s : Shape). (k : ℕ) (d : g.row.D.Denot) → slice_get c.deref_mut.result.now k ≡ Some d → image_length s.slots ≤ (g.D.Disk.device d).size) (sym same)
-    (subst (λ (ds : List g.row.D.Denot). (k : ℕ) (d : g.row.D.Denot) → slice_get ds k ≡ Some d → image_length c.self.inside.core.learner.shape.slots ≤ (g.D.Disk.device d).size) (sym c.deref_mut.ensures.value)
+    subst (λ (s : Shape). (k : ℕ) (d : g.row.D.Denot) → slice_get c.deref_mut.result.now k ≡ Some d → image_length cluster_version s.slots ≤ (g.D.Disk.device d).size) (sym same)
+    (subst (λ (ds : List g.row.D.Denot). (k : ℕ) (d : g.row.D.Denot) → slice_get ds k ≡ Some d → image_length cluster_version c.self.inside.core.learner.shape.slots ≤ (g.D.Disk.device d).size) (sym c.deref_mut.ensures.value)
     c.self.invariant.large)
 
 pub answered-requires : goal.answered-requires
@@ -50,8 +51,8 @@ invariant_of-self g c =
     let done : HasCarriedOut g.D.Disk.gives (λ s m. starts s m c.args.task) (record { core = c.self.inside.core; disks = c.self.inside.disks.items }) (record { core = c.drive.new.host; disks = (take c.self.inside.disks.len (c.drive.new.disks ++ drop (length c.drive.new.disks) c.self.inside.disks.items)) }) =
     carried_out g.D.Disk.gives (λ s m. starts s m c.args.task) c.self.inside.core c.begin.new.self c.drive.new.host c.self.inside.disks.items c.deref_mut.result.now c.drive.new.disks (take c.self.inside.disks.len (c.drive.new.disks ++ drop (length c.drive.new.disks) c.self.inside.disks.items)) c.begin.ensures c.deref_mut.ensures.value (sym kept) c.drive.ensures.heard c.drive.ensures.ended in
     rests_then g.D.Disk.gives (λ d. (g.D.Disk.device d).size) (record { core = c.self.inside.core; disks = c.self.inside.disks.items }) (record { core = c.drive.new.host; disks = (take c.self.inside.disks.len (c.drive.new.disks ++ drop (length c.drive.new.disks) c.self.inside.disks.items)) }) c.self.invariant c.args.task (subst (λ (s : Standing g.row.D.Denot). MayBegin s.core c.args.task) (sym c.self.view_is) c.requires.may) c.requires.asked done
-    (subst (λ (ds : List g.row.D.Denot). (k : ℕ) (d : g.row.D.Denot) → slice_get ds k ≡ Some d → image_length c.drive.new.host.learner.shape.slots ≤ (g.D.Disk.device d).size) (sym kept)
-    (subst (λ (s : Shape). (k : ℕ) (d : g.row.D.Denot) → slice_get c.drive.new.disks k ≡ Some d → image_length s.slots ≤ (g.D.Disk.device d).size) (sym c.drive.ensures.shape)
+    (subst (λ (ds : List g.row.D.Denot). (k : ℕ) (d : g.row.D.Denot) → slice_get ds k ≡ Some d → image_length cluster_version c.drive.new.host.learner.shape.slots ≤ (g.D.Disk.device d).size) (sym kept)
+    (subst (λ (s : Shape). (k : ℕ) (d : g.row.D.Denot) → slice_get c.drive.new.disks k ≡ Some d → image_length cluster_version s.slots ≤ (g.D.Disk.device d).size) (sym c.drive.ensures.shape)
     c.drive.ensures.large))
 
 pub returns-clause-done : goal.returns-clause-done

@@ -4,6 +4,7 @@ use Rattle.attempt.specs.Answers.{Answered}
 use Rattle.lock_command.specs.declared.command.Command.{Command}
 use Rattle.lock_command.specs.Reading.{decoded}
 use Rattle.lock_command.specs.declared.reply.Reply.{Reply}
+use Rattle.torn_block.specs.Layout.{cluster_version}
 use Rattle.phases.specs.Calls.{heard_of}
 use Rattle.slot_log.specs.Learning as log
 use Rattle.slot_log.specs.declared.outcome.LogOutcome.{LogOutcome}
@@ -16,11 +17,11 @@ pub returns-in_default-clause-leads : goal.returns-in_default-clause-leads
 returns-in_default-clause-leads c c' h m leads =
     let s = c.self.inside in
     let new : Kept = record { learner = c.hear.new.self; prefix = s.prefix.items; said = c.tell.new.said; beside = s.beside; readings = s.readings } in
-    let x : Answered = record { disk = s.learner.attempt.disk; heard = heard_of c.args.heard.now } in
+    let x : Answered = record { disk = s.learner.attempt.disk; heard = heard_of cluster_version c.args.heard.now } in
     let led = known c' h m s _ c.self.view_is leads in
     let busy = attempt_doing c' h m s _ c.self.view_is leads c.requires.alone c.requires.busy in
     let before = values_with s.learner.said m in
-    let l = log.hears c' h before before.doing x in
+    let l = log.hears cluster_version c' h before before.doing x in
     let leads' = c.hear.ensures.leads c' h before led.learner in
     let after = heard_none c' h s.learner.said m busy.0 x busy.1 (sym (c.offered.ensures.value c' h l leads') ∙ ap (option_map (λ (value : List ℕ). value)) c.in_default.is) in
     attempt_hears c' h m s _ c.self.view_is leads c.requires.alone c.requires.busy c.args.heard.now new
@@ -35,12 +36,12 @@ pub returns-clause-leads : goal.returns-clause-leads
 returns-clause-leads c c' h m leads =
     let s = c.self.inside in
     let new : Kept = record { learner = c.judge-reply.new.learner; prefix = c.judge-reply.new.prefix.items; said = c.of-self-inside.result; beside = s.beside; readings = s.readings } in
-    let x : Answered = record { disk = s.learner.attempt.disk; heard = heard_of c.args.heard.now } in
+    let x : Answered = record { disk = s.learner.attempt.disk; heard = heard_of cluster_version c.args.heard.now } in
     let value = c.in-Some.value in
     let led = known c' h m s _ c.self.view_is leads in
     let busy = attempt_doing c' h m s _ c.self.view_is leads c.requires.alone c.requires.busy in
     let before = values_with s.learner.said m in
-    let l = log.hears c' h before before.doing x in
+    let l = log.hears cluster_version c' h before before.doing x in
     let leads' = c.hear.ensures.leads c' h before led.learner in
     let after = heard_value c' h s.learner.said m busy.0 x busy.1 value (sym (c.offered.ensures.value c' h l leads') ∙ ap (option_map (λ (value : List ℕ). value)) c.in-Some.is) in
     let reply : c.judge-reply.result ≡ option_map (reply_after m.learned) (decoded value) =
@@ -56,11 +57,11 @@ returns-clause-leads c c' h m leads =
 
 pub returns-in_default-clause-alone : goal.returns-in_default-clause-alone
 returns-in_default-clause-alone c c' h m leads =
-    attempt_alone c' h m c.self.inside _ c.self.view_is leads c.requires.alone c.requires.busy (heard_of c.args.heard.now) (c.hear.ensures.alone c' h)
+    attempt_alone c' h m c.self.inside _ c.self.view_is leads c.requires.alone c.requires.busy (heard_of cluster_version c.args.heard.now) (c.hear.ensures.alone c' h)
 
 pub returns-clause-alone : goal.returns-clause-alone
 returns-clause-alone c c' h m leads =
-    attempt_alone c' h m c.self.inside _ c.self.view_is leads c.requires.alone c.requires.busy (heard_of c.args.heard.now) (c.hear.ensures.alone c' h)
+    attempt_alone c' h m c.self.inside _ c.self.view_is leads c.requires.alone c.requires.busy (heard_of cluster_version c.args.heard.now) (c.hear.ensures.alone c' h)
 
 pub returns-in_default-clause-few : goal.returns-in_default-clause-few
 returns-in_default-clause-few c c' h m leads = attempt_few c' h m c.self.inside _ c.self.view_is leads c.requires.alone c.requires.busy

@@ -2,6 +2,7 @@ use Rattle.std.proofs.Common.{◌≡◌, ◌<◌, ◌∙◌, ap, sym, subst, ℕ
 use Rattle.disk.specs.Disk as device
 use Rattle.attempt.specs.Answers.{Answers, on}
 use Rattle.attempt.specs.History.{Fits, IsAnswerTo}
+use Rattle.torn_block.specs.Layout.{cluster_version}
 use Rattle.phases.specs.Calls.{heard_of}
 use Rattle.looks.specs.Status.{Setup, next_call}
 use Rattle.looks.specs.declared.notes.Notes.{Notes}
@@ -19,7 +20,7 @@ returns-clause-leads c s answers leads =
     let x = answer_of n c.args.heard.now in
     let before = subst (LeadsTo s answers) (sym c.self.view_is) leads in
     let going : n.end ≡ None = ap (λ (m : Notes). m.end) c.self.view_is ∙ c.requires.going in
-    let fits = subst (λ (m : Notes). Fits (call_due m).1 (heard_of c.args.heard.now)) (sym c.self.view_is) c.requires.fits in
+    let fits = subst (λ (m : Notes). Fits (call_due m).1 (heard_of cluster_version c.args.heard.now)) (sym c.self.view_is) c.requires.fits in
     let next = subst (λ (t : Setup). next_call t (on answers) ≡ Some (call_due n)) before.of (call_is (on answers) n (v (on answers) n before.follows going sound.first sound.asks_one) sound.first sound.asks_one) in
     let answered : IsAnswerTo (Some (call_due n)) x = (refl, fits) in
     subst (λ (m : Notes). LeadsTo s (answers ++ answer_of m c.args.heard.now ∷ []) c.hear.new.self) c.self.view_is

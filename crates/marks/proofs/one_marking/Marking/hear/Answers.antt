@@ -1,6 +1,7 @@
 use Rattle.std.proofs.Common.{◌∙◌, ◌++◌, ◌∷◌, [], List, ℕ, ap, sym, subst}
 use Rattle.attempt.specs.Answers.{Answered}
 use Rattle.attempt.specs.History.{Fits}
+use Rattle.torn_block.specs.Layout.{cluster_version}
 use Rattle.phases.specs.Calls.{heard_of}
 use Rattle.phases.specs.declared.heard.Heard as code_heard
 use Rattle.marks.specs.Kept.{IsSameMarking, LeadsTo, answer_of, call_due}
@@ -24,7 +25,7 @@ returns-in_default c =
     let leads : (s : Setup) (answers : List Answered) → LeadsTo s answers c.args.self.now → LeadsTo s (answers ++ answer_of c.args.self.now c.args.heard.now ∷ []) new = λ s answers leads.
     (let led = subst (LeadsTo s answers) (sym c.self.view_is) leads in
     let going = still_going p.round.end (ap (λ (m : Notes). m.end) c.self.view_is ∙ c.requires.going) in
-    let fits = subst (λ (m : Notes). Fits (call_due m).1 (heard_of c.args.heard.now)) (sym c.self.view_is) c.requires.fits in
+    let fits = subst (λ (m : Notes). Fits (call_due m).1 (heard_of cluster_version c.args.heard.now)) (sym c.self.view_is) c.requires.fits in
     subst (λ (m : Notes). LeadsTo s (answers ++ answer_of m c.args.heard.now ∷ []) new) c.self.view_is
     (hears p.host p.slot p.value p.round s answers led going c.self.invariant.sound.visits_one c.args.heard.now fits c.in_default.not-Told c.hear.new.self c.hear.ensures.step c.hear.ensures.disks)) in
     record {

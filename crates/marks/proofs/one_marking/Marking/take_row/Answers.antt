@@ -21,10 +21,10 @@ encode-requires c =
     let own = seen_at reads.seen p.host in
     let says = c.cell-cell.result.now.says in
     let shows = c.cell-cell.ensures cluster_version (λ value. value) reads.seen reads.so in
-    let said : IsSaid p.host (value_of own.bytes) own.says = said_is_said cluster_version c.requires.row.0 reads.seen p.host c.self.invariant.is_host reads.said in
+    let said : IsSaid cluster_version p.host (value_of cluster_version own.bytes) own.says = said_is_said cluster_version c.requires.row.0 reads.seen p.host c.self.invariant.is_host reads.said in
     let holds = and_parts (not says.mark) (is_value says.inp p.value) (sym c.is_to_mark.ensures ∙ c.if-is_to_mark.true) in
-    subst (MaySay p.host) (sym (said_same (with_mark says)))
-    (may_mark_it p.host (value_of own.bytes) says p.value (subst (IsSaid p.host (value_of own.bytes)) (sym (says_shown says _ shows.says)) said) holds.1)
+    subst (MaySay cluster_version p.host) (sym (said_same (with_mark says)))
+    (may_mark_it p.host (value_of cluster_version own.bytes) says p.value (subst (IsSaid cluster_version p.host (value_of cluster_version own.bytes)) (sym (says_shown says _ shows.says)) said) holds.1)
 
 pub returns-then-is_to_mark-clause-leads : goal.returns-then-is_to_mark-clause-leads
 returns-then-is_to_mark-clause-leads c s answers bytes reads leads =
@@ -35,7 +35,7 @@ returns-then-is_to_mark-clause-leads c s answers bytes reads leads =
     let led = subst (LeadsTo s answers) (sym c.self.view_is) leads in
     let going = still_going p.round.end (ap (λ (m : Notes). m.end) c.self.view_is ∙ c.requires.going) in
     let st = ap (λ (m : Notes). m.round.stage) c.self.view_is ∙ c.requires.stage in
-    let step = c.write.ensures.step ∙ ap (rounds.begins p.round block) (c.encode.ensures ∙ ap body_saying (said_same (with_mark says))) in
+    let step = c.write.ensures.step ∙ ap (rounds.begins p.round block) (c.encode.ensures ∙ ap (body_saying cluster_version) (said_same (with_mark says))) in
     let new : Notes = notes_in p.host p.slot p.value c.write.new.self in
     subst (λ (o : Option (List DecodedBlock)). LeadsTo s (answers ++ record { disk = c.args.self.now.disk; heard = Told o } ∷ []) new) (sym reads.said)
     (subst (λ (m : Notes). LeadsTo s (answers ++ record { disk = m.disk; heard = Told (Some reads.seen) } ∷ []) new) c.self.view_is

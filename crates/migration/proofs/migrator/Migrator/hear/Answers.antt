@@ -1,5 +1,6 @@
 use Rattle.std.proofs.Common.{◌≡◌, ◌∙◌, ◌++◌, ◌∷◌, [], None, ap, sym, subst, arith}
 use Rattle.attempt.specs.Heard.{Fits}
+use Rattle.torn_block.specs.Layout.{cluster_version}
 use Rattle.phases.specs.Calls.{heard_of}
 use Rattle.migration.specs.Heard.{at_first}
 use Rattle.migration.specs.Kept.{LeadsTo, device_answer, call_due}
@@ -13,7 +14,7 @@ returns-clause-leads c s answers leads =
     let n = c.self.inside.notes in
     let before = subst (LeadsTo s answers) (sym c.self.view_is) leads in
     let going : n.end ≡ None = ap (λ (m : Notes). m.end) c.self.view_is ∙ c.requires.going in
-    let fits = subst (λ (m : Notes). Fits (call_due m).1 (heard_of c.args.heard.now)) (sym c.self.view_is) c.requires.fits in
+    let fits = subst (λ (m : Notes). Fits (call_due m).1 (heard_of cluster_version c.args.heard.now)) (sym c.self.view_is) c.requires.fits in
     leads_on s answers n c.hear.new.self c.args.heard.now c.self.invariant going c.hear.ensures.same fits c.hear.ensures.hears before
 
 pub returns-clause-bound : goal.returns-clause-bound

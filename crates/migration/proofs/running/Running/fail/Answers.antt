@@ -2,6 +2,7 @@ use Rattle.std.specs.Prelude.{is_some}
 use Rattle.std.proofs.Common.{ℕ, ◌∙◌, ◌++◌, ◌∷◌, [], Option, Some, sym, subst, ap}
 use Rattle.std.proofs.Math.ListN.{set}
 use Rattle.disk.specs.Simulated.{SimState, failed_by, refusal_of}
+use Rattle.torn_block.specs.Layout.{cluster_version}
 use Rattle.phases.specs.Calls.{device_call_of, call_of_need, IsWithin}
 use Rattle.migration.specs.Events.{FailCall, run}
 use Rattle.migration.specs.Running.{LeadsTo}
@@ -32,11 +33,11 @@ pub returns-then-is_refused : goal.returns-then-is_refused
 returns-then-is_refused c s events leads =
     let old = c.args.self.now in
     let need = c.call-need.result in
-    let call = device_call_of need.call in
+    let call = device_call_of cluster_version need.call in
     let here = subst (λ (m : Option Notes). LeadsTo s events m old.disks.items) c.in-Some.is leads in
     let below = disk_below s events c.in-Some.migrator old.disks.items here need.disk c.call-need.ensures.disk in
     let stood = disk_is s (run s events) old.disks.items need.disk c.from-at.result c.index.result.now here.shows c.from-at.ensures below c.index.ensures in
-    let due = due_next s events c.in-Some.migrator old.disks.items here (call_of_need need) (c.call-need.ensures.next s) in
+    let due = due_next s events c.in-Some.migrator old.disks.items here (call_of_need cluster_version need) (c.call-need.ensures.next s) in
     brings_none s events (FailCall c.args.given.now) (Some c.in-Some.migrator) old.disks.items
     (refused_fails s (run s events) need.disk call due c.args.given.now
     (ap (λ (x : SimState). is_some (refusal_of x.disk call)) (sym stood) ∙ sym c.is_refused.ensures ∙ c.if-is_refused.true)) here
@@ -47,12 +48,12 @@ spoil-requires-clause-range c =
     let sims = c.args.self.now.disks.items in
     let r = c.requires in
     let here = subst (λ (m : Option Notes). LeadsTo r.setup r.events m sims) c.in-Some.is r.leads in
-    subst (λ (k : ℕ). IsWithin k need.call) (long_disk r.setup r.events c.in-Some.migrator sims here need.disk c.from-at.result c.index_mut.result.now c.from-at.ensures c.call-need.ensures.disk c.index_mut.ensures.value) c.call-need.ensures.range
+    subst (λ (k : ℕ). IsWithin cluster_version k need.call) (long_disk r.setup r.events c.in-Some.migrator sims here need.disk c.from-at.result c.index_mut.result.now c.from-at.ensures c.call-need.ensures.disk c.index_mut.ensures.value) c.call-need.ensures.range
 
 pub returns : goal.returns
 returns c s events leads =
     let need = c.call-need.result in
-    let call = device_call_of need.call in
+    let call = device_call_of cluster_version need.call in
     let given = c.args.given.now in
     let sims = c.args.self.now.disks.items in
     let n = c.in-Some.migrator in
@@ -60,7 +61,7 @@ returns c s events leads =
     let below = disk_below s events n sims here need.disk c.call-need.ensures.disk in
     let stood = disk_is s (run s events) sims need.disk c.from-at.result c.index_mut.result.now here.shows c.from-at.ensures below c.index_mut.ensures.value in
     let looked = disk_is s (run s events) sims need.disk c.from-at.result c.index.result.now here.shows c.from-at.ensures below c.index.ensures in
-    let due = due_next s events n sims here (call_of_need need) (c.call-need.ensures.next s) in
+    let due = due_next s events n sims here (call_of_need cluster_version need) (c.call-need.ensures.next s) in
     subst (λ (k : ℕ). LeadsTo s (events ++ FailCall given ∷ []) (Some c.hear.new.self) (set sims k c.spoil.new.disk)) (sym c.from-at.ensures)
     (fails_so s events n sims here need.disk call due below given (some_bytes given (sym c.is_empty.ensures ∙ c.if-is_empty.false)) (ap (λ (x : SimState). is_some (refusal_of x.disk call)) (sym looked) ∙ sym c.is_refused.ensures ∙ c.if-is_refused.false)
     c.spoil.new.disk (c.spoil.ensures ∙ ap (λ (x : SimState). record x { disk = failed_by x.disk call given }) stood) c.hear.new.self (c.hear.ensures.leads s here.comes.answers here.comes.leads))

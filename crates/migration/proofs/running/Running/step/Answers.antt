@@ -1,6 +1,7 @@
 use Rattle.std.proofs.Common.{ℕ, ◌∙◌, ◌++◌, ◌∷◌, [], Option, Some, sym, subst, ap}
 use Rattle.std.proofs.Math.ListN.{set}
 use Rattle.disk.specs.Simulated.{SimState, outcome}
+use Rattle.torn_block.specs.Layout.{cluster_version}
 use Rattle.phases.specs.Calls.{device_call_of, call_of_need, IsWithin}
 use Rattle.migration.specs.Events.{Step, run}
 use Rattle.migration.specs.Kept.{device_answer}
@@ -27,18 +28,18 @@ answer_of-heard-requires c =
     let sims = c.args.self.now.disks.items in
     let r = c.requires in
     let here = subst (λ (m : Option Notes). LeadsTo r.setup r.events m sims) c.in-Some.is r.leads in
-    subst (λ (k : ℕ). IsWithin k need.call) (long_disk r.setup r.events c.in-Some.migrator sims here need.disk c.from.result c.index_mut.result.now c.from.ensures c.call-need.ensures.disk c.index_mut.ensures.value) c.call-need.ensures.range
+    subst (λ (k : ℕ). IsWithin cluster_version k need.call) (long_disk r.setup r.events c.in-Some.migrator sims here need.disk c.from.result c.index_mut.result.now c.from.ensures c.call-need.ensures.disk c.index_mut.ensures.value) c.call-need.ensures.range
 
 pub returns : goal.returns
 returns c s events leads =
     let need = c.call-need.result in
-    let call = device_call_of need.call in
+    let call = device_call_of cluster_version need.call in
     let sims = c.args.self.now.disks.items in
     let n = c.in-Some.migrator in
     let here = subst (λ (m : Option Notes). LeadsTo s events m sims) c.in-Some.is leads in
     let below = disk_below s events n sims here need.disk c.call-need.ensures.disk in
     let stood = disk_is s (run s events) sims need.disk c.from.result c.index_mut.result.now here.shows c.from.ensures below c.index_mut.ensures.value in
-    let due = due_next s events n sims here (call_of_need need) (c.call-need.ensures.next s) in
+    let due = due_next s events n sims here (call_of_need cluster_version need) (c.call-need.ensures.next s) in
     subst (λ (k : ℕ). LeadsTo s (events ++ Step ∷ []) (Some c.hear.new.self) (set sims k c.answer_of-heard.new.disk)) (sym c.from.ensures)
     (steps s events n sims here need.disk call due below c.answer_of-heard.new.disk (device_answer c.answer_of-heard.result) (c.answer_of-heard.ensures.gave ∙ ap (λ (x : SimState). outcome x call) stood) c.hear.new.self
     (c.hear.ensures.leads s here.comes.answers here.comes.leads))

@@ -3,8 +3,8 @@ use Rattle.std.specs.Option.{option_map, option_or}
 use Rattle.torn_block.specs.declared.layout.TheConstants.{HOSTS_ROOM}
 use Rattle.torn_block.specs.Layout.{hosts_in}
 use Rattle.torn_block.proofs.LayoutLaws.{few_hosts}
-use Rattle.paxos_block.specs.layouts.Saying.{said_as}
-use Rattle.paxos_block.specs.layouts.Votes.{says_in, marked, marked_below}
+use Rattle.paxos_block.specs.Saying.{said_as}
+use Rattle.paxos_block.specs.Votes.{says_in, marked, marked_below}
 use Rattle.paxos_block.proofs.VoteLemmas.{first_marked, marked_next, marked_rest, says_rest}
 use Rattle.paxos_block.proofs.row.Row.marked.Goals as goal
 

@@ -1,7 +1,7 @@
 use Rattle.std.proofs.Common.{◌≡◌, ℕ, List, None}
 use Rattle.torn_block.specs.Layout.{Version}
-use Rattle.paxos_block.specs.layouts.Row.{DecodedBlock, AreSeenAs}
-use Rattle.paxos_block.specs.layouts.Votes.{marked_below}
+use Rattle.paxos_block.specs.Row.{DecodedBlock, AreSeenAs}
+use Rattle.paxos_block.specs.Votes.{marked_below}
 use Rattle.paxos_block.proofs.row.Row.marked.Given as goal
 
 -- none of those passed is marked

@@ -1,9 +1,9 @@
 use Rattle.std.proofs.Common.{◌≡◌, ◌<◌, ◌≤◌, ◌+◌, ◌∙◌, ℕ, List, false, refl, sym, subst, ap, ap₂, length, slice_set, arith}
 use Rattle.torn_block.specs.declared.layout.TheConstants.{LAST_SEQUENCE}
 use Rattle.torn_block.specs.Layout.{Version}
-use Rattle.torn_block.specs.layouts.Block.{next_number}
-use Rattle.torn_block.specs.layouts.Plan.{Plan, plan_by, told_number}
-use Rattle.paxos_block.specs.layouts.Saying.{body_saying}
+use Rattle.torn_block.specs.Block.{next_number}
+use Rattle.torn_block.specs.Plan.{Plan, plan_by, told_number}
+use Rattle.paxos_block.specs.Saying.{body_saying}
 use Rattle.phases.specs.declared.phase.Stage.TheVariants as stage
 use Rattle.phases.specs.declared.visit.Visit.{Visit}
 use Rattle.phases.specs.Moves.{IsPassed, IsBegun}

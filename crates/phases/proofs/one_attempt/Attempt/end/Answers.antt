@@ -1,5 +1,5 @@
 use Rattle.std.proofs.Common.{◌∙◌, ap}
-use Rattle.phases.specs.layouts.Calls.{end_in}
+use Rattle.phases.specs.Calls.{end_in}
 use Rattle.phases.specs.Notes.{Notes}
 use Rattle.phases.proofs.Calling.{ends_as}
 use Rattle.phases.proofs.one_attempt.Attempt.end.Goals as goal

@@ -1,16 +1,16 @@
 use Rattle.std.proofs.Common.{◌++◌, ◌∷◌, []}
 use Rattle.attempt.proofs.Ends.{bound, served}
-use Rattle.phases.specs.layouts.Calls.{heard_of}
+use Rattle.phases.specs.Calls.{heard_as}
 use Rattle.phases.specs.Kept.{answer_of}
 use Rattle.phases.proofs.Calling.{leads_on}
 use Rattle.phases.proofs.one_attempt.Attempt.hear.Goals as goal
 
 pub returns-clause-leads : goal.returns-clause-leads
 returns-clause-leads g c s answers leads =
-    leads_on s answers c.args.self.now leads c.requires.going (heard_of g.L.Layout.version g.L.Layout.row_bytes c.args.heard.now) c.take.new.self c.requires.fits c.take.ensures.of c.take.ensures.follows
+    leads_on s answers c.args.self.now leads c.requires.going (heard_as g.L.Layout.version g.L.Layout.row_bytes c.args.heard.now) c.take.new.self c.requires.fits c.take.ensures.of c.take.ensures.follows
 
 pub returns-clause-bound : goal.returns-clause-bound
-returns-clause-bound g c s answers leads = bound s (answers ++ answer_of c.args.self.now (heard_of g.L.Layout.version g.L.Layout.row_bytes c.args.heard.now) ∷ []) (returns-clause-leads g c s answers leads).history
+returns-clause-bound g c s answers leads = bound s (answers ++ answer_of c.args.self.now (heard_as g.L.Layout.version g.L.Layout.row_bytes c.args.heard.now) ∷ []) (returns-clause-leads g c s answers leads).history
 
 pub returns-clause-alone : goal.returns-clause-alone
-returns-clause-alone g c s answers leads = served s (answers ++ answer_of c.args.self.now (heard_of g.L.Layout.version g.L.Layout.row_bytes c.args.heard.now) ∷ []) (returns-clause-leads g c s answers leads).history
+returns-clause-alone g c s answers leads = served s (answers ++ answer_of c.args.self.now (heard_as g.L.Layout.version g.L.Layout.row_bytes c.args.heard.now) ∷ []) (returns-clause-leads g c s answers leads).history

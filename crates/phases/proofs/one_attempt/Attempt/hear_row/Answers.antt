@@ -1,6 +1,6 @@
 use Rattle.std.proofs.Common.{List, Option, refl, subst, ap}
-use Rattle.paxos_block.specs.layouts.Row.{DecodedBlock, decoded_row}
-use Rattle.paxos_block.specs.layouts.Saying.{said_as}
+use Rattle.paxos_block.specs.Row.{DecodedBlock, decoded_row}
+use Rattle.paxos_block.specs.Saying.{said_as}
 use Rattle.attempt.specs.Answers.{Told, is_bad}
 use Rattle.phases.specs.Moves.{ReadsGist}
 use Rattle.phases.specs.Notes.{Notes}

@@ -1,7 +1,7 @@
 use Rattle.std.proofs.Common.{◌<◌, ap, arith}
 use Rattle.std.specs.Option.{option_map}
 use Rattle.std.proofs.lemmas.List.{get_or-replicate}
-use Rattle.paxos_block.specs.layouts.Saying.{said_as}
+use Rattle.paxos_block.specs.Saying.{said_as}
 use Rattle.phases.specs.declared.visit.TheConstants.{UNSEEN}
 use Rattle.phases.specs.Notes.{no_visit}
 use Rattle.phases.proofs.Starting.{starts_with}

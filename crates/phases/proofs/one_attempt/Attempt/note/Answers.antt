@@ -1,7 +1,7 @@
 use Rattle.std.proofs.Common.{◌≡◌, ◌∙◌, max, sym, ap, arith}
 use Rattle.std.specs.Option.{option_map, option_or}
-use Rattle.paxos_block.specs.layouts.Saying.{said_as}
-use Rattle.paxos_block.specs.layouts.Votes.{later_of, says_in}
+use Rattle.paxos_block.specs.Saying.{said_as}
+use Rattle.paxos_block.specs.Votes.{later_of, says_in}
 use Rattle.paxos_block.proofs.VoteLemmas.{or_mapped}
 use Rattle.phases.specs.Inside.{notes_in}
 use Rattle.phases.specs.Moves.{noted}

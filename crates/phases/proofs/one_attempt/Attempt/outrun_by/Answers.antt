@@ -1,5 +1,5 @@
 use Rattle.std.proofs.Common.{rules, ◌≢◌, ◌∙◌, sym, ap}
-use Rattle.paxos_block.specs.layouts.Votes.{highest_mbal_of_others}
+use Rattle.paxos_block.specs.Votes.{highest_mbal_of_others}
 use Rattle.phases.specs.declared.phase.Phase.TheVariants as phase
 use Rattle.phases.specs.Inside.{notes_in}
 use Rattle.phases.specs.Moves.{outruns}

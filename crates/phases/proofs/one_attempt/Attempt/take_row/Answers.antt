@@ -1,5 +1,5 @@
 use Rattle.std.proofs.Common.{◌≡◌, ◌+◌, ◌<◌, ◌∙◌, ℕ, Option, Some, List, length, slice_set, subst, sym, ap, arith}
-use Rattle.paxos_block.specs.layouts.Row.{DecodedBlock, seen_at, IsSeenAs}
+use Rattle.paxos_block.specs.Row.{DecodedBlock, seen_at, IsSeenAs}
 use Rattle.attempt.specs.Answers.{Told, more}
 use Rattle.phases.specs.declared.end.End.TheVariants as end
 use Rattle.phases.specs.Inside.{notes_in}

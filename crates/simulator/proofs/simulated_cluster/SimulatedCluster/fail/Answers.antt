@@ -9,6 +9,7 @@ use Rattle.simulator.proofs.Owed.{kept_in, Due}
 use Rattle.disk.specs.Disk.{Fault}
 use Rattle.disk.specs.declared.fault.DiskFault.TheVariants.{Failed}
 use Rattle.disk.specs.Simulated.{SimState}
+use Rattle.torn_block.specs.Layout.{cluster_version}
 use Rattle.phases.specs.Calls.{device_call_of, IsWithin}
 use Rattle.world.specs.Entry.{Filled, called_by}
 use Rattle.world.specs.Happens.{spread_over}
@@ -50,7 +51,7 @@ returns-then-is_some c =
 
 pub spoil-requires-clause-range : goal.spoil-requires-clause-range
 spoil-requires-clause-range c =
-    subst (λ (s : SimState). IsWithin (length s.disk.bytes) c.call-need.result.call) (sym c.refusal_of.ensures.same)
+    subst (λ (s : SimState). IsWithin cluster_version (length s.disk.bytes) c.call-need.result.call) (sym c.refusal_of.ensures.same)
     (owed.is_within _ _ (due (goal.at.spoil-requires-clause-range c).After-index_mut-disk) c.self.invariant c.call-need.ensures.range)
 
 -- what the call brings
@@ -66,7 +67,7 @@ module _ (c : goal.After-self-3-1) where
 
   brings : (log : List Filled) → LeadsTo log old → Brings log event old new c.answer_of.result
   brings =
-      let call = device_call_of c.call-need.result.call in
+      let call = device_call_of cluster_version c.call-need.result.call in
       let clear = sym c.refusal_of.ensures.refusal ∙ owed.none_of c.refusal_of.result (sym c.is_some.ensures ∙ c.if-is_some.false) in
       let left = c.spoil.ensures.disk ∙ ap (λ (s : SimState). record s { disk = called_by s.disk call (Fault Failed) (spread_over call c.args.given.now) }) c.refusal_of.ensures.same in
       let as_long = c.spoil.ensures.size ∙ ap (λ (s : SimState). length s.disk.bytes) c.refusal_of.ensures.same in

@@ -1,5 +1,5 @@
-use Rattle.phases.specs.layouts.Calls.{call_of_need}
-use Rattle.slot_log.specs.layouts.Kept.{kept_of, Kept}
+use Rattle.phases.specs.Calls.{call_of_need}
+use Rattle.slot_log.specs.Kept.{kept_of, Kept}
 use Rattle.slot_log.proofs.Learners.{call_next}
 use Rattle.slot_log.proofs.learner.Learner.call.Goals as goal
 

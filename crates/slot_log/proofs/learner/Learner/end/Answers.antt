@@ -1,7 +1,7 @@
 use Rattle.std.proofs.Common.{◌∙◌, ap}
-use Rattle.phases.specs.layouts.Calls.{end_as}
-use Rattle.slot_log.specs.layouts.Learning.{with_floor}
-use Rattle.slot_log.specs.layouts.Kept.{task_as, Kept, is_idle}
+use Rattle.phases.specs.Calls.{end_as}
+use Rattle.slot_log.specs.Learning.{with_floor}
+use Rattle.slot_log.specs.Kept.{task_as, Kept, is_idle}
 use Rattle.slot_log.proofs.Learners.{counted, outrun}
 use Rattle.slot_log.proofs.learner.Learner.end.Goals as goal
 

@@ -2,11 +2,11 @@ use Rattle.std.proofs.Common.{Option, Some, None, [], ◌∷◌, ◌++◌, sym, 
 use Rattle.std.specs.Option.{option_map}
 use Rattle.slot_log.specs.declared.operation.LogTask as code_task
 use Rattle.attempt.specs.Answers.{Answered}
-use Rattle.phases.specs.layouts.Calls.{heard_of, end_as, end_in}
+use Rattle.phases.specs.Calls.{heard_as, end_as, end_in}
 use Rattle.phases.specs.declared.end.End as code_end
 use Rattle.phases.specs.declared.end.End.TheVariants as end
-use Rattle.slot_log.specs.layouts.Learning.{Memory, setup_of, hears}
-use Rattle.slot_log.specs.layouts.Kept.{kept_of, task_as, Kept, LeadsTo, IsOver, is_idle, is_idle_with}
+use Rattle.slot_log.specs.Learning.{Memory, setup_of, hears}
+use Rattle.slot_log.specs.Kept.{kept_of, task_as, Kept, LeadsTo, IsOver, is_idle, is_idle_with}
 use Rattle.slot_log.proofs.Learners.{Says, Goes, waits_on, task_is, counted, hears_end, alone, over}
 use Rattle.slot_log.proofs.learner.Learner.hear.Goals as goal
 
@@ -18,7 +18,7 @@ returns-in-Some-take-clause-leads g c c' h m leads =
     let k : Kept = kept_of spelled s.host s.config s.learned.items s.floor s.task s.attempt s.said in
     let task = task_as spelled c.in-Some-take.task in
     let e = end_as spelled c.in-Some.end in
-    let answer = heard_of v g.L.Layout.row_bytes c.args.heard.now in
+    let answer = heard_as v g.L.Layout.row_bytes c.args.heard.now in
     let x : Answered = record { disk = s.attempt.disk; heard = answer } in
     let Known : Kept → Type 0 = λ j. LeadsTo v c' h m j in
     let leads' : LeadsTo v c' h m k = subst Known (sym c.self.view_is) leads in
@@ -49,9 +49,9 @@ returns-in-Some-take-clause-alone g c c' h m leads =
     let spelled = g.L.Layout.spelled in
     let s = c.self.inside in
     let k : Kept = kept_of spelled s.host s.config s.learned.items s.floor s.task s.attempt s.said in
-    let said : Says s.attempt (record { disk = s.attempt.disk; heard = heard_of v g.L.Layout.row_bytes c.args.heard.now }) =
+    let said : Says s.attempt (record { disk = s.attempt.disk; heard = heard_as v g.L.Layout.row_bytes c.args.heard.now }) =
     record { bound = c.hear.ensures.bound; alone = c.hear.ensures.alone } in
-    alone v c' h m k c.args.self.now (heard_of v g.L.Layout.row_bytes c.args.heard.now) c.self.view_is leads said
+    alone v c' h m k c.args.self.now (heard_as v g.L.Layout.row_bytes c.args.heard.now) c.self.view_is leads said
 
 pub returns-in_default-clause-alone : goal.returns-in_default-clause-alone
 returns-in_default-clause-alone g c c' h m leads =
@@ -59,9 +59,9 @@ returns-in_default-clause-alone g c c' h m leads =
     let spelled = g.L.Layout.spelled in
     let s = c.self.inside in
     let k : Kept = kept_of spelled s.host s.config s.learned.items s.floor s.task s.attempt s.said in
-    let said : Says s.attempt (record { disk = s.attempt.disk; heard = heard_of v g.L.Layout.row_bytes c.args.heard.now }) =
+    let said : Says s.attempt (record { disk = s.attempt.disk; heard = heard_as v g.L.Layout.row_bytes c.args.heard.now }) =
     record { bound = c.hear.ensures.bound; alone = c.hear.ensures.alone } in
-    alone v c' h m k c.args.self.now (heard_of v g.L.Layout.row_bytes c.args.heard.now) c.self.view_is leads said
+    alone v c' h m k c.args.self.now (heard_as v g.L.Layout.row_bytes c.args.heard.now) c.self.view_is leads said
 
 pub returns-in-Committed-clause-alone : goal.returns-in-Committed-clause-alone
 returns-in-Committed-clause-alone g c c' h m leads =
@@ -69,9 +69,9 @@ returns-in-Committed-clause-alone g c c' h m leads =
     let spelled = g.L.Layout.spelled in
     let s = c.self.inside in
     let k : Kept = kept_of spelled s.host s.config s.learned.items s.floor s.task s.attempt s.said in
-    let said : Says s.attempt (record { disk = s.attempt.disk; heard = heard_of v g.L.Layout.row_bytes c.args.heard.now }) =
+    let said : Says s.attempt (record { disk = s.attempt.disk; heard = heard_as v g.L.Layout.row_bytes c.args.heard.now }) =
     record { bound = c.hear.ensures.bound; alone = c.hear.ensures.alone } in
-    alone v c' h m k c.args.self.now (heard_of v g.L.Layout.row_bytes c.args.heard.now) c.self.view_is leads said
+    alone v c' h m k c.args.self.now (heard_as v g.L.Layout.row_bytes c.args.heard.now) c.self.view_is leads said
 
 pub returns-in-Decided-clause-alone : goal.returns-in-Decided-clause-alone
 returns-in-Decided-clause-alone g c c' h m leads =
@@ -79,9 +79,9 @@ returns-in-Decided-clause-alone g c c' h m leads =
     let spelled = g.L.Layout.spelled in
     let s = c.self.inside in
     let k : Kept = kept_of spelled s.host s.config s.learned.items s.floor s.task s.attempt s.said in
-    let said : Says s.attempt (record { disk = s.attempt.disk; heard = heard_of v g.L.Layout.row_bytes c.args.heard.now }) =
+    let said : Says s.attempt (record { disk = s.attempt.disk; heard = heard_as v g.L.Layout.row_bytes c.args.heard.now }) =
     record { bound = c.hear.ensures.bound; alone = c.hear.ensures.alone } in
-    alone v c' h m k c.args.self.now (heard_of v g.L.Layout.row_bytes c.args.heard.now) c.self.view_is leads said
+    alone v c' h m k c.args.self.now (heard_as v g.L.Layout.row_bytes c.args.heard.now) c.self.view_is leads said
 
 pub returns-in_default-clause-leads : goal.returns-in_default-clause-leads
 returns-in_default-clause-leads g c c' h m leads =
@@ -89,7 +89,7 @@ returns-in_default-clause-leads g c c' h m leads =
     let spelled = g.L.Layout.spelled in
     let s = c.self.inside in
     let k : Kept = kept_of spelled s.host s.config s.learned.items s.floor s.task s.attempt s.said in
-    let x : Answered = record { disk = s.attempt.disk; heard = heard_of v g.L.Layout.row_bytes c.args.heard.now } in
+    let x : Answered = record { disk = s.attempt.disk; heard = heard_as v g.L.Layout.row_bytes c.args.heard.now } in
     let Known : Kept → Type 0 = λ j. LeadsTo v c' h m j in
     let goes : Goes s.attempt c.hear.new.self x None = record { leads = c.hear.ensures.leads; end_is = c.in_default.ensures.end; on = tt } in
     let By : Kept → Type 0 = λ j. LeadsTo v c' h (hears v c' h m m.doing (record { disk = j.attempt.disk; heard = x.heard })) (kept_of spelled s.host s.config s.learned.items s.floor s.task c.hear.new.self None) in
@@ -102,7 +102,7 @@ returns-in-Committed-clause-leads g c c' h m leads =
     let spelled = g.L.Layout.spelled in
     let s = c.self.inside in
     let k : Kept = kept_of spelled s.host s.config s.learned.items s.floor s.task s.attempt s.said in
-    let x : Answered = record { disk = s.attempt.disk; heard = heard_of v g.L.Layout.row_bytes c.args.heard.now } in
+    let x : Answered = record { disk = s.attempt.disk; heard = heard_as v g.L.Layout.row_bytes c.args.heard.now } in
     let Known : Kept → Type 0 = λ j. LeadsTo v c' h m j in
     let goes : Goes s.attempt c.hear.new.self x (Some (end.Committed (spelled c.in-Committed.field-0))) = record { leads = c.hear.ensures.leads; end_is = λ s' answers known. sym (ap (λ (e : code_end.End g.row.L-Value.Denot). end_in (Some (end_as spelled e))) c.in-Committed.is) ∙ c.in-Some.ensures.end s' answers known; on = tt } in
     let By : Kept → Type 0 = λ j. LeadsTo v c' h (hears v c' h m m.doing (record { disk = j.attempt.disk; heard = x.heard })) (kept_of spelled s.host s.config s.learned.items s.floor s.task c.hear.new.self None) in
@@ -115,7 +115,7 @@ returns-in-Decided-clause-leads g c c' h m leads =
     let spelled = g.L.Layout.spelled in
     let s = c.self.inside in
     let k : Kept = kept_of spelled s.host s.config s.learned.items s.floor s.task s.attempt s.said in
-    let x : Answered = record { disk = s.attempt.disk; heard = heard_of v g.L.Layout.row_bytes c.args.heard.now } in
+    let x : Answered = record { disk = s.attempt.disk; heard = heard_as v g.L.Layout.row_bytes c.args.heard.now } in
     let Known : Kept → Type 0 = λ j. LeadsTo v c' h m j in
     let goes : Goes s.attempt c.hear.new.self x (Some (end.Decided (spelled c.in-Decided.field-0))) = record { leads = c.hear.ensures.leads; end_is = λ s' answers known. sym (ap (λ (e : code_end.End g.row.L-Value.Denot). end_in (Some (end_as spelled e))) c.in-Decided.is) ∙ c.in-Some.ensures.end s' answers known; on = tt } in
     let By : Kept → Type 0 = λ j. LeadsTo v c' h (hears v c' h m m.doing (record { disk = j.attempt.disk; heard = x.heard })) (kept_of spelled s.host s.config s.learned.items s.floor s.task c.hear.new.self None) in

@@ -1,6 +1,6 @@
 use Rattle.std.proofs.Common.{ℕ, List, [], ◌∷◌, ◌++◌, sym, ◌∙◌, ap, subst}
-use Rattle.slot_log.specs.layouts.Learning.{Memory, learns}
-use Rattle.slot_log.specs.layouts.Kept.{task_as, Kept, LeadsTo, is_idle}
+use Rattle.slot_log.specs.Learning.{Memory, learns}
+use Rattle.slot_log.specs.Kept.{task_as, Kept, LeadsTo, is_idle}
 use Rattle.slot_log.proofs.Learners.{idle_doing, other_learned}
 use Rattle.slot_log.proofs.learner.Learner.learn.Goals as goal
 

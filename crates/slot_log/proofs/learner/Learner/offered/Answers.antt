@@ -1,7 +1,7 @@
 use Rattle.std.proofs.Common.{not, ap, ◌∙◌}
 use Rattle.std.specs.Option.{option_map}
-use Rattle.phases.specs.layouts.Calls.{end_as}
-use Rattle.slot_log.specs.layouts.Kept.{kept_of, task_as, Kept}
+use Rattle.phases.specs.Calls.{end_as}
+use Rattle.slot_log.specs.Kept.{kept_of, task_as, Kept}
 use Rattle.slot_log.proofs.Learners.{offered_is, some_mapped}
 use Rattle.slot_log.proofs.learner.Learner.offered.Goals as goal
 

@@ -1,8 +1,8 @@
 use Rattle.std.proofs.Common.{Option, sym, ◌∙◌, ap, subst}
 use Rattle.std.specs.Option.{option_map}
 use Rattle.slot_log.specs.declared.operation.LogTask as code_task
-use Rattle.slot_log.specs.layouts.Learning.{Memory, setup_of, takes}
-use Rattle.slot_log.specs.layouts.Kept.{kept_of, task_as, Kept, LeadsTo, is_idle, is_idle_with}
+use Rattle.slot_log.specs.Learning.{Memory, setup_of, takes}
+use Rattle.slot_log.specs.Kept.{kept_of, task_as, Kept, LeadsTo, is_idle, is_idle_with}
 use Rattle.slot_log.proofs.Learners.{task_is, counted, finished, refuses_value, takes_value}
 use Rattle.slot_log.proofs.learner.Learner.take.Goals as goal
 

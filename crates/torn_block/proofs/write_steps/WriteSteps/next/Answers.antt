@@ -1,5 +1,5 @@
 use Rattle.std.proofs.Common.{◌≡◌, ◌∙◌, refl, sym, ap}
-use Rattle.torn_block.specs.layouts.Place.{offset_by}
+use Rattle.torn_block.specs.Place.{offset_by}
 use Rattle.torn_block.proofs.write_steps.WriteSteps.next.Goals as goal
 use Rattle.torn_block.proofs.write_steps.WriteSteps.next.Goals.{in-First, in-Second}
 

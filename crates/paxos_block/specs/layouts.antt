@@ -1,7 +1,0 @@
-pub mod Ballot
-pub mod Gist
-pub mod Headers
-pub mod Places
-pub mod Row
-pub mod Saying
-pub mod Votes
