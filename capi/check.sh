@@ -485,7 +485,7 @@ fi
 # How much C no proof covers: the lines that are neither blank nor comment.
 lines=0
 for part in midgegalena mg_session device; do lines=$((lines + $(awk -f "$here/tests/lines.awk" "$here/src/$part.c"))); done
-for page in README.md capi/README.md; do tried "lines of C in $page" grep -q "\b$lines lines of C" "$top/$page"; done
+tried "lines of C in capi/README.md" grep -q "\b$lines lines of C" "$top/capi/README.md"
 
 # Memory.
 if command -v valgrind > /dev/null; then

@@ -3,7 +3,8 @@ use Rattle.torn_block.specs.Layout.{cluster_version}
 use Rattle.phases.specs.Calls.{call_of_need}
 use Rattle.phases.specs.declared.heard.Heard.TheVariants as answer
 use Rattle.host.specs.Kept.{values_with}
-use Rattle.host.proofs.Hosts.{attempt_next, beat_next, known, look_next, marking_next}
+use Rattle.host.proofs.UnderWay.{beat_next, known, look_next, marking_next}
+use Rattle.host.proofs.Hosts.{attempt_next}
 use Rattle.host.proofs.host_core.HostCore.call.Goals as goal
 
 pub returns-in-Nothing-clause-next : goal.returns-in-Nothing-clause-next

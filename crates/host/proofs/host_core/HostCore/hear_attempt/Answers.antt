@@ -10,7 +10,8 @@ use Rattle.slot_log.specs.Learning as log
 use Rattle.slot_log.specs.declared.outcome.LogOutcome.{LogOutcome}
 use Rattle.host.specs.Host.{hears, reply_after}
 use Rattle.host.specs.Kept.{Kept, values_with, answer_of, option_list}
-use Rattle.host.proofs.Hosts.{Carries, attempt_alone, attempt_doing, attempt_few, attempt_hears, attempt_stays, follows, heard_none, heard_value, known, operating-hears}
+use Rattle.host.proofs.UnderWay.{attempt_alone, attempt_doing, attempt_few, attempt_hears, attempt_stays, known}
+use Rattle.host.proofs.Hosts.{Carries, follows, heard_none, heard_value, operating-hears}
 use Rattle.host.proofs.host_core.HostCore.hear_attempt.Goals as goal
 
 pub returns-in_default-clause-leads : goal.returns-in_default-clause-leads

@@ -1,5 +1,5 @@
 use Rattle.std.proofs.Common.{◌∙◌, Some, ap}
-use Rattle.host.proofs.Hosts.{beat_alone, beat_ends, beat_fails, beat_few, beat_goes}
+use Rattle.host.proofs.UnderWay.{beat_alone, beat_ends, beat_fails, beat_few, beat_goes}
 use Rattle.host.proofs.host_core.HostCore.hear_beat.Goals as goal
 
 pub returns-in-None-clause-leads : goal.returns-in-None-clause-leads

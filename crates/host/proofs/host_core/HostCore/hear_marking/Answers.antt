@@ -1,5 +1,5 @@
 use Rattle.std.proofs.Common.{◌∙◌, Some, ap}
-use Rattle.host.proofs.Hosts.{marking_alone, marking_ends, marking_fails, marking_few, marking_goes}
+use Rattle.host.proofs.UnderWay.{marking_alone, marking_ends, marking_fails, marking_few, marking_goes}
 use Rattle.host.proofs.host_core.HostCore.hear_marking.Goals as goal
 
 pub returns-in-None-clause-leads : goal.returns-in-None-clause-leads

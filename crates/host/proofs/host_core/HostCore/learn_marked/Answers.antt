@@ -3,7 +3,8 @@ use Rattle.lock_command.specs.declared.command.Command.{Command}
 use Rattle.lock_command.specs.Reading.{decoded}
 use Rattle.host.specs.Host.{takes_marked}
 use Rattle.host.specs.Kept.{Kept, LeadsTo, is_idle, values_with}
-use Rattle.host.proofs.Hosts.{kept_in, decoded_spelled, with_command, learned_then}
+use Rattle.host.proofs.UnderWay.{with_command, learned_then}
+use Rattle.host.proofs.Hosts.{kept_in, decoded_spelled}
 use Rattle.host.proofs.host_core.HostCore.learn_marked.Goals as goal
 
 pub returns-clause-leads : goal.returns-clause-leads

@@ -6,7 +6,8 @@ use Rattle.looks.specs.Status as look
 use Rattle.slot_log.specs.Shape.{Shape}
 use Rattle.host.specs.Host.{look_of}
 use Rattle.host.specs.Kept.{is_idle}
-use Rattle.host.proofs.Hosts.{begins_look, kept_in, known, looked_all}
+use Rattle.host.proofs.UnderWay.{begins_look, known, looked_all}
+use Rattle.host.proofs.Hosts.{kept_in}
 use Rattle.host.proofs.host_core.HostCore.look_on.Goals as goal
 
 pub returns-then-slot-slots-clause-leads : goal.returns-then-slot-slots-clause-leads

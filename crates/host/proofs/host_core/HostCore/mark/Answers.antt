@@ -3,7 +3,8 @@ use Rattle.std.proofs.lemmas.Bool.{ltb-true, ltb-false}
 use Rattle.std.proofs.lemmas.List.{map-id}
 use Rattle.slot_log.specs.Shape.{Shape}
 use Rattle.host.specs.Kept.{is_idle}
-use Rattle.host.proofs.Hosts.{begins_marking, kept_in, known, refuses_marking}
+use Rattle.host.proofs.UnderWay.{begins_marking, known, refuses_marking}
+use Rattle.host.proofs.Hosts.{kept_in}
 use Rattle.host.proofs.host_core.HostCore.mark.Goals as goal
 
 pub returns-in-Some : goal.returns-in-Some

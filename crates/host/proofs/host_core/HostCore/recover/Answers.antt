@@ -2,7 +2,8 @@ use Rattle.std.proofs.Common.{Option, None, sym, ◌∙◌, ap}
 use Rattle.slot_log.specs.declared.outcome.LogOutcome.{LogOutcome}
 use Rattle.host.specs.Host.{Recovering, goes_on}
 use Rattle.host.specs.Kept.{values_with, answer_of, is_idle}
-use Rattle.host.proofs.Hosts.{carries-goes_on, follows, idles, kept_in, known, learned-goes_on, operating-goes_on, operating_alone, values_of-goes_on}
+use Rattle.host.proofs.UnderWay.{known}
+use Rattle.host.proofs.Hosts.{carries-goes_on, follows, idles, kept_in, learned-goes_on, operating-goes_on, operating_alone, values_of-goes_on}
 use Rattle.host.proofs.host_core.HostCore.recover.Goals as goal
 
 pub returns : goal.returns
