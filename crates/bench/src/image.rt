@@ -32,7 +32,7 @@ impl Image {
         requires { IsWithin cluster_version (Places.image_length cluster_version SLOTS) call.now }
         ensures { Fits (device_call_of cluster_version call.now) (heard_of cluster_version result) }
     {
-        answer_of(&mut self.disk, call, row)
+        answer_of::<ClusterLayout, _>(&mut self.disk, call, row)
     }
 }
 

@@ -8,7 +8,7 @@ ghost use Rattle.dlm_images.specs.Operations.{IsKnown, HasHeard};
 use disk::Disk;
 use host::HostCore;
 use phases::answer_of;
-use torn_block::{DISKS, ROW_LENGTH, SLOTS};
+use torn_block::{ClusterLayout, DISKS, ROW_LENGTH, SLOTS};
 
 /// No task makes more calls: each attempt of an operation makes 17 a disk at most, and learns a slot, or uses one of at most 255 tries,
 /// or is the last. A beat or a marking makes 9 a disk at most, and a look 2 a disk for each slot.
@@ -34,7 +34,11 @@ pub fn drive<D: Disk>(host: &mut HostCore, disks: &mut [D])
             return;
         }
         let need = host.call();
-        let heard = answer_of(&mut disks[usize::from(need.disk)], &need.call, &mut row);
+        let heard = answer_of::<ClusterLayout, _>(
+            &mut disks[usize::from(need.disk)],
+            &need.call,
+            &mut row,
+        );
         host.hear(&heard);
     }
 }

@@ -2,7 +2,6 @@
 //! today's layout its table is carried over.
 #![tactic(auto)]
 
-mod device;
 mod fault;
 mod fill;
 mod finishing;

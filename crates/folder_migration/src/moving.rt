@@ -7,7 +7,7 @@ use lock_command::Value;
 use migration::{End, Migrator};
 use phases::answer_of;
 use slot_log::Config;
-use torn_block::{DISKS, ROW_LENGTH, SLOTS};
+use torn_block::{ClusterLayout, DISKS, ROW_LENGTH, SLOTS};
 
 /// No migration makes more calls: six a disk, and one a disk for each slot of the log.
 const MOST_CALLS: u32 = (SLOTS + 6) * DISKS as u32 + 1;
@@ -31,7 +31,11 @@ pub fn move_log<D: Disk>(config: Config, cluster: u64, log: Vec<Value>, disks: &
             return end;
         }
         let need = migrator.call();
-        let heard = answer_of(&mut disks[usize::from(need.disk)], &need.call, &mut row);
+        let heard = answer_of::<ClusterLayout, _>(
+            &mut disks[usize::from(need.disk)],
+            &need.call,
+            &mut row,
+        );
         migrator.hear(&heard);
     }
     unreachable!()

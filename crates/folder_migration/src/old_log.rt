@@ -7,16 +7,19 @@ ghost use Rattle.slot_log.specs.declared.operation.Operation.TheVariants.{Recove
 ghost use Rattle.folder_migration.specs.declared.old_log.TheConstants.{TRIES};
 ghost use Rattle.folder_migration.specs.Recovery.{AreLarge, HasEnded, MakesOne, JudgesOne, RecoversTo, IsRefused};
 
-use crate::device::{OLD_ROW, answer_of};
 use crate::fault::MoveFault;
 use disk::Disk;
 use lock_command::{OldValue, Value, decode_old, upgrade};
+use phases::answer_of;
 use slot_log::{Config, Learner, LogOutcome};
 use std::alloc::Global;
-use torn_block::{DISKS, Layout1, SLOTS};
+use torn_block::{DISKS, Layout, Layout1, SLOTS};
 
 /// How often the recovery may be outrun.
 pub const TRIES: u8 = 8;
+
+// The bytes of a row.
+const ROW: usize = 2 * Layout1::HOSTS * Layout1::COPY_LENGTH;
 
 /// No recovery has more steps: each of its attempts makes 17 calls a disk at most, and then a value that it found may be judged.
 /// Each attempt learns a slot, or uses one of the tries, or is the last.
@@ -56,7 +59,7 @@ fn drive<D: Disk>(learner: &mut Learner<Layout1>, log: &mut Vec<Value>, disks: &
     ensures ended { HasEnded D.gives learner.old.shape disks.old disks.new learner.new.learned log.new.items learner.new.said }
     ensures fits { length log.new.items ≤ learner.old.shape.slots }
 {
-    let mut row = [0; OLD_ROW];
+    let mut row = [0; ROW];
     for _done in 0..MOST_STEPS {
         if learner.idle() {
             return;
@@ -69,7 +72,7 @@ fn drive<D: Disk>(learner: &mut Learner<Layout1>, log: &mut Vec<Value>, disks: &
 }
 
 /// Makes the call that is due.
-fn call<D: Disk>(learner: &mut Learner<Layout1>, disks: &mut [D], row: &mut [u8; OLD_ROW])
+fn call<D: Disk>(learner: &mut Learner<Layout1>, disks: &mut [D], row: &mut [u8; ROW])
     requires busy { is_idle learner.old ≡ false }
     requires judged { offered_of learner.old ≡ None }
     requires as_many { length disks.old ≡ learner.old.shape.disks }
@@ -79,7 +82,7 @@ fn call<D: Disk>(learner: &mut Learner<Layout1>, disks: &mut [D], row: &mut [u8;
     ensures large { AreLarge D.device learner.old.shape.slots disks.new }
 {
     let need = learner.call();
-    let heard = answer_of(&mut disks[usize::from(need.disk)], &need.call, row);
+    let heard = answer_of::<Layout1, _>(&mut disks[usize::from(need.disk)], &need.call, row);
     learner.hear(&heard);
 }
 

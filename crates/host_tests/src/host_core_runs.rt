@@ -15,7 +15,7 @@ use slot_log::{Config, Refusal};
 use std::alloc::{AllocError, Global};
 use std::process::Abort;
 use std::test::Fail;
-use torn_block::ROW_LENGTH;
+use torn_block::{ClusterLayout, ROW_LENGTH};
 
 /// What is done or seen next. Hosts that run are counted in the order of their starts, from 0; disks by number.
 #[derive(Clone, Copy)]
@@ -143,7 +143,7 @@ fn answer<'a>(disk: &mut SimDisk, call: &DeviceCall<'_>, row: &'a mut [u8; ROW_L
     if !is_within(disk.size(), call) {
         return Heard::Fault(DiskFault::Failed);
     }
-    answer_of(disk, call, row)
+    answer_of::<ClusterLayout, _>(disk, call, row)
 }
 
 // Makes so many calls, or fewer where the operation ends, and counts them.

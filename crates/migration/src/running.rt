@@ -17,7 +17,7 @@ use paxos_block::Value;
 use phases::{Heard, answer_of};
 use slot_log::Config;
 use std::alloc::Global;
-use torn_block::ROW_LENGTH;
+use torn_block::{ClusterLayout, ROW_LENGTH};
 
 #[derive(Drop)]
 pub struct Running {
@@ -74,7 +74,7 @@ impl Running {
         let need = migrator.call();
         // It stays empty: no call of a migration reads.
         let mut row = [0; ROW_LENGTH];
-        let heard = answer_of(
+        let heard = answer_of::<ClusterLayout, _>(
             &mut self.disks[usize::from(need.disk)],
             &need.call,
             &mut row,

@@ -51,12 +51,16 @@ heard_as v bytes_of (answer.Fault fault) = Fault fault
 abbrev pub heard_of : Version → code_heard.Heard (List ℕ) → Heard
 heard_of v = heard_as v (λ row. row)
 
--- the answer of a device
+-- the answer of a device, which tells the bytes of a row
+abbrev pub answer_as : {R : Type 0} → (R → List ℕ) → code_heard.Heard R → device.Answer
+answer_as bytes_of (answer.Booted boot) = device.Booted boot.number
+answer_as bytes_of answer.Done = device.Done
+answer_as bytes_of (answer.Told row) = device.Told (bytes_of row.now)
+answer_as bytes_of (answer.Fault fault) = device.Fault fault
+
+-- the same of a row that is its bytes
 abbrev pub device_answer : code_heard.Heard (List ℕ) → device.Answer
-device_answer (answer.Booted boot) = device.Booted boot.number
-device_answer answer.Done = device.Done
-device_answer (answer.Told row) = device.Told row.now
-device_answer (answer.Fault fault) = device.Fault fault
+device_answer = answer_as (λ row. row)
 
 -- an end, with the bytes of its value
 abbrev pub Ending : Type 0

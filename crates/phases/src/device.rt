@@ -1,25 +1,24 @@
 ghost use Rattle.std.specs.Prelude.{◌≡◌, ◌+◌, ◌≤◌, ◌↔◌, IsTrue};
-ghost use Rattle.disk.specs.Disk.{done_answer};
-ghost use Rattle.attempt.specs.History.{Fits};
+ghost use Rattle.attempt.specs.Heard.{Fits};
 ghost use Rattle.torn_block.specs.Layout.{cluster_version};
-ghost use Rattle.phases.specs.Calls.{IsWithin, device_answer, device_call_of, heard_of};
+ghost use Rattle.phases.specs.Calls.{IsWithin, answer_as, device_call_of, heard_as};
 
 use crate::heard::Heard;
 use crate::need::DeviceCall;
-use disk::{Disk, DiskFault};
-use torn_block::ROW_LENGTH;
+use disk::Disk;
+use torn_block::{Layout, ROW_LENGTH};
 
-/// Makes a call on its disk, in the cluster's layout, and tells what the disk answered. A row that is read is in `row`.
+/// Makes a call on its disk, in a layout, and tells what the disk answered. A row that is read is in `row`.
 // Inlined: else the call and the answer would each be written to memory and read back.
 #[inline(always)]
-pub fn answer_of<'a, D: Disk>(
+pub fn answer_of<'a, L: Layout, D: Disk>(
     disk: &mut D,
     call: &DeviceCall<'_>,
-    row: &'a mut [u8; ROW_LENGTH],
-) -> Heard<'a>
-    requires { IsWithin cluster_version (D.device disk.old).size call.now }
-    ensures fits { Fits (device_call_of cluster_version call.now) (heard_of cluster_version result) }
-    ensures gave { D.gives disk.old (device_call_of cluster_version call.now) (device_answer result) disk.new }
+    row: &'a mut L::Row,
+) -> Heard<'a, L::Row>
+    requires { IsWithin L.version (D.device disk.old).size call.now }
+    ensures fits { Fits (device_call_of L.version call.now) (heard_as L.version L.row_bytes result) }
+    ensures gave { D.gives disk.old (device_call_of L.version call.now) (answer_as L.row_bytes result) disk.new }
     ensures device { D.device disk.new ≡ D.device disk.old }
 {
     match call {
@@ -27,22 +26,18 @@ pub fn answer_of<'a, D: Disk>(
             Ok(boot) => Heard::Booted(boot),
             Err(fault) => Heard::Fault(fault),
         },
-        DeviceCall::Sync { boot } => done(disk.sync(*boot)),
-        DeviceCall::Write { boot, at, bytes } => done(disk.write(*boot, *at, bytes)),
-        DeviceCall::Read { boot, at } => match disk.read(*boot, *at, row) {
+        DeviceCall::Sync { boot } => match disk.sync(*boot) {
+            Ok(()) => Heard::Done,
+            Err(fault) => Heard::Fault(fault),
+        },
+        DeviceCall::Write { boot, at, bytes } => match disk.write(*boot, *at, bytes) {
+            Ok(()) => Heard::Done,
+            Err(fault) => Heard::Fault(fault),
+        },
+        DeviceCall::Read { boot, at } => match L::read_row(disk, *boot, *at, row) {
             Ok(()) => Heard::Told(row),
             Err(fault) => Heard::Fault(fault),
         },
-    }
-}
-
-// What a write or a sync came to.
-fn done<'a>(answer: Result<(), DiskFault>) -> Heard<'a>
-    ensures { device_answer result ≡ done_answer answer }
-{
-    match answer {
-        Ok(()) => Heard::Done,
-        Err(fault) => Heard::Fault(fault),
     }
 }
 

@@ -11,7 +11,7 @@ ghost use Rattle.simulator.specs.Calls.{is_write, may_crash, crashed_if, lost_if
 
 use disk::{Disk, DiskFault, SimDisk};
 use phases::{DeviceCall, Heard, answer_of};
-use torn_block::ROW_LENGTH;
+use torn_block::{ClusterLayout, ROW_LENGTH};
 
 /// Makes a call on a disk.
 pub fn make<'a>(
@@ -28,7 +28,7 @@ pub fn make<'a>(
         record disk.old { disk = called_by disk.old.disk (device_call_of cluster_version call.now) (answer_of disk.old.disk (device_call_of cluster_version call.now)) [] } }
     ensures size { length disk.new.disk.bytes ≡ length disk.old.disk.bytes }
 {
-    answer_of(disk, call, row)
+    answer_of::<ClusterLayout, _>(disk, call, row)
 }
 
 /// Why a disk would refuse a call, if it would. An attach finds it out, which changes nothing.

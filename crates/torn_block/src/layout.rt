@@ -1,6 +1,9 @@
-ghost use Rattle.std.specs.Prelude.{◌≡◌, ◌==◌, ℕ, List, length, refl, bytes_eq};
+ghost use Rattle.std.specs.Prelude.{◌≡◌, ◌==◌, ◌+◌, ◌≤◌, ℕ, List, length, refl, bytes_eq};
 ghost use Rattle.std.specs.List.{list_all};
+ghost use Rattle.disk.specs.Disk.{Read, read_answer};
 ghost use Rattle.torn_block.specs.Layout.{Version, Version1, Version2, number_of, hosts_in, copy_length, value_length, row_length, padding, area_place};
+
+use disk::{Boot, Disk, DiskFault};
 
 /// A cluster has at most so many disks.
 pub const DISKS: u8 = 7;
@@ -99,6 +102,17 @@ pub trait Layout {
         ensures bytes { result.now ≡ row_bytes row.now }
         ensures long { length result.now ≡ row_length version };
 
+    /// Reads a row from `at` on. At `Err` its bytes are any.
+    fn read_row<D: Disk>(
+        disk: &mut D,
+        boot: Boot,
+        at: u64,
+        row: &mut Self::Row,
+    ) -> Result<(), DiskFault>
+        requires { at + row_length version ≤ (D.device disk.old).size }
+        ensures device { D.device disk.new ≡ D.device disk.old }
+        ensures gives { D.gives disk.old (Read boot.number at (row_length version)) (read_answer result (row_bytes row.new)) disk.new };
+
     /// The input that these bytes are.
     fn value_in(bytes: &[u8]) -> Self::Value
         requires { length bytes.now ≡ value_length version }
@@ -175,6 +189,16 @@ impl Layout for Layout1 {
         row
     }
 
+    #[inline(always)]
+    fn read_row<D: Disk>(
+        disk: &mut D,
+        boot: Boot,
+        at: u64,
+        row: &mut [u8; 1024],
+    ) -> Result<(), DiskFault> {
+        disk.read(boot, at, row)
+    }
+
     fn value_in(bytes: &[u8]) -> [u8; 32] {
         let mut value = [0; 32];
         value.copy_from_slice(bytes);
@@ -241,6 +265,16 @@ impl Layout for Layout2 {
 
     fn bytes_in(row: &[u8; 4096]) -> &[u8] {
         row
+    }
+
+    #[inline(always)]
+    fn read_row<D: Disk>(
+        disk: &mut D,
+        boot: Boot,
+        at: u64,
+        row: &mut [u8; 4096],
+    ) -> Result<(), DiskFault> {
+        disk.read(boot, at, row)
     }
 
     fn value_in(bytes: &[u8]) -> [u8; 48] {
