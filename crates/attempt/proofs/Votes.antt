@@ -14,7 +14,8 @@ use Rattle.paxos_block.specs.Saying.{Said, zeros, MaySay, heading, value_bytes, 
 use Rattle.paxos_block.specs.Ballot.{IsBallotOf}
 use Rattle.paxos_block.specs.Row.{IsSaid, DecodedBlock, seen_in, seen_at, decoded_row}
 use Rattle.paxos_block.specs.Votes.{says_in, later_of, latest_below}
-use Rattle.paxos_block.proofs.RowLemmas.{length-block_of, said_sees, said_is_said}
+use Rattle.torn_block.proofs.DamagedRows.{length-block_of}
+use Rattle.paxos_block.proofs.RowLemmas.{said_sees, said_is_said}
 use Rattle.paxos_block.proofs.SayingLemmas.{length-number, length-zeros, body_parts}
 use Rattle.paxos_block.proofs.VoteLemmas.{above, is_ballot, greatest_is_greatest, vote_at, vote_in, later_vote, may_promise, may_vote}
 use Rattle.attempt.specs.Calls.{Phase, Opening, One, Two, start, goal}

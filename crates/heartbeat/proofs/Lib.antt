@@ -1,4 +1,3 @@
 pub mod AreaLemmas
 pub mod BeatLaws
-pub mod DamageLemmas
 pub mod Hosts

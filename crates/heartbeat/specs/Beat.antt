@@ -1,10 +1,10 @@
 -- Of the headline. The copies of a heartbeat block, and the counters of an area.
 use Rattle.std.specs.Prelude.{◌≡◌, ◌==◌, ◌&&◌, ◌<◌, ◌-◌, ℕ, Bool, List, ◌∷◌, map, take, drop, slice_index, replicate, Option, Some, None, if◌then◌else◌}
-use Rattle.std.specs.List.{list_all, list_any, range_with_len}
+use Rattle.std.specs.List.{list_all}
 use Rattle.torn_block.specs.Layout.{cluster_version}
 use Rattle.torn_block.specs.declared.layout.TheConstants.{VERSION, HOSTS, BODY_LENGTH}
 use Rattle.torn_block.specs.Block.{sequence_of, tail_with, value_of}
-use Rattle.torn_block.specs.Damage.{IsSequence, IsSoundBlock, IsDamaged, block_of, first_of, second_of, is_sequence, is_damaged}
+use Rattle.torn_block.specs.Damage.{IsSequence, IsSoundBlock, IsDamaged, block_of, hosts, is_sequence, has_damage}
 
 -- the body of each beat: the version, and zeros
 unfoldable pub beat_body : List ℕ
@@ -43,17 +43,11 @@ all_zero bytes = list_all (λ b. b == 0) bytes
 abbrev pub is_beat : List ℕ → Bool
 is_beat copy = is_sequence (sequence_of copy) && (slice_index copy 1 == VERSION) && all_zero (take 6 (drop 2 copy)) && all_zero (drop 16 copy)
 
-abbrev pub is_damaged_block : List ℕ → Bool
-is_damaged_block block = is_damaged is_beat (first_of cluster_version block) (second_of cluster_version block)
-
 -- ---- an area as one function of its bytes
-
-abbrev pub hosts : List ℕ
-hosts = range_with_len 0 HOSTS
 
 -- the bytes of a sound area, or nothing where a block of it is damaged
 unfoldable pub area_said : List ℕ → Option (List ℕ)
-area_said area = if list_any (λ host. is_damaged_block (block_of cluster_version host area)) hosts then None else Some area
+area_said area = if has_damage (λ host. is_beat) area then None else Some area
 
 -- the counters of the hosts, by their numbers
 abbrev pub counters_in : List ℕ → List ℕ

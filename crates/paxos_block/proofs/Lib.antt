@@ -1,4 +1,3 @@
-pub mod DamageLemmas
 pub mod HeaderLemmas
 pub mod Outcomes
 pub mod PlaceLemmas

@@ -1,33 +1,31 @@
 -- The tests of a row decide when it is damaged.
-use Rattle.std.specs.Prelude.{◌≡◌, ◌≢◌, ◌&&◌, ◌||◌, ◌+◌, ◌-◌, ◌*◌, ◌≤◌, ◌<◌, ◌⊎◌, ℕ, Bool, true, false, not, nat_lt, List, [], ◌∷◌, length, drop, slice_index_or, Option, Some, None, unwrap_or}
-use Rattle.std.specs.List.{HoldsAt, list_any, range_with_len}
+use Rattle.std.specs.Prelude.{◌≡◌, ◌≢◌, ◌&&◌, ◌||◌, ◌-◌, ◌≤◌, ◌<◌, ◌⊎◌, ℕ, Bool, true, false, not, nat_lt, List, [], ◌∷◌, length, drop, slice_index_or, Option, Some, None, unwrap_or}
+use Rattle.std.specs.List.{HoldsAt}
 use Rattle.std.specs.Option.{IsSomeAnd}
-use Rattle.std.proofs.Common.{zero, suc, refl, sym, ap, ◌∙◌, subst, arith, inl, inr, length-drop}
+use Rattle.std.proofs.Common.{refl, sym, ap, ◌∙◌, subst, arith, inl, inr, length-drop}
 use Rattle.std.proofs.lemmas.List.{length-take-le, get_or_past}
-use Rattle.std.proofs.lemmas.List.FromFn.{length-range_with_len, get_or-range_with_len, get_or-map-range_with_len, length-map-range_with_len}
-use Rattle.std.proofs.lemmas.List.Folds.{list_any_at}
-use Rattle.std.proofs.lemmas.Bool.{cases_lt, and_parts, and_from, or_cases, or_parts, not-false, true≢false, cases_Bool, cond-true, cond-false, false_from_ne_true, both_ways}
+use Rattle.std.proofs.lemmas.List.FromFn.{get_or-map-range_with_len, length-map-range_with_len}
+use Rattle.std.proofs.lemmas.Bool.{cases_lt, and_parts, and_from, or_parts, not-false, true≢false, cases_Bool, cond-true, cond-false}
 use Rattle.torn_block.specs.declared.block.Half.{Half}
 use Rattle.torn_block.specs.declared.block.Half.TheVariants.{First, Second}
 use Rattle.torn_block.specs.declared.block.Block128.{Block128}
 use Rattle.torn_block.specs.Block.{is_open, sequence_of, body_of, tail_with, value_of, value_at, choice, copy_of, current_of, target_at, number_in}
-use Rattle.torn_block.specs.Damage.{IsSoundBlock, IsDamagedBlock, block_of, first_of, second_of, is_sequence, has_fault, has_twins}
-use Rattle.torn_block.proofs.DamageLaws.{is_sequence_tells, is_sequence_since, open_copy_spelled, long_body, damaged_tells, sound_block_tells, sound_is_not_damaged}
+use Rattle.torn_block.specs.Damage.{IsSoundBlock, block_of, first_of, second_of, is_sequence, has_fault, has_twins, is_damaged_block, has_damage}
+use Rattle.torn_block.proofs.DamageLaws.{Decides, is_sequence_tells, is_sequence_since, open_copy_spelled, long_body}
+use Rattle.torn_block.proofs.DamagedRows.{none_damaged, sound_has_none, damaged_has_some, has_damage_tells}
 use Rattle.torn_block.specs.Numbers.{AreBytes}
-use Rattle.torn_block.proofs.NumberLaws.{AreBytes-drop, AreBytes-take}
-use Rattle.torn_block.proofs.PlaceLaws.{reads_sequence, reads_body, length-block_in}
+use Rattle.torn_block.proofs.PlaceLaws.{reads_sequence, reads_body}
 use Rattle.torn_block.specs.Plan.{IsReading}
 use Rattle.torn_block.specs.declared.block.TheConstants.{OPEN_GATE}
 use Rattle.paxos_block.specs.Saying.{Said, zeros, body_saying, claim_of, is_said}
 use Rattle.paxos_block.specs.declared.cell.Cell.{Cell}
 use Rattle.paxos_block.specs.declared.row.Row.{Row}
 use Rattle.paxos_block.proofs.SayingLemmas.{said_back, said_spelled}
-use Rattle.paxos_block.specs.Row.{copy_saying, Says, IsSound, is_sound, blank, says_of, IsSaid, IsDamagedRow, IsCell, IsRow, blank_cell, DecodedBlock, number_or_zero, seen_in, seen_at, hosts, row_seen, decoded_row, is_damaged_block, blank_seen, IsSeenAs, AreSeenAs}
+use Rattle.paxos_block.specs.Row.{copy_saying, Says, IsSound, is_sound, blank, says_of, IsSaid, IsDamagedRow, IsCell, IsRow, blank_cell, DecodedBlock, number_or_zero, seen_in, seen_at, row_seen, decoded_row, blank_seen, IsSeenAs, AreSeenAs}
 use Rattle.torn_block.specs.declared.layout.TheConstants.{HOSTS_ROOM}
 use Rattle.torn_block.specs.Layout.{Version, Version1, Version2, hosts_in, copy_length, block_length, body_length, row_length}
-use Rattle.torn_block.proofs.LayoutLaws.{row_holds}
 
-pub sound_tells : (v : Version) → (host : ℕ) (copy : List ℕ) → length copy ≡ copy_length v → AreBytes copy → is_open copy ≡ true → is_sound v host copy ≡ true → IsSound v host copy
+sound_tells : (v : Version) → (host : ℕ) (copy : List ℕ) → length copy ≡ copy_length v → AreBytes copy → is_open copy ≡ true → is_sound v host copy ≡ true → IsSound v host copy
 sound_tells v host copy long fits opened t =
     let sequence = sequence_of copy in
     let a = and_parts (is_sequence sequence) (is_said v host (body_of copy)) t in
@@ -60,8 +58,11 @@ module _ (v : Version) (host : ℕ) (copy : List ℕ) (long : length copy ≡ co
       (ap is_sequence says_sequence ∙ is_sequence_since sequence so.is_sequence)
       (ap (is_said v host) says_body ∙ said_back v host says so.may_say)
 
-pub sound_since : (v : Version) → (host : ℕ) (copy : List ℕ) → length copy ≡ copy_length v → IsSound v host copy → is_sound v host copy ≡ true
+sound_since : (v : Version) → (host : ℕ) (copy : List ℕ) → length copy ≡ copy_length v → IsSound v host copy → is_sound v host copy ≡ true
 sound_since v host copy long sound = sound_copy_since v host copy long sound.sequence sound.says sound.so
+
+pub sound_decides : (v : Version) (host : ℕ) → Decides v (IsSound v host) (is_sound v host)
+sound_decides v host = record { since = sound_since v host; tells = sound_tells v host }
 
 -- ---- cells
 
@@ -131,58 +132,11 @@ no_fault v host copy t opened =
     not-false (is_sound v host copy) (ap (λ (b : Bool). b && not (is_sound v host copy)) (sym opened) ∙ t)
 
 -- also of numbers that are no bytes
-undamaged_says : (v : Version) → (host : ℕ) (block : List ℕ) → is_damaged_block v host block ≡ false → SaidIn v host block
+undamaged_says : (v : Version) → (host : ℕ) (block : List ℕ) → is_damaged_block v (is_sound v host) block ≡ false → SaidIn v host block
 undamaged_says v host block t =
     let a = or_parts (has_fault (is_sound v host) (first_of v block) || has_fault (is_sound v host) (second_of v block)) (has_twins (first_of v block) (second_of v block)) t in
     let b = or_parts (has_fault (is_sound v host) (first_of v block)) (has_fault (is_sound v host) (second_of v block)) a.0 in
     said_by_test v host block (no_fault v host (first_of v block) b.0) (no_fault v host (second_of v block) b.1)
-
--- ---- the test decides the damage
-
-sound_is_undamaged : (v : Version) → (host : ℕ) (block : List ℕ) → length block ≡ block_length v → IsSoundBlock v (IsSound v host) block → is_damaged_block v host block ≡ false
-sound_is_undamaged v host block long sound =
-    false_from_ne_true (is_damaged_block v host block) (λ t.
-    sound_is_not_damaged v (IsSound v host) (is_sound v host) block sound (damaged_tells v (IsSound v host) (is_sound v host) (sound_since v host) block long t))
-
-damage_is_found : (v : Version) → (host : ℕ) (block : List ℕ) → length block ≡ block_length v → AreBytes block → IsDamagedBlock v (IsSound v host) block → is_damaged_block v host block ≡ true
-damage_is_found v host block long fits damage =
-    elim (cases_Bool (is_damaged_block v host block)) [
-      | inl t ↦ t
-      | inr f ↦ absurd (sound_is_not_damaged v (IsSound v host) (is_sound v host) block (sound_block_tells v (IsSound v host) (is_sound v host) (sound_tells v host) block long fits f) damage)
-    ]
-
--- ---- tests of each number of a range
-
-none_in : (p : ℕ → Bool) (a n : ℕ) → ((k : ℕ) → a ≤ k → k < a + n → p k ≡ false) → list_any p (range_with_len a n) ≡ false
-none_in p a zero none = refl
-none_in p a (suc n) none =
-    let here : p a ≡ false = none a (omega arith) (omega arith) in
-    ap (λ (b : Bool). b || list_any p (range_with_len (a + 1) n)) here ∙ none_in p (a + 1) n (λ k from below. none k (omega arith) (omega arith))
-
-any_at : (p : ℕ → Bool) (n k : ℕ) → k < n → p k ≡ true → list_any p (range_with_len 0 n) ≡ true
-any_at p n k below found =
-    let same : 0 + k ≡ k = omega arith in
-    list_any_at p (range_with_len 0 n) k 0 (omega (arith, length-range_with_len 0 n)) (ap p (get_or-range_with_len 0 n k 0 below ∙ same) ∙ found)
-
-none_tells : (p : ℕ → Bool) (n k : ℕ) → k < n → list_any p (range_with_len 0 n) ≡ false → p k ≡ false
-none_tells p n k below t = false_from_ne_true (p k) (λ found. both_ways (list_any p (range_with_len 0 n)) t (any_at p n k below found))
-
-any_from : (p : ℕ → Bool) (a n : ℕ) → list_any p (range_with_len a n) ≡ true → (k : ℕ) × (k < n) × (p (a + k) ≡ true)
-any_from p a zero t = absurd cc
-any_from p a (suc n) t =
-    elim (or_cases (p a) (list_any p (range_with_len (a + 1) n)) t) [
-      | inl here ↦ (let at_a : a ≡ a + 0 = omega arith in (0, omega arith, ap p (sym at_a) ∙ here))
-      | inr there ↦
-          (let further = any_from p (a + 1) n there in
-          let below = further.1 in
-          let k = further.0 in
-          let same : a + (1 + k) ≡ a + 1 + k = omega arith in
-          (1 + k, omega arith, ap p same ∙ further.2))
-    ]
-
-any_tells : (p : ℕ → Bool) (n : ℕ) → list_any p (range_with_len 0 n) ≡ true → (k : ℕ) × (k < n) × (p k ≡ true)
-any_tells p n t = let found = any_from p 0 n t in let k = found.0 in let same : k ≡ 0 + k = omega arith in
-    (k, found.1, ap p same ∙ found.2)
 
 -- among zeros both copies are closed
 closed_zeros : (v : Version) (half : Half) → is_open (copy_of v half blank_seen.bytes) ≡ false
@@ -198,27 +152,18 @@ blank_reads v = (shut_is_blank v (λ (value : List ℕ). value) 0 blank_seen.byt
 
 -- ---- what a row says
 
-pub length-block_of : (v : Version) → (host : ℕ) (row : List ℕ) → host < (hosts_in v) → length row ≡ row_length v → length (block_of v host row) ≡ block_length v
-length-block_of v host row below long = length-block_in v (block_length v * host) row (omega (arith, long, row_holds v host below))
-
-AreBytes-block_of : (v : Version) → (host : ℕ) (row : List ℕ) → AreBytes row → AreBytes (block_of v host row)
-AreBytes-block_of v host row fits = AreBytes-take _ (drop (block_length v * host) row) (AreBytes-drop (block_length v * host) row fits)
-
 module _ (v : Version) (row : List ℕ) where
-  abbrev is_damaged_at : ℕ → Bool
-  is_damaged_at host = is_damaged_block v host (block_of v host row)
-
-  said_if_none : list_any is_damaged_at (hosts v) ≡ false → decoded_row v row ≡ Some (row_seen v row)
+  said_if_none : has_damage v (is_sound v) row ≡ false → decoded_row v row ≡ Some (row_seen v row)
   unfolding decoded_row
-  said_if_none t = cond-false (list_any is_damaged_at (hosts v)) None (Some (row_seen v row)) t
+  said_if_none t = cond-false (has_damage v (is_sound v) row) None (Some (row_seen v row)) t
 
-  unsaid_if_any : list_any is_damaged_at (hosts v) ≡ true → decoded_row v row ≡ None
+  unsaid_if_any : has_damage v (is_sound v) row ≡ true → decoded_row v row ≡ None
   unfolding decoded_row
-  unsaid_if_any t = cond-true (list_any is_damaged_at (hosts v)) None (Some (row_seen v row)) t
+  unsaid_if_any t = cond-true (has_damage v (is_sound v) row) None (Some (row_seen v row)) t
 
-  some_is_seen : (seen : List DecodedBlock) → decoded_row v row ≡ Some seen → (list_any is_damaged_at (hosts v) ≡ false) × (seen ≡ row_seen v row)
+  some_is_seen : (seen : List DecodedBlock) → decoded_row v row ≡ Some seen → (has_damage v (is_sound v) row ≡ false) × (seen ≡ row_seen v row)
   some_is_seen seen is =
-      elim (cases_Bool (list_any is_damaged_at (hosts v))) [
+      elim (cases_Bool (has_damage v (is_sound v) row)) [
         | inl t ↦ (let none = unsaid_if_any t in absurd cc)
         | inr f ↦ (f, ap (λ (o : Option (List DecodedBlock)). unwrap_or o []) (sym is ∙ said_if_none f))
       ]
@@ -233,26 +178,22 @@ module _ (v : Version) (row : List ℕ) where
   -- and each of them is spelled as it says
   pub said_is_said : (seen : List DecodedBlock) (host : ℕ) → host < (hosts_in v) → decoded_row v row ≡ Some seen → IsSaid v host (value_of v (seen_at seen host).bytes) (seen_at seen host).says
   said_is_said seen host below is =
-      subst (λ (s : DecodedBlock). IsSaid v host (value_of v s.bytes) s.says) (sym (said_sees seen host below is)) (undamaged_says v host (block_of v host row) (none_tells is_damaged_at (hosts_in v) host below (some_is_seen seen is).0))
+      subst (λ (s : DecodedBlock). IsSaid v host (value_of v s.bytes) s.says) (sym (said_sees seen host below is)) (undamaged_says v host (block_of v host row) (none_damaged v (is_sound v) row (some_is_seen seen is).0 host below))
 
   module _ (long : length row ≡ row_length v) where
     -- a row of sound blocks says them
     pub sound_row : ((host : ℕ) → host < (hosts_in v) → IsSoundBlock v (IsSound v host) (block_of v host row)) → decoded_row v row ≡ Some (row_seen v row)
-    sound_row sound =
-        said_if_none (none_in is_damaged_at 0 (hosts_in v) (λ host from below. sound_is_undamaged v host (block_of v host row) (length-block_of v host row (omega arith) long) (sound host (omega arith))))
+    sound_row sound = said_if_none (sound_has_none (sound_decides v) row long sound)
 
     -- a row with a damaged block says nothing
     pub damaged_row : AreBytes row → IsDamagedRow v row → decoded_row v row ≡ None
-    damaged_row fits damaged =
-        unsaid_if_any (any_at is_damaged_at (hosts_in v) damaged.0 damaged.1 (damage_is_found v damaged.0 (block_of v damaged.0 row) (length-block_of v damaged.0 row damaged.1 long) (AreBytes-block_of v damaged.0 row fits) damaged.2))
+    damaged_row fits damaged = unsaid_if_any (damaged_has_some (sound_decides v) row long fits damaged)
 
     -- a row that says nothing has a damaged block
     pub unsaid_row : decoded_row v row ≡ None → IsDamagedRow v row
     unsaid_row is =
-        elim (cases_Bool (list_any is_damaged_at (hosts v))) [
-          | inl t ↦
-              (let found = any_tells is_damaged_at (hosts_in v) t in
-              (found.0, found.1, damaged_tells v (IsSound v found.0) (is_sound v found.0) (sound_since v found.0) (block_of v found.0 row) (length-block_of v found.0 row found.1 long) found.2))
+        elim (cases_Bool (has_damage v (is_sound v) row)) [
+          | inl t ↦ has_damage_tells (sound_decides v) row long t
           | inr f ↦ (let some = said_if_none f in absurd cc)
         ]
 

@@ -1,11 +1,11 @@
 -- Of the headline. A row: a block of each host, when it is damaged, and what it says, in each layout.
 use Rattle.std.specs.Prelude.{◌≡◌, ◌&&◌, ◌*◌, ◌<◌, ◌≤◌, ℕ, Bool, false, List, ◌∷◌, length, map, slice_index_or, Option, Some, None, if◌then◌else◌}
-use Rattle.std.specs.List.{HoldsAt, list_any, range_with_len}
+use Rattle.std.specs.List.{HoldsAt}
 use Rattle.torn_block.specs.declared.layout.TheConstants.{HOSTS_ROOM, COPY_ROOM}
 use Rattle.torn_block.specs.Layout.{Version, hosts_in}
 use Rattle.torn_block.specs.Block.{sequence_of, body_of, tail_with, value_of, number_in}
 use Rattle.torn_block.specs.Plan.{IsReading, told_number}
-use Rattle.torn_block.specs.Damage.{IsSequence, IsSoundBlock, IsDamaged, block_of, first_of, second_of, is_sequence, is_damaged}
+use Rattle.torn_block.specs.Damage.{IsSequence, IsSoundBlock, IsDamaged, block_of, hosts, is_sequence, has_damage}
 use Rattle.torn_block.specs.declared.block.TheConstants.{OPEN_GATE}
 use Rattle.paxos_block.specs.declared.cell.Cell.{Cell}
 use Rattle.paxos_block.specs.declared.row.Row.{Row}
@@ -68,10 +68,6 @@ pub record IsRow {V : Type 0} (v : Version) (spelled : V → List ℕ) (bytes : 
 abbrev pub is_sound : Version → ℕ → List ℕ → Bool
 is_sound v host copy = is_sequence (sequence_of copy) && is_said v host (body_of copy)
 
--- a host's block is damaged, as a test
-abbrev pub is_damaged_block : Version → ℕ → List ℕ → Bool
-is_damaged_block v host block = is_damaged (is_sound v host) (first_of v block) (second_of v block)
-
 -- A host's block as it is seen in a row: its bytes, the sequence number of its current copy, and what it says.
 pub record DecodedBlock : Type 0 where
   pub bytes : List ℕ
@@ -89,16 +85,13 @@ sequence_or_zero value = number_or_zero (number_in value)
 abbrev pub seen_in : Version → List ℕ → DecodedBlock
 seen_in v block = record { bytes = block; sequence = sequence_or_zero (value_of v block); says = says_of v (value_of v block) }
 
-abbrev pub hosts : Version → List ℕ
-hosts v = range_with_len 0 (hosts_in v)
-
 -- the blocks of a row, by host
 abbrev pub row_seen : Version → List ℕ → List DecodedBlock
 row_seen v row = map (λ host. seen_in v (block_of v host row)) (hosts v)
 
 -- what a row says: its blocks, or nothing where one of them is damaged
 unfoldable pub decoded_row : Version → List ℕ → Option (List DecodedBlock)
-decoded_row v row = if list_any (λ host. is_damaged_block v host (block_of v host row)) (hosts v) then None else Some (row_seen v row)
+decoded_row v row = if has_damage v (is_sound v) row then None else Some (row_seen v row)
 
 -- a block of zeros, as it is seen: what stands for a host that there is not
 abbrev pub blank_seen : DecodedBlock

@@ -103,7 +103,7 @@ fn claim_in<L: Layout>(copy: &[u8]) -> PBlock<L::Value>
 // Whether these bytes of a host's block are damaged.
 pub(crate) fn is_damaged_block<L: Layout>(host: u8, bytes: &[u8]) -> bool
     requires { length bytes.now ≡ block_length L.version }
-    ensures { result ≡ rows.is_damaged_block L.version host bytes.now }
+    ensures { result ≡ Damage.is_damaged_block L.version (rows.is_sound L.version host) bytes.now }
 {
     let (first, second) = bytes.split_at(L::COPY_LENGTH);
     is_damaged::<L>(host, first, second)

@@ -2,7 +2,7 @@
 use Rattle.std.specs.Prelude.{◌≡◌, ◌==◌, ◌&&◌, ◌||◌, ◌^◌, ◌++◌, ℕ, Bool, true, false, not, nat_le, List, ◌∷◌, length, take, drop, slice_index}
 use Rattle.std.proofs.Common.{sym, ap, ◌∙◌, arith, inl, inr, length-append, length-drop, append_assoc}
 use Rattle.std.proofs.lemmas.List.{take_at, drop_at, drop-drop, take-append-drop, length-take-le, drop_more}
-use Rattle.std.proofs.lemmas.Bool.{and_parts, and_from, leb-true, le-leb, eqb-true, eq-eqb, or_cases, or_parts, not-true, not-false, both_ways}
+use Rattle.std.proofs.lemmas.Bool.{and_parts, and_from, leb-true, le-leb, eqb-true, eq-eqb, or_cases, or_parts, not-true, not-false, both_ways, cases_Bool, false_from_ne_true}
 use Rattle.torn_block.specs.Layout.{Version, block_length, body_length, copy_length, tail_length}
 use Rattle.torn_block.proofs.LayoutLaws.{long_copy}
 use Rattle.torn_block.specs.declared.block.Half.{Half}
@@ -12,7 +12,7 @@ use Rattle.byteorder.specs.Numbers.{length-bytes_high_first}
 use Rattle.std.proofs.lemmas.List.{length-take}
 use Rattle.torn_block.specs.Numbers.{AreBytes}
 use Rattle.torn_block.proofs.NumberLaws.{AreBytes-drop, AreBytes-take, spelled_8}
-use Rattle.torn_block.specs.Damage.{first_of, second_of, IsSequence, IsSoundBlock, HasTwins, IsDamagedBlock, is_sequence, has_fault, has_twins, is_damaged}
+use Rattle.torn_block.specs.Damage.{first_of, second_of, IsSequence, IsSoundBlock, HasTwins, IsDamagedBlock, is_sequence, has_fault, has_twins, is_damaged_block}
 
 pub is_sequence_tells : (number : ℕ) → is_sequence number ≡ true → IsSequence number
 is_sequence_tells number t =
@@ -73,59 +73,67 @@ long_body v sequence body long =
 
 -- ---- blocks
 
-module _ (v : Version) (IsSound : List ℕ → Type 0) (is_sound : List ℕ → Bool) where
-  -- the test holds of what is sound
-  abbrev pub Since : Type 0
-  Since = (copy : List ℕ) → length copy ≡ copy_length v → IsSound copy → is_sound copy ≡ true
+-- a test of copies decides which open ones are sound
+pub record Decides (v : Version) (IsSound : List ℕ → Type 0) (is_sound : List ℕ → Bool) : Type 0 where
+  pub since : (copy : List ℕ) → length copy ≡ copy_length v → IsSound copy → is_sound copy ≡ true
+  pub tells : (copy : List ℕ) → length copy ≡ copy_length v → AreBytes copy → is_open copy ≡ true → is_sound copy ≡ true → IsSound copy
 
-  -- an open copy of which it holds is sound
-  abbrev pub Tells : Type 0
-  Tells = (copy : List ℕ) → length copy ≡ copy_length v → AreBytes copy → is_open copy ≡ true → is_sound copy ≡ true → IsSound copy
+twins_tell : (v : Version) (block : List ℕ) → has_twins (first_of v block) (second_of v block) ≡ true → HasTwins v block
+twins_tell v block t =
+    let a = and_parts (is_open (first_of v block) && is_open (second_of v block)) (sequence_of (first_of v block) == sequence_of (second_of v block)) t in
+    let b = and_parts (is_open (first_of v block)) (is_open (second_of v block)) a.0 in
+    (b.0, b.1, eqb-true (sequence_of (first_of v block)) (sequence_of (second_of v block)) a.1)
 
-  fault_tells : Since → (copy : List ℕ) → length copy ≡ copy_length v → has_fault is_sound copy ≡ true → (is_open copy ≡ true) × ¬ IsSound copy
-  fault_tells since copy long t =
+-- not both
+pub sound_is_not_damaged : {v : Version} {IsSound : List ℕ → Type 0} → (block : List ℕ) → IsSoundBlock v IsSound block → IsDamagedBlock v IsSound block → ⊥
+sound_is_not_damaged block sound (inl fault) = fault.2 (sound.copies fault.0 fault.1)
+sound_is_not_damaged block sound (inr twins) = sound.apart twins.0 twins.1 twins.2
+
+module _ {v : Version} {IsSound : List ℕ → Type 0} {is_sound : List ℕ → Bool} (decides : Decides v IsSound is_sound) where
+  fault_tells : (copy : List ℕ) → length copy ≡ copy_length v → has_fault is_sound copy ≡ true → (is_open copy ≡ true) × ¬ IsSound copy
+  fault_tells copy long t =
       let a = and_parts (is_open copy) (not (is_sound copy)) t in
-      (a.0, λ sound. both_ways (is_sound copy) (not-true (is_sound copy) a.1) (since copy long sound))
+      (a.0, λ sound. both_ways (is_sound copy) (not-true (is_sound copy) a.1) (decides.since copy long sound))
 
-  twins_tell : (block : List ℕ) → has_twins (first_of v block) (second_of v block) ≡ true → HasTwins v block
-  twins_tell block t =
-      let a = and_parts (is_open (first_of v block) && is_open (second_of v block)) (sequence_of (first_of v block) == sequence_of (second_of v block)) t in
-      let b = and_parts (is_open (first_of v block)) (is_open (second_of v block)) a.0 in
-      (b.0, b.1, eqb-true (sequence_of (first_of v block)) (sequence_of (second_of v block)) a.1)
-
-  pub damaged_tells : Since → (block : List ℕ) → length block ≡ block_length v → is_damaged is_sound (first_of v block) (second_of v block) ≡ true → IsDamagedBlock v IsSound block
-  damaged_tells since block long t =
+  pub damaged_tells : (block : List ℕ) → length block ≡ block_length v → is_damaged_block v is_sound block ≡ true → IsDamagedBlock v IsSound block
+  damaged_tells block long t =
       elim (or_cases (has_fault is_sound (first_of v block) || has_fault is_sound (second_of v block)) (has_twins (first_of v block) (second_of v block)) t) [
         | inl fault ↦
             elim (or_cases (has_fault is_sound (first_of v block)) (has_fault is_sound (second_of v block)) fault) [
-              | inl f ↦ (let told = fault_tells since (take (copy_length v) block) (length-take-le (copy_length v) block (omega arith)) f in inl (First, told.0, told.1))
-              | inr f ↦ (let told = fault_tells since (drop (copy_length v) block) (omega (arith, length-drop (copy_length v) block)) f in inl (Second, told.0, told.1))
+              | inl f ↦ (let told = fault_tells (take (copy_length v) block) (length-take-le (copy_length v) block (omega arith)) f in inl (First, told.0, told.1))
+              | inr f ↦ (let told = fault_tells (drop (copy_length v) block) (omega (arith, length-drop (copy_length v) block)) f in inl (Second, told.0, told.1))
             ]
-        | inr twins ↦ inr (twins_tell block twins)
+        | inr twins ↦ inr (twins_tell v block twins)
       ]
 
-  no_fault_tells : Tells → (copy : List ℕ) → length copy ≡ copy_length v → AreBytes copy → has_fault is_sound copy ≡ false → is_open copy ≡ true → IsSound copy
-  no_fault_tells tells copy long fits t opened =
-      tells copy long fits opened (not-false (is_sound copy) (ap (λ (b : Bool). b && not (is_sound copy)) (sym opened) ∙ t))
+  no_fault_tells : (copy : List ℕ) → length copy ≡ copy_length v → AreBytes copy → has_fault is_sound copy ≡ false → is_open copy ≡ true → IsSound copy
+  no_fault_tells copy long fits t opened =
+      decides.tells copy long fits opened (not-false (is_sound copy) (ap (λ (b : Bool). b && not (is_sound copy)) (sym opened) ∙ t))
 
-  sound_copies : Tells → (block : List ℕ) → length block ≡ block_length v → AreBytes block → has_fault is_sound (first_of v block) ≡ false → has_fault is_sound (second_of v block) ≡ false → (half : Half) → is_open (copy_of v half block) ≡ true → IsSound (copy_of v half block)
-  sound_copies tells block long fits f s First opened =
-      no_fault_tells tells (take (copy_length v) block) (length-take-le (copy_length v) block (omega arith)) (AreBytes-take (copy_length v) block fits) f opened
-  sound_copies tells block long fits f s Second opened =
-      no_fault_tells tells (drop (copy_length v) block) (omega (arith, length-drop (copy_length v) block)) (AreBytes-drop (copy_length v) block fits) s opened
+  sound_copies : (block : List ℕ) → length block ≡ block_length v → AreBytes block → has_fault is_sound (first_of v block) ≡ false → has_fault is_sound (second_of v block) ≡ false → (half : Half) → is_open (copy_of v half block) ≡ true → IsSound (copy_of v half block)
+  sound_copies block long fits f s First opened =
+      no_fault_tells (take (copy_length v) block) (length-take-le (copy_length v) block (omega arith)) (AreBytes-take (copy_length v) block fits) f opened
+  sound_copies block long fits f s Second opened =
+      no_fault_tells (drop (copy_length v) block) (omega (arith, length-drop (copy_length v) block)) (AreBytes-drop (copy_length v) block fits) s opened
 
-  pub sound_block_tells : Tells → (block : List ℕ) → length block ≡ block_length v → AreBytes block → is_damaged is_sound (first_of v block) (second_of v block) ≡ false → IsSoundBlock v IsSound block
-  sound_block_tells tells block long fits t =
+  pub sound_block_tells : (block : List ℕ) → length block ≡ block_length v → AreBytes block → is_damaged_block v is_sound block ≡ false → IsSoundBlock v IsSound block
+  sound_block_tells block long fits t =
       let a = or_parts (has_fault is_sound (first_of v block) || has_fault is_sound (second_of v block)) (has_twins (first_of v block) (second_of v block)) t in
       let b = or_parts (has_fault is_sound (first_of v block)) (has_fault is_sound (second_of v block)) a.0 in
       record {
-        copies = sound_copies tells block long fits b.0 b.1;
+        copies = sound_copies block long fits b.0 b.1;
         apart =
             λ o p same.
             both_ways (has_twins (first_of v block) (second_of v block)) a.1 (and_from (is_open (first_of v block) && is_open (second_of v block)) (sequence_of (first_of v block) == sequence_of (second_of v block)) (and_from (is_open (first_of v block)) (is_open (second_of v block)) o p) (eq-eqb (sequence_of (first_of v block)) (sequence_of (second_of v block)) same));
       }
 
-  -- not both
-  pub sound_is_not_damaged : (block : List ℕ) → IsSoundBlock v IsSound block → IsDamagedBlock v IsSound block → ⊥
-  sound_is_not_damaged block sound (inl fault) = fault.2 (sound.copies fault.0 fault.1)
-  sound_is_not_damaged block sound (inr twins) = sound.apart twins.0 twins.1 twins.2
+  pub sound_is_undamaged : (block : List ℕ) → length block ≡ block_length v → IsSoundBlock v IsSound block → is_damaged_block v is_sound block ≡ false
+  sound_is_undamaged block long sound =
+      false_from_ne_true (is_damaged_block v is_sound block) (λ t. sound_is_not_damaged block sound (damaged_tells block long t))
+
+  pub damage_is_found : (block : List ℕ) → length block ≡ block_length v → AreBytes block → IsDamagedBlock v IsSound block → is_damaged_block v is_sound block ≡ true
+  damage_is_found block long fits damage =
+      elim (cases_Bool (is_damaged_block v is_sound block)) [
+        | inl t ↦ t
+        | inr f ↦ absurd (sound_is_not_damaged block (sound_block_tells block long fits f) damage)
+      ]

@@ -1,4 +1,5 @@
 pub mod DamageLaws
+pub mod DamagedRows
 pub mod LayoutLaws
 pub mod NumberLaws
 pub mod PlaceLaws

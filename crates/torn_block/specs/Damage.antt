@@ -1,5 +1,6 @@
 -- Of the headline. When a block is damaged, by a rule for what a sound copy is, in each layout.
-use Rattle.std.specs.Prelude.{◌≡◌, ◌≢◌, ◌⊎◌, ◌==◌, ◌&&◌, ◌||◌, ◌≤◌, ◌<◌, ◌*◌, ◌^◌, ℕ, Bool, true, not, nat_le, List}
+use Rattle.std.specs.Prelude.{◌≡◌, ◌≢◌, ◌⊎◌, ◌↔◌, ◌==◌, ◌&&◌, ◌||◌, ◌≤◌, ◌<◌, ◌*◌, ◌^◌, ℕ, Bool, true, false, not, nat_le, List, length, map, slice_index_or, IsTrue}
+use Rattle.std.specs.List.{list_any, range_with_len}
 use Rattle.torn_block.specs.declared.block.Half.{Half}
 use Rattle.torn_block.specs.declared.block.Half.TheVariants.{First, Second}
 use Rattle.torn_block.specs.Layout.{Version, hosts_in, block_length}
@@ -41,6 +42,11 @@ block_of v host row = block_in v (block_length v * host) row
 abbrev pub IsDamaged : Version → (ℕ → List ℕ → Type 0) → List ℕ → Type 0
 IsDamaged v IsSound row = (host : ℕ) × (host < hosts_in v) × IsDamagedBlock v (IsSound host) (block_of v host row)
 
+-- The list tells of each host whether its block is damaged.
+pub record AreDamaged (v : Version) (IsSound : ℕ → List ℕ → Type 0) (row : List ℕ) (damaged : List Bool) : Type 0 where
+  pub count : length damaged ≡ hosts_in v
+  pub each : (host : ℕ) → host < hosts_in v → IsTrue (slice_index_or damaged host false) ↔ IsDamagedBlock v (IsSound host) (block_of v host row)
+
 -- ---- the same as tests
 
 abbrev pub is_sequence : ℕ → Bool
@@ -54,3 +60,33 @@ has_twins first second = is_open first && is_open second && (sequence_of first =
 
 abbrev pub is_damaged : (List ℕ → Bool) → List ℕ → List ℕ → Bool
 is_damaged is_sound first second = has_fault is_sound first || has_fault is_sound second || has_twins first second
+
+abbrev pub is_damaged_block : Version → (List ℕ → Bool) → List ℕ → Bool
+is_damaged_block v is_sound block = is_damaged is_sound (first_of v block) (second_of v block)
+
+-- the numbers of the hosts
+abbrev pub hosts : Version → List ℕ
+hosts v = range_with_len 0 (hosts_in v)
+
+-- some host's block is damaged, by the test of its copies
+abbrev pub has_damage : Version → (ℕ → List ℕ → Bool) → List ℕ → Bool
+has_damage v is_sound row = list_any (λ host. is_damaged_block v (is_sound host) (block_of v host row)) (hosts v)
+
+-- of each host, whether its block is
+abbrev pub damaged_in : Version → (ℕ → List ℕ → Bool) → List ℕ → List Bool
+damaged_in v is_sound row = map (λ host. is_damaged_block v (is_sound host) (block_of v host row)) (hosts v)
+
+abbrev pub AreDamaged : (ℕ → List ℕ → Type 0) → List ℕ → List Bool → Type 0
+AreDamaged = by.AreDamaged cluster_version
+
+abbrev pub is_damaged_block : (List ℕ → Bool) → List ℕ → Bool
+is_damaged_block = by.is_damaged_block cluster_version
+
+abbrev pub hosts : List ℕ
+hosts = by.hosts cluster_version
+
+abbrev pub has_damage : (ℕ → List ℕ → Bool) → List ℕ → Bool
+has_damage = by.has_damage cluster_version
+
+abbrev pub damaged_in : (ℕ → List ℕ → Bool) → List ℕ → List Bool
+damaged_in = by.damaged_in cluster_version

@@ -1,6 +1,5 @@
 -- A call within one block leaves the bytes of the others, and so what a row shows of them.
 use Rattle.std.specs.Prelude.{if◌then◌else◌}
-use Rattle.std.specs.List.{list_any}
 use Rattle.std.proofs.Common.{ℕ, zero, suc, ◌<◌, ◌≤◌, ◌≡◌, ◌≢◌, inl, inr, Bool, true, false, Some, None, List, [], ◌∷◌, length, refl, sym, ap, ◌∙◌, arith}
 use Rattle.std.proofs.lemmas.Bool.{cases_lt}
 use Rattle.std.proofs.lemmas.List.FromFn.{get_or-map-range_with_len}
@@ -10,14 +9,14 @@ use Rattle.disk.proofs.StepLemmas.{step_keeps}
 use Rattle.torn_block.specs.Layout.{cluster_version}
 use Rattle.torn_block.specs.declared.layout.TheConstants.{HOSTS}
 use Rattle.torn_block.specs.Block.{value_of}
-use Rattle.torn_block.specs.Damage.{block_of}
+use Rattle.torn_block.specs.Damage.{block_of, has_damage}
 use Rattle.torn_block.specs.Place.{block_in}
 use Rattle.torn_block.proofs.PlaceLaws.{block_elsewhere}
 use Rattle.torn_block.specs.Register.{LiesOn}
 use Rattle.torn_block.proofs.RegisterLaws.{ranges}
 use Rattle.paxos_block.specs.Saying.{Said as PBlock}
 use Rattle.paxos_block.specs.Places.{Spot, VoteOf, place_of, IsSpot, IsImage, IsWithin, row_of}
-use Rattle.paxos_block.specs.Row.{DecodedBlock, blank_seen, hosts, is_damaged_block, seen_in, seen_at, says_of, row_seen, decoded_row}
+use Rattle.paxos_block.specs.Row.{DecodedBlock, blank_seen, is_sound, seen_in, seen_at, says_of, row_seen, decoded_row}
 use Rattle.paxos_block.specs.Votes.{says_in}
 use Rattle.paxos_block.proofs.PlaceLemmas.{spot_fits, writes_on, leaves_other, block_of-row_of}
 
@@ -45,7 +44,7 @@ block_kept slots mine other disk new call answer is_mine is_other differ image w
 -- a sound row is its blocks
 pub row_is_seen : (bytes : List ℕ) (row : List DecodedBlock) → decoded_row cluster_version bytes ≡ Some row → row ≡ row_seen cluster_version bytes
 unfolding decoded_row
-row_is_seen bytes row is = go (list_any (λ host. is_damaged_block cluster_version host (block_of cluster_version host bytes)) (hosts cluster_version)) is
+row_is_seen bytes row is = go (has_damage (is_sound cluster_version) bytes) is
   where
     go : (b : Bool) → (if b then None else Some (row_seen cluster_version bytes)) ≡ Some row → row ≡ row_seen cluster_version bytes
     go true is = absurd (cc)

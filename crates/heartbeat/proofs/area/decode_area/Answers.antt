@@ -1,11 +1,11 @@
 use Rattle.std.proofs.Common.{rules, ◌≡◌, ◌<◌, ◌+◌, ◌∙◌, ℕ, List, sym, subst, arith, refl, inl, inr, get_or, set}
 use Rattle.std.proofs.lemmas.List.{get_or-set_same, get_or-set_other, length-set}
 use Rattle.std.proofs.lemmas.Bool.{cases_lt}
-use Rattle.torn_block.specs.declared.layout.TheConstants.{HOSTS}
 use Rattle.torn_block.specs.Layout.{cluster_version}
+use Rattle.torn_block.specs.declared.layout.TheConstants.{HOSTS}
 use Rattle.torn_block.specs.Damage.{block_of}
 use Rattle.torn_block.proofs.DamageLaws.{sound_is_not_damaged}
-use Rattle.heartbeat.specs.Beat.{IsBeat, IsCounter, is_beat}
+use Rattle.heartbeat.specs.Beat.{IsCounter}
 use Rattle.heartbeat.proofs.AreaLemmas.{damaged_area, sound_area, counters_are}
 use Rattle.heartbeat.proofs.area.decode_area.Invariants.{Counters}
 use Rattle.heartbeat.proofs.area.decode_area.Goals as goal
@@ -38,7 +38,7 @@ pub returns-clause-damaged : goal.returns-clause-damaged
 returns-clause-damaged c = (
   (λ t. absurd cc),
   (λ damage.
-      absurd (sound_is_not_damaged cluster_version IsBeat is_beat (block_of cluster_version damage.0 c.args.bytes.now) (c.loop-host.invariant.done damage.0 (let below = damage.1 in omega arith)).sound damage.2)),
+      absurd (sound_is_not_damaged (block_of cluster_version damage.0 c.args.bytes.now) (c.loop-host.invariant.done damage.0 (let below = damage.1 in omega arith)).sound damage.2)),
 )
 
 pub returns-in_err-counters-clause-unsaid : goal.returns-in_err-counters-clause-unsaid

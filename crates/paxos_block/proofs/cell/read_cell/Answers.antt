@@ -1,9 +1,9 @@
 use Rattle.std.proofs.Common.{◌≡◌, ◌∙◌, ℕ, List, Bool, sym, ap, arith, take, drop}
 use Rattle.torn_block.specs.Layout.{Version}
-use Rattle.paxos_block.specs.Row.{IsSound, is_sound}
+use Rattle.paxos_block.specs.Row.{is_sound}
 use Rattle.torn_block.specs.Damage.{first_of, second_of, is_damaged}
 use Rattle.torn_block.proofs.DamageLaws.{damaged_tells, sound_block_tells}
-use Rattle.paxos_block.proofs.RowLemmas.{sound_tells, sound_since}
+use Rattle.paxos_block.proofs.RowLemmas.{sound_decides}
 use Rattle.paxos_block.proofs.cell.read_cell.Goals as goal
 
 -- the test of the two copies is that of the block
@@ -19,7 +19,7 @@ returns-then-is_damaged-clause-damaged g c =
     let copy = c.COPY_LENGTH.ensures ∙ g.met.L.Layout.copy_is in
     let first = c.split_at.ensures.front ∙ ap (λ (n : ℕ). take n bytes) copy in
     let second = c.split_at.ensures.back ∙ ap (λ (n : ℕ). drop n bytes) copy in
-    damaged_tells v (IsSound v host) (is_sound v host) (sound_since v host) bytes c.requires (same v host bytes _ _ _ first second c.is_damaged.ensures ∙ c.if-is_damaged.true)
+    damaged_tells (sound_decides v host) bytes c.requires (same v host bytes _ _ _ first second c.is_damaged.ensures ∙ c.if-is_damaged.true)
 
 pub returns-clause-cell : goal.returns-clause-cell
 returns-clause-cell g c =
@@ -30,7 +30,7 @@ returns-clause-cell g c =
     let first = c.split_at.ensures.front ∙ ap (λ (n : ℕ). take n bytes) copy in
     let second = c.split_at.ensures.back ∙ ap (λ (n : ℕ). drop n bytes) copy in
     record {
-      sound = sound_block_tells v (IsSound v host) (is_sound v host) (sound_tells v host) bytes c.requires (λ i. omega (arith, c.type_inv.bytes i)) (same v host bytes _ _ _ first second c.is_damaged.ensures ∙ c.if-is_damaged.false);
+      sound = sound_block_tells (sound_decides v host) bytes c.requires (λ i. omega (arith, c.type_inv.bytes i)) (same v host bytes _ _ _ first second c.is_damaged.ensures ∙ c.if-is_damaged.false);
       read = c.read_block-block.ensures;
       says = c.says_in-says.ensures bytes c.read_block-block.ensures first second;
     }

@@ -1,6 +1,5 @@
 use Rattle.paxos_block.proofs.SayingLemmas.{claims_back}
 use Rattle.paxos_block.proofs.RowLemmas.{sound_says}
-use Rattle.paxos_block.specs.Row.{IsSound, is_sound}
 use Rattle.torn_block.proofs.DamageLaws.{sound_is_not_damaged}
 use Rattle.paxos_block.proofs.law.blocks_say.Goals as goal
 
@@ -11,4 +10,4 @@ pub returns-clause-sound : goal.returns-clause-sound
 returns-clause-sound c = λ v host block long sound. sound_says v host block long sound
 
 pub returns-clause-not_both : goal.returns-clause-not_both
-returns-clause-not_both c = λ v host block sound damaged. sound_is_not_damaged v (IsSound v host) (is_sound v host) block sound damaged
+returns-clause-not_both c = λ v host block sound damaged. sound_is_not_damaged block sound damaged

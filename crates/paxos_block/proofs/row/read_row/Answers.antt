@@ -5,7 +5,7 @@ use Rattle.torn_block.specs.declared.layout.TheConstants.{HOSTS_ROOM}
 use Rattle.torn_block.specs.Layout.{Version, hosts_in}
 use Rattle.torn_block.proofs.LayoutLaws.{few_hosts}
 use Rattle.paxos_block.specs.declared.cell.Cell.{Cell}
-use Rattle.paxos_block.specs.Row.{IsCell, IsRow, IsDamagedRow, IsSound, is_sound, blank_cell}
+use Rattle.paxos_block.specs.Row.{IsCell, IsRow, IsDamagedRow, blank_cell}
 use Rattle.torn_block.specs.Damage.{block_of}
 use Rattle.torn_block.proofs.DamageLaws.{sound_is_not_damaged}
 use Rattle.paxos_block.proofs.RowLemmas.{damaged_row, row_is_said, row_is_not_unsaid}
@@ -105,7 +105,7 @@ returns-clause-damaged g c =
     let v = g.L.Layout.version in
     let all = read_all g.row.L-Value.Denot v g.L.Layout.spelled c.args.bytes.now c.loop-host.row.cells c.loop-host.host c.loop-host.invariant (omega (arith, c.HOSTS-host-end.ensures ∙ g.met.L.Layout.hosts_is)) in (
       (λ t. absurd cc),
-      (λ damage. absurd (sound_is_not_damaged v (IsSound v damage.0) (is_sound v damage.0) (block_of v damage.0 c.args.bytes.now) (all.cells damage.0 damage.1 blank_cell).sound damage.2)),
+      (λ damage. absurd (sound_is_not_damaged (block_of v damage.0 c.args.bytes.now) (all.cells damage.0 damage.1 blank_cell).sound damage.2)),
     )
 
 damage : (g : Over) (c : goal.After-from_residual g) → IsDamagedRow g.L.Layout.version c.args.bytes.now
