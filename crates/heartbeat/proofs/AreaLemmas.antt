@@ -16,12 +16,12 @@ module _ (area : List ℕ) where
     -- an area of sound blocks says them
     pub sound_area : ((host : ℕ) → host < HOSTS → IsSoundBlock cluster_version IsBeat (block_of cluster_version host area)) → area_said area ≡ Some area
     unfolding area_said
-    sound_area sound = cond-false (has_damage (λ host. is_beat) area) None (Some area) (sound_has_none beat_decides area long sound)
+    sound_area sound = cond-false (has_damage cluster_version (λ host. is_beat) area) None (Some area) (sound_has_none beat_decides area long sound)
 
     -- one with a damaged block says nothing
     pub damaged_area : AreBytes area → IsDamagedArea area → area_said area ≡ None
     unfolding area_said
-    damaged_area fits damage = cond-true (has_damage (λ host. is_beat) area) None (Some area) (damaged_has_some beat_decides area long fits damage)
+    damaged_area fits damage = cond-true (has_damage cluster_version (λ host. is_beat) area) None (Some area) (damaged_has_some beat_decides area long fits damage)
 
   -- counters that are those of each host are those of the area
   pub counters_are : (counters : List ℕ) → length counters ≡ HOSTS → AreCounters area counters → counters ≡ counters_in area

@@ -47,8 +47,8 @@ is_beat copy = is_sequence (sequence_of copy) && (slice_index copy 1 == VERSION)
 
 -- the bytes of a sound area, or nothing where a block of it is damaged
 unfoldable pub area_said : List ℕ → Option (List ℕ)
-area_said area = if has_damage (λ host. is_beat) area then None else Some area
+area_said area = if has_damage cluster_version (λ host. is_beat) area then None else Some area
 
 -- the counters of the hosts, by their numbers
 abbrev pub counters_in : List ℕ → List ℕ
-counters_in area = map (λ host. counter_of (block_of cluster_version host area)) hosts
+counters_in area = map (λ host. counter_of (block_of cluster_version host area)) (hosts cluster_version)

@@ -75,18 +75,3 @@ has_damage v is_sound row = list_any (λ host. is_damaged_block v (is_sound host
 -- of each host, whether its block is
 abbrev pub damaged_in : Version → (ℕ → List ℕ → Bool) → List ℕ → List Bool
 damaged_in v is_sound row = map (λ host. is_damaged_block v (is_sound host) (block_of v host row)) (hosts v)
-
-abbrev pub AreDamaged : (ℕ → List ℕ → Type 0) → List ℕ → List Bool → Type 0
-AreDamaged = by.AreDamaged cluster_version
-
-abbrev pub is_damaged_block : (List ℕ → Bool) → List ℕ → Bool
-is_damaged_block = by.is_damaged_block cluster_version
-
-abbrev pub hosts : List ℕ
-hosts = by.hosts cluster_version
-
-abbrev pub has_damage : (ℕ → List ℕ → Bool) → List ℕ → Bool
-has_damage = by.has_damage cluster_version
-
-abbrev pub damaged_in : (ℕ → List ℕ → Bool) → List ℕ → List Bool
-damaged_in = by.damaged_in cluster_version

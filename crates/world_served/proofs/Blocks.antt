@@ -44,7 +44,7 @@ block_kept slots mine other disk new call answer is_mine is_other differ image w
 -- a sound row is its blocks
 pub row_is_seen : (bytes : List ℕ) (row : List DecodedBlock) → decoded_row cluster_version bytes ≡ Some row → row ≡ row_seen cluster_version bytes
 unfolding decoded_row
-row_is_seen bytes row is = go (has_damage (is_sound cluster_version) bytes) is
+row_is_seen bytes row is = go (has_damage cluster_version (is_sound cluster_version) bytes) is
   where
     go : (b : Bool) → (if b then None else Some (row_seen cluster_version bytes)) ≡ Some row → row ≡ row_seen cluster_version bytes
     go true is = absurd (cc)
