@@ -40,15 +40,17 @@ task_is v c h m k task leads is =
     doing_is v c h m m.doing task k.attempt (subst P is leads.doing)
 
 -- a ballot counts
-pub counted : (v : Version) (c : Shape) (h : ℕ) (m : Memory) (old new : Kept) (ballot : ℕ) → LeadsTo v c h m old → is_idle new ≡ true → new.shape ≡ old.shape → new.host ≡ old.host → new.learned ≡ old.learned → new.floor ≡ max old.floor ballot → new.said ≡ None → LeadsTo v c h (with_floor m ballot) new
-counted v c h m old new ballot leads idle shape is_host learned floor said = record {
-  shape = shape ∙ leads.shape;
-  is_host = is_host ∙ leads.is_host;
-  learned = learned ∙ leads.learned;
-  floor = floor ∙ ap (λ (n : ℕ). max n ballot) leads.floor;
-  said = said;
-  doing = idle_doing v c h (with_floor m ballot) new.task new.attempt idle;
-}
+pub counted : (v : Version) (c : Shape) (h : ℕ) (m : Memory) (old new : Kept) (task : Option LogTask) (attempt : Notes) (ballot : ℕ) → LeadsTo v c h m old → is_idle_with task ≡ true → new ≡ record old { floor = max old.floor ballot; task = task; attempt = attempt; said = None } → LeadsTo v c h (with_floor m ballot) new
+counted v c h m old new task attempt ballot leads idle is =
+    let Known : Kept → Type 0 = λ k. LeadsTo v c h (with_floor m ballot) k in
+    subst Known (sym is) (record {
+      shape = leads.shape;
+      is_host = leads.is_host;
+      learned = leads.learned;
+      floor = ap (λ (n : ℕ). max n ballot) leads.floor;
+      said = refl;
+      doing = idle_doing v c h (with_floor m ballot) task attempt idle;
+    })
 
 -- with more tries left an attempt begins
 one_more_try : (m : Memory) (operation : Operation) (tries : ℕ) → 1 < tries → tries_again m operation tries ≡ begins m operation (tries - 1)

@@ -2,7 +2,7 @@ use Rattle.std.proofs.Common.{Option, sym, ◌∙◌, ap, subst}
 use Rattle.std.specs.Option.{option_map}
 use Rattle.slot_log.specs.declared.operation.LogTask as code_task
 use Rattle.slot_log.specs.Learning.{Memory, setup_of, takes}
-use Rattle.slot_log.specs.Kept.{kept_of, task_as, Kept, LeadsTo, is_idle, is_idle_with}
+use Rattle.slot_log.specs.Kept.{kept_of, task_as, Kept, LeadsTo, is_idle_with}
 use Rattle.slot_log.proofs.Learners.{task_is, counted, finished, refuses_value, takes_value}
 use Rattle.slot_log.proofs.learner.Learner.take.Goals as goal
 
@@ -37,15 +37,8 @@ returns-else-is_command-clause-leads g c c' h m leads =
     let ballot = c.ballot-ballot.result in
     let took = c.ballot-ballot.ensures (setup_of v c' h m t.operation) t.heard doing.2.heard in
     let ends = refuses_value v c' h m t (spelled c.in-Some.value) ballot doing.1 (sym (ap (option_map spelled) c.in-Some.is) ∙ c.offered.ensures.value c' h m leads) took in
-    let is = c.count_ballot.ensures in
     let P : Memory → Type 0 = λ n. LeadsTo v c' h n c.finish.new.self in
     subst P (sym (ap (takes v c' h m m.doing) c.if-is_command.false ∙ ends))
     (finished v c' h _ c.count_ballot.new.self c.finish.new.self _
-    (counted v c' h m k c.count_ballot.new.self ballot leads'
-    (ap is_idle is ∙ ap (λ (o : Option (code_task.LogTask g.row.L-Value.Denot)). is_idle_with (option_map (task_as spelled) o)) c.take.ensures.after)
-    (ap (λ (k : Kept). k.shape) is)
-    (ap (λ (k : Kept). k.host) is)
-    (ap (λ (k : Kept). k.learned) is)
-    (ap (λ (k : Kept). k.floor) is)
-    (ap (λ (k : Kept). k.said) is))
+    (counted v c' h m k c.count_ballot.new.self _ _ ballot leads' (ap (λ (o : Option (code_task.LogTask g.row.L-Value.Denot)). is_idle_with (option_map (task_as spelled) o)) c.take.ensures.after) c.count_ballot.ensures)
     c.finish.ensures)
