@@ -1,7 +1,7 @@
 -- How a loop fills a range, or the marked positions, one at a time.
 use Rattle.std.proofs.Common.{◌≡◌, ℕ, ◌+◌, ◌-◌, ◌%◌, ◌<◌, ◌≤◌, min, zero, suc, Bool, true, false, List, [], ◌∷◌, ◌++◌, length, get_or, set, take, drop, refl, sym, ◌∙◌, ap, arith, append_assoc, length-append}
 use Rattle.std.proofs.Math.Nat.{mod-eq_of_lt, mod-add-mod, mod-mod}
-use Rattle.std.proofs.lemmas.List.{take_all, drop_more, drop-set-lt, take_more_set, take_more, set_at, length-take-le}
+use Rattle.std.proofs.lemmas.List.{take_all, drop_all, append-nil, drop_more, drop-set-lt, take_more_set, take_more, set_at, length-take-le}
 use Rattle.disk.specs.Disk.{put_at, KeepsSynced}
 use Rattle.disk.specs.Filling.{nth_given, spread, filled}
 
@@ -130,6 +130,14 @@ taken given turn flags bytes i under within same is =
     filled_true given turn flags bytes i within same is
     ∙ ap (λ (v : ℕ). when_filled given (turn + 1) flags (set bytes i v) (i + 1)) own
     ∙ ap (λ (l : List ℕ). take (i + 1) new ++ l) (filled_turn given (turn + 1) ((turn + 1) % n) (drop (i + 1) flags) (drop (i + 1) new) (sym (mod-mod (turn + 1) n)))
+
+-- at the end all are filled
+pub all_filled : (given : List ℕ) (turn : ℕ) (flags : List Bool) (bytes : List ℕ) (i : ℕ) → length bytes ≤ i → length flags ≤ i → when_filled given turn flags bytes i ≡ bytes
+all_filled given turn flags bytes i long marked =
+    ap (λ (l : List ℕ). l ++ filled given turn (drop i flags) (drop i bytes)) (take_all i bytes long)
+    ∙ ap (λ (l : List Bool). bytes ++ filled given turn l (drop i bytes)) (drop_all i flags marked)
+    ∙ ap (λ (l : List ℕ). bytes ++ l) (drop_all i bytes long)
+    ∙ append-nil bytes
 
 -- no byte is lost or gained, however many flags there are
 pub filled_length : (given : List ℕ) (next : ℕ) (flags : List Bool) (bytes : List ℕ) → length (filled given next flags bytes) ≡ length bytes

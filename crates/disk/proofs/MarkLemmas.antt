@@ -6,8 +6,9 @@ use Rattle.std.proofs.lemmas.List.FromFn.{length-map-range_with_len, get_or-map-
 use Rattle.std.proofs.lemmas.Nat.Bits.{bit_at-zero}
 use Rattle.std.specs.Int.{bit_at}
 use Rattle.disk.specs.Disk.{put_at}
-use Rattle.disk.proofs.CrashLemmas.{length-put, put-below, put-inside, put-above}
+use Rattle.disk.proofs.CrashLemmas.{length-put}
 use Rattle.disk.proofs.ListLemmas.{get_or_more}
+use Rattle.disk.proofs.PutLemmas.{put_each}
 use Rattle.disk.specs.declared.word.Word.{Word}
 use Rattle.disk.specs.Marks.{blank, is_marked_in, is_marked, marks, all_marks}
 
@@ -21,13 +22,12 @@ get_or-marks epoch words size k within = get_or-map-range_with_len (is_marked ep
 
 -- between the two lists of words the range alone was marked
 pub record MarksRange (epoch at end : ℕ) (old new : List Word) : Type 0 where
-  pub below : (k : ℕ) → k < at → is_marked epoch new k ≡ is_marked epoch old k
   pub inside : (k : ℕ) → at ≤ k → k < end → is_marked epoch new k ≡ true
-  pub above : (k : ℕ) → end ≤ k → is_marked epoch new k ≡ is_marked epoch old k
+  pub outside : (k : ℕ) → (at ≤ k → k < end → ⊥) → is_marked epoch new k ≡ is_marked epoch old k
 
 -- as a list of flags: the range is put into it
-pub marks_put : (epoch at end size : ℕ) (old new : List Word) → at ≤ end → end ≤ size → MarksRange epoch at end old new → marks epoch new size ≡ put_at (marks epoch old size) at (replicate (end - at) true)
-marks_put epoch at end size old new order fits range =
+pub marks_put : (epoch at end reached : ℕ) (old new : List Word) → at ≤ end → reached ≡ end → MarksRange epoch at reached old new → (size : ℕ) → end ≤ size → marks epoch new size ≡ put_at (marks epoch old size) at (replicate (end - at) true)
+marks_put epoch at end reached old new order all range size fits =
     let flags = marks epoch old size in
     let run = replicate (end - at) true in
     let n : length run ≡ end - at = length-replicate (end - at) true in
@@ -36,22 +36,9 @@ marks_put epoch at end size old new order fits range =
     (λ k inside.
     let k_in : k < size = omega (arith, length-marks epoch new size) in
     let now = get_or-marks epoch new size k k_in in
-    let before = get_or-marks epoch old size k k_in in
-    elim (cases_lt k at) [
-      | inl below ↦ now ∙ range.below k below ∙ sym before ∙ sym (put-below flags at run within false k below)
-      | inr from ↦
-          elim (cases_lt k end) [
-            | inl under ↦
-                (let j = k - at in
-                let e : at + j ≡ k = omega arith in
-                let put : get_or (put_at flags at run) k false ≡ true =
-                ap (λ (i : ℕ). get_or (put_at flags at run) i false) (sym e)
-                ∙ put-inside flags at run within false j (omega (arith, n))
-                ∙ get_or-replicate (end - at) j true false (omega arith) in
-                now ∙ range.inside k from under ∙ sym put)
-            | inr over ↦ now ∙ range.above k over ∙ sym before ∙ sym (put-above flags at run within false k (omega (arith, n)))
-          ]
-    ])
+    put_each flags run at false within (λ (b : Bool). get_or (marks epoch new size) k false ≡ b) k
+    (λ j is under. now ∙ range.inside k (omega (arith, is)) (omega (arith, is, under, n, all)) ∙ sym (get_or-replicate (end - at) j true false (omega (arith, under, n))))
+    (λ off. now ∙ range.outside k (λ from under. off from (omega (arith, under, n, all, order))) ∙ sym (get_or-marks epoch old size k k_in)))
 
 -- ONE WORD MORE
 
@@ -83,11 +70,6 @@ module _ (epoch at end i from to : ℕ) (old words : List Word) (cell word : Wor
   pub marks_more : MarksRange epoch at (reached at end i) old words → MarksPlaces epoch from to cell word → MarksRange epoch at (reached at end (i + 1)) old (set words i word)
   marks_more range places =
       record {
-        below = λ k below.
-            elim (cases_eq (k / 64) i) [
-              | inl e ↦ in_word epoch words i word within k e ∙ places.below (k % 64) (omega arith) ∙ was_in_word k e ∙ range.below k below
-              | inr other ↦ in_other epoch words i word within k other ∙ range.below k below
-            ];
         inside = λ k from under.
             elim (cases_eq (k / 64) i) [
               | inl e ↦ in_word epoch words i word within k e ∙ places.inside (k % 64) (omega arith) (omega arith)
@@ -95,10 +77,13 @@ module _ (epoch at end i from to : ℕ) (old words : List Word) (cell word : Wor
                   (let before : k < 64 * i = elim (cases_lt k (64 * i)) [ inl l ↦ l | inr g ↦ (let e : k / 64 ≡ i = omega arith in absurd (other e)) ] in
                   in_other epoch words i word within k other ∙ range.inside k from (omega arith))
             ];
-        above = λ k over.
+        outside = λ k out.
             elim (cases_eq (k / 64) i) [
-              | inl e ↦ in_word epoch words i word within k e ∙ places.above (k % 64) (omega arith) ∙ was_in_word k e ∙ range.above k (omega arith)
-              | inr other ↦ in_other epoch words i word within k other ∙ range.above k (omega arith)
+              | inl e ↦
+                  (let above : from ≤ k % 64 → to ≤ k % 64 = λ past. elim (cases_lt (k % 64) to) [ inl under ↦ absurd (out (omega arith) (omega arith)) | inr over ↦ over ] in
+                  let here : is_marked_in epoch word (k % 64) ≡ is_marked_in epoch cell (k % 64) = elim (cases_lt (k % 64) from) [ inl below ↦ places.below (k % 64) below | inr past ↦ places.above (k % 64) (above past) ] in
+                  in_word epoch words i word within k e ∙ here ∙ was_in_word k e ∙ range.outside k (λ first under. out first (omega arith)))
+              | inr other ↦ in_other epoch words i word within k other ∙ range.outside k (λ from under. out from (omega arith))
             ];
       }
 

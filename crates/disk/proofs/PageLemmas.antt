@@ -1,32 +1,29 @@
 -- Where a disk was ever written, after a write, and what that says of a page.
-use Rattle.std.proofs.Common.{◌≡◌, ℕ, ◌+◌, ◌-◌, ◌*◌, ◌/◌, ◌%◌, ◌<◌, ◌≤◌, Bool, false, List, [], ◌++◌, length, get_or, take, drop, replicate, sym, ◌∙◌, ap, subst, inl, inr, arith, length-drop}
-use Rattle.std.specs.Prelude.{slice_range}
+use Rattle.std.proofs.Common.{◌≡◌, ℕ, ◌+◌, ◌-◌, ◌*◌, ◌/◌, ◌%◌, ◌^◌, ◌<◌, ◌≤◌, Bool, false, List, Vec, Global, [], ◌++◌, length, get_or, take, drop, replicate, sym, ◌∙◌, ap, subst, inl, inr, arith, length-drop}
+use Rattle.std.specs.Prelude.{slice_range, vec_capacity}
 use Rattle.std.proofs.lemmas.Bool.{cases_lt}
 use Rattle.std.proofs.lemmas.List.{get_or-replicate, length-replicate, ext_get_or, length-take-le, get_or-take, get_or-drop, drop-drop, take-append-drop, take-append-le, take_all, drop_all, append-nil}
 use Rattle.std.proofs.Math.Seq.{take-append-add}
 use Rattle.disk.specs.declared.pages.Page.{Page}
+use Rattle.disk.specs.declared.word.Word.{Word}
 use Rattle.disk.specs.Disk.{put_at}
 use Rattle.disk.specs.Filling.{filled}
+use Rattle.disk.specs.Marks.{marks, all_marks}
 use Rattle.disk.specs.Pages.{nth_page, home, seen, HaveRooms, Covers, BlankOutside}
-use Rattle.disk.proofs.CrashLemmas.{put-below, put-above}
-use Rattle.disk.proofs.FillingLemmas.{unmarked_stays}
+use Rattle.disk.proofs.FillingLemmas.{when_filled, unmarked_stays}
 use Rattle.disk.proofs.ListLemmas.{get_or_more}
-use Rattle.disk.proofs.RoomLemmas.{range_kept}
-use Rattle.disk.proofs.SeenLemmas.{length-seen, home_in, seen_range}
+use Rattle.disk.proofs.MarkLemmas.{none_marked, none_at_first}
+use Rattle.disk.proofs.PutLemmas.{put_each}
+use Rattle.disk.proofs.RoomLemmas.{is_given, range_kept}
+use Rattle.disk.proofs.SeenLemmas.{length-seen, home_in, seen_blank, seen_range}
 
 -- A WRITE
 
 outside_put : {X : Type 0} (old new : List Page) (xs items : List X) (at end : ℕ) (d : X) → end ≡ at + length items → at + length items ≤ length xs → ((k : ℕ) → Covers old k → Covers new k) → ((k : ℕ) → at ≤ k → k < end → Covers new k) → ((k : ℕ) → (Covers old k → ⊥) → get_or xs k d ≡ d) → (k : ℕ) → (Covers new k → ⊥) → get_or (put_at xs at items) k d ≡ d
-outside_put old new xs items at end d is_end within keeps range blank k out =
-    let before : get_or xs k d ≡ d = blank k (λ covers. out (keeps k covers)) in
-    elim (cases_lt k at) [
-      | inl below ↦ put-below xs at items within d k below ∙ before
-      | inr from ↦
-          elim (cases_lt k end) [
-            | inl under ↦ absurd (out (range k from under))
-            | inr over ↦ put-above xs at items within d k (omega arith) ∙ before
-          ]
-    ]
+outside_put {X} old new xs items at end d is_end within keeps range blank k out =
+    put_each xs items at d within (λ (x : X). x ≡ d) k
+    (λ j is inside. absurd (out (range k (omega (arith, is)) (omega (arith, is, inside, is_end)))))
+    (λ off. blank k (λ covers. out (keeps k covers)))
 
 pub blank_put : (old new : List Page) (bytes left : List ℕ) (flags run : List Bool) (at end : ℕ) → end ≡ at + length left → length run ≡ length left → at + length left ≤ length bytes → length flags ≡ length bytes → ((k : ℕ) → Covers old k → Covers new k) → ((k : ℕ) → at ≤ k → k < end → Covers new k) → BlankOutside old bytes flags → BlankOutside new (put_at bytes at left) (put_at flags at run)
 blank_put old new bytes left flags run at end is_end long within same keeps range blank =
@@ -39,10 +36,33 @@ pub blank_fresh : (pages : List Page) (m n : ℕ) → BlankOutside pages (replic
 blank_fresh pages m n =
     record { bytes = λ k out. get_or_more [] m k 0; flags = λ k out. get_or_more [] n k false }
 
+-- where nothing is kept zeros are seen
+pub zeros_seen : (pages : List Page) (size : ℕ) {bytes : List ℕ} → bytes ≡ [] → seen pages 0 bytes size ≡ replicate size 0
+zeros_seen pages size {bytes} none = seen_blank pages 0 bytes size (λ j. ap (λ (l : List ℕ). get_or l j 0) none)
+
+-- nor is anything marked there
+pub first_seen : (pages : List Page) (size : ℕ) {words : List Word} → words ≡ [] → seen pages false (all_marks 1 words) size ≡ replicate size false
+first_seen pages size {words} none =
+    seen_blank pages false (all_marks 1 words) size (λ j. ap (λ (l : List Word). get_or (all_marks 1 l) j false) none ∙ none_at_first j)
+
 -- once nothing is marked
+pub none_seen : (pages : List Page) (epoch size : ℕ) (words : List Word) → ((m : ℕ) → marks epoch words m ≡ replicate m false) → seen pages false (all_marks epoch words) size ≡ replicate size false
+none_seen pages epoch size words none =
+    seen_blank pages false (all_marks epoch words) size (λ j. none_marked epoch words j none)
+
+-- then, too, nothing is marked outside the ranges
 pub blank_settled : (pages : List Page) (bytes : List ℕ) (flags : List Bool) (n : ℕ) → BlankOutside pages bytes flags → BlankOutside pages bytes (replicate n false)
 blank_settled pages bytes flags n blank =
     record { bytes = blank.bytes; flags = λ k out. get_or_more [] n k false }
+
+-- the marked positions before a place are filled, and the byte at `next` is the next
+abbrev pub filling : List ℕ → List Page → List Bool → ℕ → Vec ℕ Global → Vec ℕ Global → ℕ → ℕ → Type 0
+filling given pages flags size old new next at = record {
+  turn : next < length given;
+  capacity : vec_capacity new ≡ vec_capacity old;
+  as_many : length new.items ≡ length old.items;
+  so_far : filled given 0 flags (seen pages 0 old.items size) ≡ when_filled given next flags (seen pages 0 new.items size) at;
+}
 
 -- a crash fills marked positions alone
 pub blank_filled : (pages : List Page) (given : List ℕ) (bytes : List ℕ) (flags : List Bool) → BlankOutside pages bytes flags → BlankOutside pages (filled given 0 flags bytes) flags
@@ -83,6 +103,13 @@ zeros_around l at n from to order last within before behind =
     ∙ ap (λ (ys : List ℕ). replicate from 0 ++ (take (to - from) (drop (at + from) l) ++ ys)) (zeros_run l (at + to) (n - to) (omega arith) (λ k under.
     let e : at + (to + k) ≡ at + to + k = omega arith in
     ap (λ (j : ℕ). get_or l j 0) (sym e) ∙ behind (to + k) (omega arith) (omega arith)))
+
+-- what is kept of a range of one page that has room is what is seen of it
+pub range_read : (pages : List Page) (bytes : List ℕ) (at n size : ℕ) (page : Page) → HaveRooms pages (length bytes) → page ≡ nth_page pages (at / 4096) → (page.room ≡ 2 ^ 64 - 1 → ⊥) → at % 4096 + n ≤ 4096 → at + n ≤ size → slice_range bytes (4096 * page.room + at % 4096) (4096 * page.room + at % 4096 + n) ≡ slice_range (seen pages 0 bytes size) at (at + n)
+range_read pages bytes at n size page rooms is given one within =
+    let room = ap (λ (p : Page). p.room) is in
+    ap (λ (r : ℕ). slice_range bytes (4096 * r + at % 4096) (4096 * r + at % 4096 + n)) room
+    ∙ sym (seen_range pages 0 bytes at n size rooms one (is_given pages (length bytes) (at / 4096) rooms (λ far. given (room ∙ far))) within)
 
 -- what is left once both parts of a list were written
 pub in_two : {X : Type 0} (into one two : List X) (k : ℕ) → k ≤ length into → length one ≡ k → take k (one ++ drop k into) ++ (two ++ drop (length (one ++ drop k into) - k) (drop k (one ++ drop k into))) ≡ one ++ two

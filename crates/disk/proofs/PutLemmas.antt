@@ -1,14 +1,30 @@
 -- A list with some items put in its middle.
-use Rattle.std.proofs.Common.{◌≡◌, ℕ, ◌+◌, ◌≤◌, Bool, true, List, [], ◌++◌, length, take, drop, replicate, sym, ◌∙◌, ap, inl, inr, arith, append_assoc, length-append, length-drop}
+use Rattle.std.proofs.Common.{◌≡◌, ℕ, ◌+◌, ◌-◌, ◌<◌, ◌≤◌, Bool, true, List, [], ◌++◌, length, get_or, take, drop, replicate, sym, ◌∙◌, ap, subst, inl, inr, arith, append_assoc, length-append, length-drop}
 use Rattle.std.proofs.lemmas.Bool.{cases_lt}
 use Rattle.std.proofs.lemmas.List.{length-replicate, replicate-append-replicate, length-take-le, take_all, drop_all, append-nil, drop-drop, take-append-drop}
 use Rattle.std.proofs.Math.Seq.{take-append-add, drop-append-add}
 use Rattle.disk.specs.Disk.{put_at}
 use Rattle.disk.specs.Image.{Contents, overwritten}
+use Rattle.disk.proofs.CrashLemmas.{put-below, put-inside, put-above}
 
 pub length-put_at : {X : Type 0} (old : List X) (at : ℕ) (items : List X) → at + length items ≤ length old → length (put_at old at items) ≡ length old
 length-put_at old at items within =
     omega (arith, length-append (take at old ++ items) (drop (at + length items) old), length-append (take at old) items, length-take-le at old (omega arith), length-drop (at + length items) old)
+
+-- what holds of an item once some are put: of one of those, or of what was there
+pub put_each : {X : Type 0} (old items : List X) (at : ℕ) (d : X) → at + length items ≤ length old → (P : X → Type 0) (k : ℕ) → ((j : ℕ) → at + j ≡ k → j < length items → P (get_or items j d)) → ((at ≤ k → k < at + length items → ⊥) → P (get_or old k d)) → P (get_or (put_at old at items) k d)
+put_each old items at d within P k inside outside =
+    elim (cases_lt k at) [
+      | inl below ↦ subst P (sym (put-below old at items within d k below)) (outside (λ from under. omega arith))
+      | inr from ↦
+          elim (cases_lt k (at + length items)) [
+            | inl under ↦
+                (let e : at + (k - at) ≡ k = omega arith in
+                let is = ap (λ (i : ℕ). get_or (put_at old at items) i d) (sym e) ∙ put-inside old at items within d (k - at) (omega arith) in
+                subst P (sym is) (inside (k - at) e (omega arith)))
+            | inr over ↦ subst P (sym (put-above old at items within d k over)) (outside (λ first under. omega arith))
+          ]
+    ]
 
 -- nothing put changes nothing
 pub put_nothing : {X : Type 0} (old : List X) (at : ℕ) → put_at old at [] ≡ old

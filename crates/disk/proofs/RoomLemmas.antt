@@ -7,9 +7,9 @@ use Rattle.std.proofs.lemmas.List.{get_or-set_same, get_or-set_other, get_or_pas
 use Rattle.std.proofs.lemmas.List.Folds.{sum_by-replicate}
 use Rattle.std.proofs.lemmas.List.Sums.{sum_by-set, count_by-le-length}
 use Rattle.disk.specs.declared.pages.Page.{Page}
-use Rattle.disk.specs.Pages.{unwritten, nth_page, home, has_room, HaveRooms, Covers}
+use Rattle.disk.specs.Pages.{unwritten, nth_page, home, has_room, seen, HaveRooms, Covers}
 use Rattle.disk.proofs.ListLemmas.{get_or_more}
-use Rattle.disk.proofs.SeenLemmas.{whole_room}
+use Rattle.disk.proofs.SeenLemmas.{seen_same, whole_room}
 
 -- COUNTS
 
@@ -33,6 +33,14 @@ count_none {X} p n y missing =
     sum_by-replicate f n y ∙ ap (λ (k : ℕ). n * k) is ∙ (let z : n * 0 ≡ 0 = omega arith in z)
 
 -- ROOMS
+
+-- what holds of the page that was set, and of each other page as before
+set_each : (pages : List Page) (i : ℕ) (page : Page) → i < length pages → (P : Page → Type 0) (j : ℕ) → (j ≡ i → P page) → ((j ≡ i → ⊥) → P (nth_page pages j)) → P (nth_page (set pages i page) j)
+set_each pages i page within P j at_i off =
+    elim (cases_eq j i) [
+      | inl is ↦ subst (λ (k : ℕ). P (nth_page (set pages i page) k)) (sym is) (subst P (sym (get_or-set_same pages i page unwritten within)) (at_i is))
+      | inr not ↦ subst P (sym (get_or-set_other pages i j page unwritten not)) (off not)
+    ]
 
 -- a fresh disk keeps nothing
 pub rooms_fresh : (n : ℕ) → HaveRooms (replicate n unwritten) 0
@@ -77,16 +85,33 @@ pub in_range : (pages : List Page) (n i : ℕ) (page : Page) → HaveRooms pages
 in_range pages n i page rooms is written =
     omega (arith, ap (λ (p : Page). p.room) is, whole_room pages n i rooms (range_kept pages n i page rooms is written))
 
+-- a range within that of its page: it is in one page, is kept, and is covered
+pub record InPage (pages : List Page) (n at len : ℕ) (page : Page) : Type 0 where
+  pub is : page ≡ nth_page pages (at / 4096)
+  pub one : at % 4096 + len ≤ 4096
+  pub kept : 4096 * page.room + 4096 ≤ n
+  pub covered : (k : ℕ) → at ≤ k → k < at + len → Covers pages k
+
+pub in_page : (pages : List Page) (n at len : ℕ) (page : Page) → HaveRooms pages n → page ≡ nth_page pages (at / 4096) → page.from ≤ at % 4096 → at % 4096 + len ≤ page.to → InPage pages n at len page
+in_page pages n at len page rooms is low high =
+    let one : at % 4096 + len ≤ 4096 = omega (arith, high, ap (λ (p : Page). p.to) is, rooms.within (at / 4096)) in
+    record {
+      is = is;
+      one = one;
+      kept = in_range pages n (at / 4096) page rooms is (omega (arith, low));
+      covered = λ k from under.
+          let there : k / 4096 ≡ at / 4096 = omega (arith, one, from, under) in
+          let here : nth_page pages (k / 4096) ≡ page = ap (nth_page pages) there ∙ sym is in
+          record {
+            from = omega (arith, low, ap (λ (p : Page). p.from) here, from, there);
+            to = omega (arith, high, ap (λ (p : Page). p.to) here, under, there, from, one);
+          };
+    }
+
 -- a page that had no room gets the next
 module _ (pages : List Page) (n i : ℕ) (page : Page) (rooms : HaveRooms pages n) (small : n < 2 ^ 64) (within : i < length pages) (nowhere : (nth_page pages i).room ≡ 2 ^ 64 - 1) (next : 4096 * page.room ≡ n) (from : page.from ≡ 4096) (to : page.to ≡ 0) where
   was : nth_page pages i ≡ unwritten
   was = none_given pages n i rooms nowhere small
-
-  here : nth_page (set pages i page) i ≡ page
-  here = get_or-set_same pages i page unwritten within
-
-  there : (j : ℕ) → (j ≡ i → ⊥) → nth_page (set pages i page) j ≡ nth_page pages j
-  there j not = get_or-set_other pages i j page unwritten not
 
   -- the next room is nobody's yet
   not_here : (j : ℕ) → (nth_page pages j).room ≡ page.room → ⊥
@@ -105,102 +130,53 @@ module _ (pages : List Page) (n i : ℕ) (page : Page) (rooms : HaveRooms pages 
   pub is_room : n + 4096 ≤ 4096 * length pages
   is_room = omega (arith, one_more, count_by-le-length has_room (set pages i page), length-set pages i page, rooms.all)
 
+  -- what is known of a room among those of before
+  under_n : (a : ℕ) → 4096 * (nth_page pages a).room < n + 4096 → 4096 * (nth_page pages a).room < n
+  under_n a under =
+      elim (cases_lt (4096 * (nth_page pages a).room) n) [
+        | inl u ↦ u
+        | inr past ↦ (let far : (nth_page pages a).room ≡ 2 ^ 64 - 1 = ap (λ (p : Page). p.room) (rooms.others a past) in absurd (omega (arith, far, under, small)))
+      ]
+
   pub rooms_given : HaveRooms (set pages i page) (n + 4096)
   rooms_given =
+      let each = set_each pages i page within in
       record {
-        own = λ a b same under.
-            elim (cases_eq a i) [
-              | inl a_is ↦
-                  elim (cases_eq b i) [
-                    | inl b_is ↦ a_is ∙ sym b_is
-                    | inr b_not ↦
-                        (let e : (nth_page pages b).room ≡ page.room =
-                        ap (λ (p : Page). p.room) (sym (there b b_not)) ∙ sym same ∙ ap (λ (j : ℕ). (nth_page (set pages i page) j).room) a_is ∙ ap (λ (p : Page). p.room) here in
-                        absurd (not_here b e))
-                  ]
-              | inr a_not ↦
-                  (let a_room : (nth_page (set pages i page) a).room ≡ (nth_page pages a).room = ap (λ (p : Page). p.room) (there a a_not) in
-                  elim (cases_eq b i) [
-                    | inl b_is ↦
-                        (let e : (nth_page pages a).room ≡ page.room =
-                        sym a_room ∙ same ∙ ap (λ (j : ℕ). (nth_page (set pages i page) j).room) b_is ∙ ap (λ (p : Page). p.room) here in
-                        absurd (not_here a e))
-                    | inr b_not ↦
-                        (let b_room : (nth_page (set pages i page) b).room ≡ (nth_page pages b).room = ap (λ (p : Page). p.room) (there b b_not) in
-                        let under_n : 4096 * (nth_page pages a).room < n =
-                        elim (cases_lt (4096 * (nth_page pages a).room) n) [
-                          | inl u ↦ u
-                          | inr past ↦
-                              (let far : (nth_page pages a).room ≡ 2 ^ 64 - 1 = ap (λ (p : Page). p.room) (rooms.others a past) in
-                              absurd (omega (arith, far, a_room, under, small)))
-                        ] in
-                        rooms.own a b (sym a_room ∙ same ∙ b_room) under_n)
-                  ])
-            ];
-        others = λ j past.
-            elim (cases_eq j i) [
-              | inl is ↦
-                  (let e : (nth_page (set pages i page) j).room ≡ page.room = ap (λ (k : ℕ). (nth_page (set pages i page) k).room) is ∙ ap (λ (p : Page). p.room) here in
-                  absurd (omega (arith, e, past, next)))
-              | inr not ↦
-                  (let e : (nth_page (set pages i page) j).room ≡ (nth_page pages j).room = ap (λ (p : Page). p.room) (there j not) in
-                  there j not ∙ rooms.others j (omega (arith, e, past)))
-            ];
-        within = λ j.
-            elim (cases_eq j i) [
-              | inl is ↦
-                  (let e : (nth_page (set pages i page) j).to ≡ page.to = ap (λ (k : ℕ). (nth_page (set pages i page) k).to) is ∙ ap (λ (p : Page). p.to) here in
-                  omega (arith, e, to))
-              | inr not ↦
-                  (let e : (nth_page (set pages i page) j).to ≡ (nth_page pages j).to = ap (λ (p : Page). p.to) (there j not) in
-                  omega (arith, e, rooms.within j))
-            ];
+        own = λ a b. each (λ (p : Page). p.room ≡ (nth_page (set pages i page) b).room → 4096 * p.room < n + 4096 → a ≡ b) a
+            (λ a_is. each (λ (p : Page). page.room ≡ p.room → 4096 * page.room < n + 4096 → a ≡ b) b (λ b_is same under. a_is ∙ sym b_is) (λ off same under. absurd (not_here b (sym same))))
+            (λ off. each (λ (p : Page). (nth_page pages a).room ≡ p.room → 4096 * (nth_page pages a).room < n + 4096 → a ≡ b) b (λ b_is same under. absurd (not_here a same)) (λ off same under. rooms.own a b same (under_n a under)));
+        others = λ j. each (λ (p : Page). n + 4096 ≤ 4096 * p.room → p ≡ unwritten) j (λ is past. absurd (omega (arith, past, next))) (λ off past. rooms.others j (omega (arith, past)));
+        within = λ j. each (λ (p : Page). p.to ≤ 4096) j (λ is. omega (arith, to)) (λ off. rooms.within j);
         all = omega (arith, one_more, rooms.all);
       }
 
   -- where it had none before nothing was covered, and nothing is
   pub same_covers : (k : ℕ) → (Covers (set pages i page) k → Covers pages k) × (Covers pages k → Covers (set pages i page) k)
   same_covers k =
-      let a : (nth_page (set pages i page) (k / 4096)).from ≡ (nth_page pages (k / 4096)).from =
-      elim (cases_eq (k / 4096) i) [
-        | inl is ↦
-            ap (λ (j : ℕ). (nth_page (set pages i page) j).from) is ∙ ap (λ (p : Page). p.from) here ∙ from ∙ ap (λ (p : Page). p.from) (sym was) ∙ ap (λ (j : ℕ). (nth_page pages j).from) (sym is)
-        | inr not ↦ ap (λ (p : Page). p.from) (there (k / 4096) not)
-      ] in
-      let b : (nth_page (set pages i page) (k / 4096)).to ≡ (nth_page pages (k / 4096)).to =
-      elim (cases_eq (k / 4096) i) [
-        | inl is ↦ ap (λ (j : ℕ). (nth_page (set pages i page) j).to) is ∙ ap (λ (p : Page). p.to) here ∙ to ∙ ap (λ (p : Page). p.to) (sym was) ∙ ap (λ (j : ℕ). (nth_page pages j).to) (sym is)
-        | inr not ↦ ap (λ (p : Page). p.to) (there (k / 4096) not)
-      ] in (
+      let each = set_each pages i page within in
+      let before : (j : ℕ) → j ≡ i → nth_page pages j ≡ unwritten = λ j is. ap (nth_page pages) is ∙ was in
+      let a = each (λ (p : Page). p.from ≡ (nth_page pages (k / 4096)).from) (k / 4096) (λ is. from ∙ ap (λ (p : Page). p.from) (sym (before (k / 4096) is))) (λ off. refl) in
+      let b = each (λ (p : Page). p.to ≡ (nth_page pages (k / 4096)).to) (k / 4096) (λ is. to ∙ ap (λ (p : Page). p.to) (sym (before (k / 4096) is))) (λ off. refl) in (
         λ covers. record { from = omega (arith, covers.from, a); to = omega (arith, covers.to, b) },
         λ covers. record { from = omega (arith, covers.from, a); to = omega (arith, covers.to, b) },
       )
 
   -- what is added is blank, so the same is seen
-  pub same_seen : {X : Type 0} (blank : X) (old new : List X) (k : ℕ) → ((q : ℕ) → get_or new q blank ≡ get_or old q blank) → length old ≤ n → get_or new (home (set pages i page) k) blank ≡ get_or old (home pages k) blank
-  same_seen {X} blank old new k same few =
+  pub same_seen : {X : Type 0} (blank : X) (old new : List X) → ((q : ℕ) → get_or new q blank ≡ get_or old q blank) → length old ≤ n → (size : ℕ) → seen (set pages i page) blank new size ≡ seen pages blank old size
+  same_seen {X} blank old new same few size =
+      seen_same pages (set pages i page) blank old new size (λ k inside.
       same (home (set pages i page) k)
-      ∙ elim (cases_eq (k / 4096) i) [
-        | inl is ↦
-            (let now : (nth_page (set pages i page) (k / 4096)).room ≡ page.room = ap (λ (j : ℕ). (nth_page (set pages i page) j).room) is ∙ ap (λ (p : Page). p.room) here in
-            let before : (nth_page pages (k / 4096)).room ≡ 2 ^ 64 - 1 = ap (λ (j : ℕ). (nth_page pages j).room) is ∙ nowhere in
-            get_or_past old (home (set pages i page) k) blank (let e : length old ≤ 4096 * (nth_page (set pages i page) (k / 4096)).room + k % 4096 = omega (arith, now, next, few) in e)
-            ∙ sym (get_or_past old (home pages k) blank (let e : length old ≤ 4096 * (nth_page pages (k / 4096)).room + k % 4096 = omega (arith, before, few, small) in e)))
-        | inr not ↦ ap (λ (p : Page). get_or old (4096 * p.room + k % 4096) blank) (there (k / 4096) not)
-      ]
+      ∙ set_each pages i page within (λ (p : Page). get_or old (4096 * p.room + k % 4096) blank ≡ get_or old (home pages k) blank) (k / 4096)
+      (λ is.
+      let before : (nth_page pages (k / 4096)).room ≡ 2 ^ 64 - 1 = ap (λ (j : ℕ). (nth_page pages j).room) is ∙ nowhere in
+      get_or_past old (4096 * page.room + k % 4096) blank (omega (arith, next, few))
+      ∙ sym (get_or_past old (home pages k) blank (let e : length old ≤ 4096 * (nth_page pages (k / 4096)).room + k % 4096 = omega (arith, before, few, small) in e)))
+      (λ off. refl))
 
 -- a page's range is widened
 module _ (pages : List Page) (i : ℕ) (page : Page) (within : i < length pages) (room : page.room ≡ (nth_page pages i).room) where
   same_room : (j : ℕ) → (nth_page (set pages i page) j).room ≡ (nth_page pages j).room
-  same_room j =
-      elim (cases_eq j i) [
-        | inl is ↦
-            ap (λ (k : ℕ). (nth_page (set pages i page) k).room) is
-            ∙ ap (λ (p : Page). p.room) (get_or-set_same pages i page unwritten within)
-            ∙ room
-            ∙ ap (λ (k : ℕ). (nth_page pages k).room) (sym is)
-        | inr not ↦ ap (λ (p : Page). p.room) (get_or-set_other pages i j page unwritten not)
-      ]
+  same_room j = set_each pages i page within (λ (p : Page). p.room ≡ (nth_page pages j).room) j (λ is. room ∙ ap (λ (k : ℕ). (nth_page pages k).room) (sym is)) (λ off. refl)
 
   pub same_home : (k : ℕ) → home (set pages i page) k ≡ home pages k
   same_home k = ap (λ (r : ℕ). 4096 * r + k % 4096) (same_room (k / 4096))
@@ -209,23 +185,8 @@ module _ (pages : List Page) (i : ℕ) (page : Page) (within : i < length pages)
   rooms_widened n last rooms here =
       record {
         own = λ a b same under. rooms.own a b (sym (same_room a) ∙ same ∙ same_room b) (omega (arith, same_room a, under));
-        others = λ j past.
-            elim (cases_eq j i) [
-              | inl is ↦
-                  (let e : (nth_page pages j).room ≡ (nth_page pages i).room = ap (λ (k : ℕ). (nth_page pages k).room) is in
-                  absurd (omega (arith, e, same_room j, past, here)))
-              | inr not ↦ get_or-set_other pages i j page unwritten not ∙ rooms.others j (omega (arith, same_room j, past))
-            ];
-        within = λ j.
-            elim (cases_eq j i) [
-              | inl is ↦
-                  (let e : (nth_page (set pages i page) j).to ≡ page.to =
-                  ap (λ (k : ℕ). (nth_page (set pages i page) k).to) is ∙ ap (λ (p : Page). p.to) (get_or-set_same pages i page unwritten within) in
-                  omega (arith, e, last))
-              | inr not ↦
-                  (let e : (nth_page (set pages i page) j).to ≡ (nth_page pages j).to = ap (λ (p : Page). p.to) (get_or-set_other pages i j page unwritten not) in
-                  omega (arith, e, rooms.within j))
-            ];
+        others = λ j. set_each pages i page within (λ (p : Page). n ≤ 4096 * p.room → p ≡ unwritten) j (λ is past. absurd (omega (arith, room, past, here))) (λ off past. rooms.others j past);
+        within = λ j. set_each pages i page within (λ (p : Page). p.to ≤ 4096) j (λ is. last) (λ off. rooms.within j);
         all =
             (let same : has_room page ≡ has_room (nth_page pages i) = ap (λ (r : ℕ). nat_lt r (2 ^ 64 - 1)) room in
             omega (arith, count_same has_room pages i page unwritten within same, rooms.all));
@@ -233,26 +194,17 @@ module _ (pages : List Page) (i : ℕ) (page : Page) (within : i < length pages)
 
   pub covers_here : (k : ℕ) → k / 4096 ≡ i → page.from ≤ k % 4096 → k % 4096 < page.to → Covers (set pages i page) k
   covers_here k is from to =
-      let here : nth_page (set pages i page) (k / 4096) ≡ page = ap (λ (j : ℕ). nth_page (set pages i page) j) is ∙ get_or-set_same pages i page unwritten within in
-      record {
-        from = subst (λ (x : Page). x.from ≤ k % 4096) (sym here) from;
-        to = subst (λ (x : Page). k % 4096 < x.to) (sym here) to;
-      }
+      let each = λ (P : Page → Type 0) (holds : P page). set_each pages i page within P (k / 4096) (λ e. holds) (λ off. absurd (off is)) in
+      record { from = each (λ (p : Page). p.from ≤ k % 4096) from; to = each (λ (p : Page). k % 4096 < p.to) to }
 
   pub covers_set : (k : ℕ) → page.from ≤ (nth_page pages i).from → (nth_page pages i).to ≤ page.to → Covers pages k → Covers (set pages i page) k
   covers_set k low high covers =
-      elim (cases_eq (k / 4096) i) [
-        | inl is ↦
-            (let from : (nth_page pages i).from ≤ k % 4096 = subst (λ (j : ℕ). (nth_page pages j).from ≤ k % 4096) is covers.from in
-            let to : k % 4096 < (nth_page pages i).to = subst (λ (j : ℕ). k % 4096 < (nth_page pages j).to) is covers.to in
-            covers_here k is (omega arith) (omega arith))
-        | inr other ↦
-            (let same : nth_page (set pages i page) (k / 4096) ≡ nth_page pages (k / 4096) = get_or-set_other pages i (k / 4096) page unwritten other in
-            record {
-              from = subst (λ (x : Page). x.from ≤ k % 4096) (sym same) covers.from;
-              to = subst (λ (x : Page). k % 4096 < x.to) (sym same) covers.to;
-            })
-      ]
+      let at : k / 4096 ≡ i → nth_page pages (k / 4096) ≡ nth_page pages i = ap (nth_page pages) in
+      let each = λ (P : Page → Type 0). set_each pages i page within P (k / 4096) in
+      record {
+        from = each (λ (p : Page). p.from ≤ k % 4096) (λ is. omega (arith, low, covers.from, ap (λ (p : Page). p.from) (at is))) (λ off. covers.from);
+        to = each (λ (p : Page). k % 4096 < p.to) (λ is. omega (arith, high, covers.to, ap (λ (p : Page). p.to) (at is))) (λ off. covers.to);
+      }
 
 -- where its page was widened a range is still kept
 pub kept_after : (old new : List Page) (n at : ℕ) (page : Page) → HaveRooms new n → home new at ≡ home old at → 4096 * (nth_page old (at / 4096)).room < n → page ≡ nth_page new (at / 4096) → 4096 * page.room + 4096 ≤ n

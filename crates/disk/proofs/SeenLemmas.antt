@@ -1,13 +1,14 @@
 -- What a disk shows of what it keeps.
-use Rattle.std.proofs.Common.{◌≡◌, ℕ, ◌+◌, ◌-◌, ◌*◌, ◌/◌, ◌%◌, ◌<◌, ◌≤◌, Bool, false, List, length, get_or, set, take, drop, replicate, sym, ◌∙◌, ap, subst, inl, inr, arith, length-drop, length-set}
-use Rattle.std.proofs.lemmas.Bool.{cases_lt, cases_eq}
+use Rattle.std.proofs.Common.{◌≡◌, ℕ, ◌+◌, ◌-◌, ◌*◌, ◌/◌, ◌%◌, ◌<◌, ◌≤◌, Bool, false, List, length, get_or, set, take, drop, replicate, refl, sym, ◌∙◌, ap, subst, inl, inr, arith, length-drop, length-set}
+use Rattle.std.proofs.lemmas.Bool.{cases_eq}
 use Rattle.std.proofs.lemmas.List.{length-replicate, get_or-replicate, get_or_past, get_or-set_same, get_or-set_other, ext_get_or, length-take-le, get_or-take, get_or-drop}
 use Rattle.std.proofs.lemmas.List.FromFn.{length-map-range_with_len, get_or-map-range_with_len}
 use Rattle.disk.specs.declared.pages.Page.{Page}
 use Rattle.disk.specs.Disk.{put_at}
 use Rattle.disk.specs.Image.{Contents}
 use Rattle.disk.specs.Pages.{nth_page, home, seen, HaveRooms}
-use Rattle.disk.proofs.CrashLemmas.{length-put, put-below, put-inside, put-above}
+use Rattle.disk.proofs.CrashLemmas.{length-put, put-inside}
+use Rattle.disk.proofs.PutLemmas.{put_each}
 
 pub length-seen : {X : Type 0} (pages : List Page) (blank : X) (kept : List X) (size : ℕ) → length (seen pages blank kept size) ≡ size
 unfolding seen
@@ -73,49 +74,29 @@ module _ {X : Type 0} (pages : List Page) (blank : X) (kept items : List X) (at 
   -- a position outside the range is kept outside of it
   other : (k : ℕ) → (at ≤ k → k < at + length items → ⊥) → get_or (put_at kept (home pages at) items) (home pages k) blank ≡ get_or kept (home pages k) blank
   other k out =
-      elim (cases_lt (home pages k) (home pages at)) [
-        | inl below ↦ put-below kept (home pages at) items fits blank (home pages k) below
-        | inr from ↦
-            elim (cases_lt (home pages k) (home pages at + length items)) [
-              | inl under ↦
-                  (let j = home pages k - home pages at in
-                  let near : at % 4096 + j < 4096 = omega (arith, one, from, under) in
-                  let there : home pages (at + j) ≡ home pages k = home_in pages at j near ∙ (let e : home pages at + j ≡ home pages k = omega (arith, from) in e) in
-                  let is : at + j ≡ k = home_own pages (length kept) (at + j) k rooms there (omega (arith, there, under, fits)) in
-                  absurd (out (omega (arith, is)) (omega (arith, is, from, under))))
-              | inr over ↦ put-above kept (home pages at) items fits blank (home pages k) over
-            ]
-      ]
+      put_each kept items (home pages at) blank fits (λ (x : X). x ≡ get_or kept (home pages k) blank) (home pages k)
+      (λ j is under.
+      let there : home pages (at + j) ≡ home pages k = home_in pages at j (omega (arith, one, under)) ∙ is in
+      let same : at + j ≡ k = home_own pages (length kept) (at + j) k rooms there (omega (arith, there, is, under, fits)) in
+      absurd (out (omega (arith, same)) (omega (arith, same, under))))
+      (λ off. refl)
 
   pub seen_put : seen pages blank (put_at kept (home pages at) items) size ≡ put_at (seen pages blank kept size) at items
   seen_put =
       let old = seen pages blank kept size in
       let long = length-seen pages blank kept size in
       let room : at + length items ≤ length old = omega (arith, long, within) in
-      let new = seen pages blank (put_at kept (home pages at) items) size in
-      let many = length-seen pages blank (put_at kept (home pages at) items) size in
-      ext_get_or blank new (put_at old at items) (many ∙ sym (length-put old at items room blank ∙ long))
+      let put = put_at kept (home pages at) items in
+      let many = length-seen pages blank put size in
+      ext_get_or blank (seen pages blank put size) (put_at old at items) (many ∙ sym (length-put old at items room blank ∙ long))
       (λ k inside.
       let k_in : k < size = omega (arith, many) in
-      let now = get_or-seen pages blank (put_at kept (home pages at) items) size k k_in in
-      let before = get_or-seen pages blank kept size k k_in in
-      elim (cases_lt k at) [
-        | inl below ↦ now ∙ other k (λ l u. omega arith) ∙ sym before ∙ sym (put-below old at items room blank k below)
-        | inr from ↦
-            elim (cases_lt k (at + length items)) [
-              | inl under ↦
-                  (let j = k - at in
-                  let e : at + j ≡ k = omega arith in
-                  let j_in : j < length items = omega arith in
-                  let there : home pages k ≡ home pages at + j = ap (λ (i : ℕ). home pages i) (sym e) ∙ home_in pages at j (omega (arith, one)) in
-                  now
-                  ∙ ap (λ (i : ℕ). get_or (put_at kept (home pages at) items) i blank) there
-                  ∙ put-inside kept (home pages at) items fits blank j j_in
-                  ∙ sym (put-inside old at items room blank j j_in)
-                  ∙ ap (λ (i : ℕ). get_or (put_at old at items) i blank) e)
-              | inr over ↦ now ∙ other k (λ l u. omega arith) ∙ sym before ∙ sym (put-above old at items room blank k over)
-            ]
-      ])
+      let now = get_or-seen pages blank put size k k_in in
+      put_each old items at blank room (λ (x : X). get_or (seen pages blank put size) k blank ≡ x) k
+      (λ j is under.
+      let there : home pages k ≡ home pages at + j = ap (λ (i : ℕ). home pages i) (sym is) ∙ home_in pages at j (omega (arith, one, under)) in
+      now ∙ ap (λ (i : ℕ). get_or put i blank) there ∙ put-inside kept (home pages at) items fits blank j under)
+      (λ off. now ∙ other k off ∙ sym (get_or-seen pages blank kept size k k_in)))
 
 -- one position alone
 pub seen_set : {X : Type 0} (pages : List Page) (blank y : X) (kept : List X) (i size : ℕ) → HaveRooms pages (length kept) → home pages i < length kept → i < size → seen pages blank (set kept (home pages i) y) size ≡ set (seen pages blank kept size) i y

@@ -8,7 +8,6 @@ use Rattle.disk.specs.Pages.{unwritten, nth_page, HaveRooms}
 use Rattle.disk.proofs.ListLemmas.{get_or_more}
 use Rattle.disk.proofs.MarkLemmas.{length-marks, more_words}
 use Rattle.disk.proofs.RoomLemmas.{is_room, rooms_given, same_covers, same_seen}
-use Rattle.disk.proofs.SeenLemmas.{seen_same}
 use Rattle.disk.proofs.pages.give_room.Goals as goal
 
 module _ (c : goal.After-resize) where
@@ -62,22 +61,17 @@ module _ (c : goal.After-resize) where
       ∙ ap (λ (l : List Word). l ++ replicate n blank) (take_all count words (omega (arith, now_long, c.len-then-index.ensures, c.requires.words)))
 
 pub returns-then-index-clause-bytes : goal.returns-then-index-clause-bytes
-returns-then-index-clause-bytes c = λ size.
-    seen_same (pages c) (set (pages c) c.args.index (page c)) 0 (bytes c) c.extend_from_slice.new.self.items size
-    (λ k within.
+returns-then-index-clause-bytes c =
     same_seen (pages c) (length (bytes c)) c.args.index (page c) c.requires.rooms (small c) c.requires.within (nowhere c) (next c) refl refl
-    0 (bytes c) c.extend_from_slice.new.self.items k
-    (λ q. ap (λ (l : List ℕ). get_or l q 0) (more_bytes c) ∙ get_or_more (bytes c) 4096 q 0)
-    (omega arith))
+    0 (bytes c) c.extend_from_slice.new.self.items
+    (λ q. ap (λ (l : List ℕ). get_or l q 0) (more_bytes c) ∙ get_or_more (bytes c) 4096 q 0) (omega arith)
 
 pub returns-then-index-clause-marks : goal.returns-then-index-clause-marks
-returns-then-index-clause-marks c = λ epoch size.
-    seen_same (pages c) (set (pages c) c.args.index (page c)) false (all_marks epoch (words c)) (all_marks epoch c.resize.new.self.items) size
-    (λ k within.
+returns-then-index-clause-marks c = λ epoch.
     same_seen (pages c) (length (bytes c)) c.args.index (page c) c.requires.rooms (small c) c.requires.within (nowhere c) (next c) refl refl
-    false (all_marks epoch (words c)) (all_marks epoch c.resize.new.self.items) k
+    false (all_marks epoch (words c)) (all_marks epoch c.resize.new.self.items)
     (λ q. ap (λ (l : List Word). get_or (all_marks epoch l) q false) (more_words_is c) ∙ more_words epoch (words c) (count c - vec_len c.args.words.now) q)
-    (omega (arith, length-marks epoch (words c) (64 * length (words c)), c.requires.words)))
+    (omega (arith, length-marks epoch (words c) (64 * length (words c)), c.requires.words))
 
 pub returns-then-index-clause-ranges : goal.returns-then-index-clause-ranges
 returns-then-index-clause-ranges c =

@@ -1,82 +1,62 @@
-use Rattle.std.proofs.Common.{◌≡◌, ◌+◌, ◌-◌, ◌*◌, ◌/◌, ◌%◌, ℕ, false, List, ◌++◌, length, replicate, sym, ◌∙◌, ap, arith}
+use Rattle.std.proofs.Common.{◌≡◌, ◌+◌, ◌-◌, ◌*◌, ◌/◌, ◌%◌, ◌^◌, ◌≤◌, ℕ, false, List, ◌++◌, length, replicate, sym, ◌∙◌, ap, arith}
 use Rattle.std.specs.Prelude.{slice_range}
 use Rattle.std.proofs.lemmas.List.{get_or_read}
 use Rattle.disk.specs.declared.pages.Page.{Page}
 use Rattle.disk.specs.Image.{Contents}
 use Rattle.disk.specs.Marks.{all_marks}
 use Rattle.disk.specs.Pages.{unwritten, nth_page, seen}
-use Rattle.disk.proofs.PageLemmas.{page_seen}
-use Rattle.disk.proofs.RoomLemmas.{is_given, range_kept, room_kept}
-use Rattle.disk.proofs.SeenLemmas.{size_is, seen_range, whole_room}
+use Rattle.disk.proofs.PageLemmas.{page_seen, range_read}
+use Rattle.disk.proofs.RoomLemmas.{in_range, room_kept}
+use Rattle.disk.proofs.SeenLemmas.{size_is}
 use Rattle.disk.proofs.image.Image.read.Goals as goal
+use Rattle.disk.proofs.image.Image.read.Goals.{After-index-page}
+
+-- the page at which the read begins
+module _ (c : After-index-page) where
+  within : c.args.at + length c.args.into.now ≤ c.self.inside.size
+  within = omega (arith, size_is _ _ _ _ _ c.self.view_is, c.requires)
+
+  page : c.index-page.result.now ≡ nth_page c.self.inside.pages.items (c.args.at / 4096)
+  page = get_or_read c.self.inside.pages.items (c.args.at / 4096) c.index-page.result.now (omega (arith, c.self.invariant.listed, within)) c.index-page.ensures unwritten
+
+  last : c.index-page.result.now.to ≤ 4096
+  last = omega (arith, ap (λ (p : Page). p.to) page, c.self.invariant.rooms.within (c.args.at / 4096))
+
+  kept : (c.index-page.result.now.room ≡ 2 ^ 64 - 1 → ⊥) → 4096 * c.index-page.result.now.room + 4096 ≤ length c.self.inside.bytes.items
+  kept = room_kept c.self.inside.pages.items _ (c.args.at / 4096) c.index-page.result.now c.self.invariant.rooms page
 
 pub index-page-requires : goal.index-page-requires
 index-page-requires c = omega (arith, c.self.invariant.listed, size_is _ _ _ _ _ c.self.view_is, c.requires)
 
 pub get_page-requires-clause-range : goal.get_page-requires-clause-range
-get_page-requires-clause-range c =
-    let inside = c.self.inside in
-    let pages = inside.pages.items in
-    let at = c.args.at in
-    let e = c.index-page.result.now in
-    let size = size_is _ _ _ _ _ c.self.view_is in
-    let page : e ≡ nth_page pages (at / 4096) = get_or_read pages (at / 4096) e (omega (arith, c.self.invariant.listed, size, c.requires)) c.index-page.ensures unwritten in
-    omega (arith, ap (λ (p : Page). p.to) page, c.self.invariant.rooms.within (at / 4096))
+get_page-requires-clause-range c = last (goal.at.get_page-requires-clause-range c).After-index-page
 
 pub get_page-requires-clause-kept : goal.get_page-requires-clause-kept
 get_page-requires-clause-kept c =
-    let inside = c.self.inside in
-    let pages = inside.pages.items in
-    let at = c.args.at in
-    let e = c.index-page.result.now in
-    let size = size_is _ _ _ _ _ c.self.view_is in
-    let page : e ≡ nth_page pages (at / 4096) = get_or_read pages (at / 4096) e (omega (arith, c.self.invariant.listed, size, c.requires)) c.index-page.ensures unwritten in
+    let h = (goal.at.get_page-requires-clause-kept c).After-index-page in
     λ some.
-    let here = range_kept pages (length inside.bytes.items) (at / 4096) e c.self.invariant.rooms page (omega (arith, some, ap (λ (p : Page). p.to) page, c.self.invariant.rooms.within (at / 4096))) in
-    omega (arith, ap (λ (p : Page). p.room) page, whole_room pages (length inside.bytes.items) (at / 4096) c.self.invariant.rooms here, ap length c.deref.ensures.value)
+    omega (arith, in_range c.self.inside.pages.items _ (c.args.at / 4096) c.index-page.result.now c.self.invariant.rooms (page h) (omega (arith, some, last h)), ap length c.deref.ensures.value)
 
 pub overflow_mul-page : goal.overflow_mul-page
-overflow_mul-page c =
-    let inside = c.self.inside in
-    let pages = inside.pages.items in
-    let at = c.args.at in
-    let e = c.index-page.result.now in
-    let size = size_is _ _ _ _ _ c.self.view_is in
-    let page : e ≡ nth_page pages (at / 4096) = get_or_read pages (at / 4096) e (omega (arith, c.self.invariant.listed, size, c.requires)) c.index-page.ensures unwritten in
-    omega (arith, room_kept pages (length inside.bytes.items) (at / 4096) e c.self.invariant.rooms page c.if-page.true)
+overflow_mul-page c = omega (arith, kept (goal.at.overflow_mul-page c).After-index-page c.if-page.true)
 
 pub overflow_add-page : goal.overflow_add-page
-overflow_add-page c =
-    let inside = c.self.inside in
-    let pages = inside.pages.items in
-    let at = c.args.at in
-    let e = c.index-page.result.now in
-    let size = size_is _ _ _ _ _ c.self.view_is in
-    let page : e ≡ nth_page pages (at / 4096) = get_or_read pages (at / 4096) e (omega (arith, c.self.invariant.listed, size, c.requires)) c.index-page.ensures unwritten in
-    omega (arith, room_kept pages (length inside.bytes.items) (at / 4096) e c.self.invariant.rooms page c.if-page.true)
+overflow_add-page c = omega (arith, kept (goal.at.overflow_add-page c).After-index-page c.if-page.true)
 
 pub get-requires : goal.get-requires
 get-requires c =
-    let inside = c.self.inside in
-    let pages = inside.pages.items in
-    let at = c.args.at in
-    let e = c.index-page.result.now in
-    let size = size_is _ _ _ _ _ c.self.view_is in
-    let page : e ≡ nth_page pages (at / 4096) = get_or_read pages (at / 4096) e (omega (arith, c.self.invariant.listed, size, c.requires)) c.index-page.ensures unwritten in
-    omega (arith, room_kept pages (length inside.bytes.items) (at / 4096) e c.self.invariant.rooms page c.if-page.true, c.if-into-first.true, ap length c.deref-then-into-first.ensures.value)
+    omega (arith, kept (goal.at.get-requires c).After-index-page c.if-page.true, c.if-into-first.true, ap length c.deref-then-into-first.ensures.value)
 
 pub returns-then-into-eq-PAGE : goal.returns-then-into-eq-PAGE
 returns-then-into-eq-PAGE c =
+    let h = (goal.at.returns-then-into-eq-PAGE c).After-index-page in
     let inside = c.self.inside in
     let pages = inside.pages.items in
     let at = c.args.at in
     let e = c.index-page.result.now in
-    let size = size_is _ _ _ _ _ c.self.view_is in
-    let page : e ≡ nth_page pages (at / 4096) = get_or_read pages (at / 4096) e (omega (arith, c.self.invariant.listed, size, c.requires)) c.index-page.ensures unwritten in
-    let whole : at % 4096 ≡ 0 = c.if-first-eq0.true in
     let n : 4096 ≡ length c.args.into.now = sym c.if-into-eq-PAGE.true in
     let flags = seen pages false (all_marks inside.epoch inside.words.items) inside.size in
-    page_seen pages inside.bytes.items c.get_page.new.into flags inside.size at e c.self.invariant.rooms c.self.invariant.blank whole page (omega (arith, size, c.requires, n))
+    page_seen pages inside.bytes.items c.get_page.new.into flags inside.size at e c.self.invariant.rooms c.self.invariant.blank c.if-first-eq0.true (page h) (omega (arith, within h, n))
     c.get_page.ensures.blank
     (λ some.
     c.get_page.ensures.range some
@@ -86,17 +66,11 @@ returns-then-into-eq-PAGE c =
 
 pub returns-then-into-first : goal.returns-then-into-first
 returns-then-into-first c =
-    let inside = c.self.inside in
-    let pages = inside.pages.items in
+    let h = (goal.at.returns-then-into-first c).After-index-page in
     let at = c.args.at in
     let e = c.index-page.result.now in
-    let size = size_is _ _ _ _ _ c.self.view_is in
-    let page : e ≡ nth_page pages (at / 4096) = get_or_read pages (at / 4096) e (omega (arith, c.self.invariant.listed, size, c.requires)) c.index-page.ensures unwritten in
     let n = length c.args.into.now in
-    let room = ap (λ (p : Page). p.room) page in
-    let here = is_given pages (length inside.bytes.items) (at / 4096) c.self.invariant.rooms (λ far. c.if-page.true (room ∙ far)) in
     c.get.ensures
     ∙ ap (λ (l : List ℕ). slice_range l (4096 * e.room + at % 4096) (4096 * e.room + at % 4096 + n)) c.deref-then-into-first.ensures.value
-    ∙ ap (λ (r : ℕ). slice_range inside.bytes.items (4096 * r + at % 4096) (4096 * r + at % 4096 + n)) room
-    ∙ sym (seen_range pages 0 inside.bytes.items at n inside.size c.self.invariant.rooms (omega (arith, c.if-into-first.true)) here (omega (arith, size, c.requires)))
+    ∙ range_read c.self.inside.pages.items c.self.inside.bytes.items at n c.self.inside.size e c.self.invariant.rooms (page h) c.if-page.true (omega (arith, c.if-into-first.true)) (within h)
     ∙ ap (λ (s : Contents). slice_range s.bytes at (at + n)) c.self.view_is
