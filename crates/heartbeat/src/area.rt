@@ -71,7 +71,7 @@ pub fn damaged_beats(bytes: &[u8; ROW_LENGTH]) -> [bool; HOSTS]
 // Whether these bytes of a host's block are damaged.
 fn is_damaged_block(bytes: &[u8]) -> bool
     requires { length bytes.now ≡ BLOCK_LENGTH }
-    ensures { result ≡ Damage.is_damaged_block Beat.is_beat bytes.now }
+    ensures { result ≡ Damage.is_damaged_block cluster_version Beat.is_beat bytes.now }
 {
     let (first, second) = bytes.split_at(COPY_LENGTH);
     is_damaged(first, second)
