@@ -150,17 +150,6 @@ SYMBOLS = ("man/midgegalena.3", "man/mg_session.3", "man/mg-lock.1", "docs/LIBRA
 NAMED = (HEADER, "capi/include/mg_session.h", "capi/src/mg-lock.c")
 
 
-# Where the numbers of the lock table's refusals stand as a range.
-RANGES = ("docs/FORMAT.md", REFUSALS, "crates/lock_command/README.md", HEADER)
-
-
-def ranges(tree, lists):
-    """The range is from the least number to the greatest."""
-    numbers = sorted(number for number, _ in lists["table"])
-    wanted = f"{numbers[0]} to {numbers[-1]}"
-    return [f"{path}: the numbers of the table's refusals are {wanted}" for path in RANGES if not re.search(rf"\b{wanted}\b", tree.read(path))]
-
-
 def header_and_texts(tree):
     """The header and the table of texts in C have the same refusals."""
     symbols, texts = ({it["symbol"] for it in place.matches(tree)[1]} for place in (C_ENUM, C_TEXTS))
@@ -219,7 +208,7 @@ def wrong_in(tree, paths):
     lists, told = lists_of(tree)
     for place in PLACES:
         told += place.wrong(tree, lists)
-    return told + ranges(tree, lists) + header_and_texts(tree) + python_names(tree, lists) + symbols_known(tree) + pairs_in_text(tree, lists, paths)
+    return told + header_and_texts(tree) + python_names(tree, lists) + symbols_known(tree) + pairs_in_text(tree, lists, paths)
 
 
 def changed(text, it):

@@ -262,7 +262,7 @@ struct mg_client_view {
     uint64_t request; /* its last */
     uint32_t client;
     int32_t reply;    /* to that, enum mg_reply */
-    int32_t refusal;  /* of MG_REFUSED: 11 to 20 */
+    int32_t refusal;  /* of MG_REFUSED: which one, as MG_NOT_OWNER */
     int32_t unused;
 };
 

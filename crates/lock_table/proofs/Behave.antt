@@ -1,79 +1,29 @@
 -- Two plain tables with the same locks and clients do and answer the same.
-use Rattle.std.proofs.Common.{◌≡◌, ℕ, Bool, true, false, cond, not, ◌&&◌, ◌||◌, ◌==◌, nat_lt, nat_le, List, [], ◌∷◌, length, Option, Some, None, is_some, map, refl, sym, ap, ◌∙◌, arith}
+use Rattle.std.proofs.Common.{◌≡◌, ℕ, Bool, true, false, cond, not, ◌&&◌, ◌||◌, ◌==◌, nat_lt, nat_le, List, [], ◌∷◌, length, Option, Some, None, map, refl, sym, ap, ◌∙◌, arith}
 use Rattle.std.specs.List.{filter, find, fold, list_any}
-use Rattle.lock_modes.specs.declared.mode.Mode.{Mode}
 use Rattle.lock_command.specs.declared.command.Command.{Command}
 use Rattle.lock_command.specs.Command.{is_carried}
 use Rattle.lock_command.specs.declared.command.Action.{Action}
 use Rattle.lock_command.specs.declared.command.Action.TheVariants.{Enqueue, Convert, Release, Cancel, Status, Purge, QuietPurge, CarryLock, CarryClient}
 use Rattle.lock_table.specs.declared.clients.TheConstants.{CLIENTS}
-use Rattle.lock_index.specs.declared.record.TheConstants.{LOCKS}
 use Rattle.lock_index.specs.declared.record.LockRecord.{LockRecord}
-use Rattle.lock_command.specs.declared.state.LockState.{LockState}
 use Rattle.lock_command.specs.declared.state.LockState.TheVariants.{Granted, Converting, Waiting}
 use Rattle.lock_table.specs.declared.known_client.KnownClient.{KnownClient}
-use Rattle.lock_command.specs.declared.reply.Refusal.TheVariants as refusal
 use Rattle.lock_command.specs.declared.reply.Answer.{Answer}
 use Rattle.lock_command.specs.declared.reply.Answer.TheVariants as answer
 use Rattle.lock_command.specs.declared.reply.Reply.{Reply}
 use Rattle.lock_table.specs.Values.{Values, zeros, invalid, is_downward, given, of_locked, is_granted, is_released, changed, values_after, value_of_lock, asked_value, returned}
 use Rattle.lock_index.specs.State.{is_writer}
-use Rattle.lock_index.specs.Locks.{is_lock, is_on, in_state, lock_in, admits, has_queue, IsDistinct, is_through}
-use Rattle.lock_table.specs.Apply.{CommandOutcome, enqueued, converted, released, cancelled, with_own, told, purged, carried, done, Plain, Applied, is_client, kept, keeps_none, kept_after, told_again, replied, carried_out, applied_after, applied, no_locks, table_after}
+use Rattle.lock_index.specs.Locks.{is_lock, is_on, in_state, IsDistinct, is_through}
+use Rattle.lock_table.specs.Apply.{CommandOutcome, purged, done, Plain, Applied, is_client, kept, keeps_none, kept_after, told_again, replied, carried_out, applied_after, applied, no_locks, table_after}
 use Rattle.lock_index.specs.Printed.{HasSameLocks}
 use Rattle.lock_table.specs.Picture.{HasSameClients, HasZeros}
 use Rattle.lock_index.proofs.Parts.{find_alike, length_alike, AlikeBy-filter, AlikeBy-append}
 use Rattle.lock_index.proofs.Numbered.{IsDistinct-filter, IsDistinct-put}
-use Rattle.lock_index.proofs.Alike.{same-filter, same-put, same-any, same-lock_in, same-length, same-admits, same-has_queue, same-settled}
+use Rattle.lock_index.proofs.Alike.{same-filter, same-any, same-lock_in, same-length}
 use Rattle.lock_index.proofs.Apart.{IsDistinct-settled, IsDistinct-settled_all}
 use Rattle.lock_index.proofs.Settled.{is_among, same-settled_all}
-
--- the same locks are left, and the same is answered
-record IsSameOutcome (x y : CommandOutcome) : Type 0 where
-  pub locks : HasSameLocks x.locks y.locks
-  pub answer : x.answer ≡ y.answer
-
-by_test : (t u : Bool) (x y v w : CommandOutcome) → t ≡ u → IsSameOutcome x v → IsSameOutcome y w → IsSameOutcome (cond t x y) (cond u v w)
-by_test true true x y v w same one other = one
-by_test true false x y v w same one other = let impossible : ⊥ = cc in absurd impossible
-by_test false true x y v w same one other = let impossible : ⊥ = cc in absurd impossible
-by_test false false x y v w same one other = other
-
-answered : (a b : List LockRecord) (r : Answer) → HasSameLocks a b → IsSameOutcome (record { locks = a; answer = r }) (record { locks = b; answer = r })
-answered a b r s = record { locks = s; answer = refl }
-
-same-enqueued : (a b : List LockRecord) (new : LockRecord) (mode : Mode) (no_queue : Bool) → HasSameLocks a b → IsSameOutcome (enqueued a new mode no_queue) (enqueued b new mode no_queue)
-same-enqueued a b new mode no_queue s =
-    by_test _ _ _ _ _ _ (ap is_some (same-lock_in new.lock a b s)) (answered a b (answer.Refused refusal.LockInUse) s)
-    (by_test _ _ _ _ _ _ (ap (nat_le LOCKS) (same-length a b s)) (answered a b (answer.Refused refusal.TableFull) s)
-    (by_test _ _ _ _ _ _ (λ i. not (same-has_queue new.name a b s i) && same-admits new.lock new.name mode a b s i) (answered _ _ answer.Granted (same-put (in_state new (Granted mode)) a b s))
-    (by_test no_queue no_queue _ _ _ _ refl (answered a b (answer.Refused refusal.NotQueued) s)
-    (answered _ _ answer.Queued (same-put (in_state new (Waiting mode)) a b s)))))
-
-same-converted : (a b : List LockRecord) (r : LockRecord) (mode : Mode) (no_queue : Bool) (state : LockState) → HasSameLocks a b → IsSameOutcome (converted a r mode no_queue state) (converted b r mode no_queue state)
-same-converted a b r mode no_queue (Waiting wanted) s = answered a b (answer.Refused refusal.StillWaiting) s
-same-converted a b r mode no_queue (Converting held wanted) s = answered a b (answer.Refused refusal.AlreadyConverting) s
-same-converted a b r mode no_queue (Granted held) s =
-    by_test _ _ _ _ _ _ (same-admits r.lock r.name mode a b s) (answered _ _ answer.Granted (same-settled r.name _ _ (same-put (in_state r (Granted mode)) a b s)))
-    (by_test no_queue no_queue _ _ _ _ refl (answered a b (answer.Refused refusal.NotQueued) s)
-    (answered _ _ answer.Queued (same-put (in_state r (Converting held mode)) a b s)))
-
-same-released : (a b : List LockRecord) (r : LockRecord) → HasSameLocks a b → IsSameOutcome (released a r) (released b r)
-same-released a b r s = answered _ _ answer.Released (same-settled r.name _ _ (same-filter (λ o. not (is_lock r.lock o)) a b s))
-
-same-cancelled : (a b : List LockRecord) (r : LockRecord) (state : LockState) → HasSameLocks a b → IsSameOutcome (cancelled a r state) (cancelled b r state)
-same-cancelled a b r (Granted held) s = answered a b (answer.Refused refusal.NothingToCancel) s
-same-cancelled a b r (Converting held wanted) s = answered _ _ answer.Cancelled (same-settled r.name _ _ (same-put (in_state r (Granted held)) a b s))
-same-cancelled a b r (Waiting wanted) s = answered _ _ answer.Cancelled (same-settled r.name _ _ (same-filter (λ o. not (is_lock r.lock o)) a b s))
-
-same-own : (a b : List LockRecord) (client : ℕ) (does also : LockRecord → CommandOutcome) (found : Option LockRecord) → HasSameLocks a b
-    → ((r : LockRecord) → IsSameOutcome (does r) (also r)) → IsSameOutcome (with_own a client does found) (with_own b client also found)
-same-own a b client does also None s each = answered a b (answer.Refused refusal.NoSuchLock) s
-same-own a b client does also (Some r) s each = by_test (r.client == client) (r.client == client) _ _ _ _ refl (each r) (answered a b (answer.Refused refusal.NotOwner) s)
-
-same-told : (a b : List LockRecord) (found : Option LockRecord) → HasSameLocks a b → IsSameOutcome (told a found) (told b found)
-same-told a b None s = answered a b (answer.Refused refusal.NoSuchLock) s
-same-told a b (Some r) s = answered a b (answer.State r.state) s
+use Rattle.lock_table.proofs.Outcomes.{IsSameOutcome, same-enqueued, same-convert, same-release, same-cancel, same-status, same-carried, after_enqueue, after_convert, after_release, after_cancel, after_status, after_carry}
 
 pub any-names : (name : List ℕ) (locks : List LockRecord) → is_among (map (λ (r : LockRecord). r.name) locks) name ≡ list_any (is_on name) locks
 any-names name [] = refl
@@ -88,25 +38,16 @@ same-purged a b host s distinct =
       answer = ap answer.Purged (same-length _ _ gone);
     }
 
-same-carried : (a b : List LockRecord) (r : LockRecord) → HasSameLocks a b → IsSameOutcome (carried a r) (carried b r)
-same-carried a b r s =
-    by_test _ _ _ _ _ _ (ap is_some (same-lock_in r.lock a b s)) (answered a b (answer.Refused refusal.LockInUse) s)
-    (by_test _ _ _ _ _ _ (ap (nat_le LOCKS) (same-length a b s)) (answered a b (answer.Refused refusal.TableFull) s)
-    (answered _ _ (answer.State r.state) (same-put r a b s)))
-
 same-done : (a b : List LockRecord) (host client : ℕ) (action : Action) → HasSameLocks a b → IsDistinct a → IsSameOutcome (done a host client action) (done b host client action)
-same-done a b host client (Enqueue lock name mode no_queue) s distinct = same-enqueued a b (record { lock = lock; client = client; host = host; name = name; state = Waiting mode }) mode no_queue s
-same-done a b host client (Convert lock mode no_queue value) s distinct =
-    rw (same-lock_in lock a b s) (same-own a b client (λ r. converted a r mode no_queue r.state) (λ r. converted b r mode no_queue r.state) (lock_in b lock) s (λ r. same-converted a b r mode no_queue r.state s))
-same-done a b host client (Release lock value) s distinct =
-    rw (same-lock_in lock a b s) (same-own a b client (released a) (released b) (lock_in b lock) s (λ r. same-released a b r s))
-same-done a b host client (Cancel lock) s distinct =
-    rw (same-lock_in lock a b s) (same-own a b client (λ r. cancelled a r r.state) (λ r. cancelled b r r.state) (lock_in b lock) s (λ r. same-cancelled a b r r.state s))
-same-done a b host client (Status lock) s distinct = rw (same-lock_in lock a b s) (same-told a b (lock_in b lock) s)
+same-done a b host client (Enqueue lock name mode no_queue) s distinct = same-enqueued a b s (record { lock = lock; client = client; host = host; name = name; state = Waiting mode }) mode no_queue
+same-done a b host client (Convert lock mode no_queue value) s distinct = same-convert a b s client lock mode no_queue
+same-done a b host client (Release lock value) s distinct = same-release a b s client lock
+same-done a b host client (Cancel lock) s distinct = same-cancel a b s client lock
+same-done a b host client (Status lock) s distinct = same-status a b s lock
 same-done a b host client (Purge gone) s distinct = same-purged a b gone s distinct
 same-done a b host client (QuietPurge gone) s distinct = same-purged a b gone s distinct
-same-done a b host client (CarryLock lock name state value) s distinct = same-carried a b (record { lock = lock; client = client; host = host; name = name; state = state }) s
-same-done a b host client (CarryClient reply) s distinct = answered a b reply.answer s
+same-done a b host client (CarryLock lock name state value) s distinct = same-carried a b s (record { lock = lock; client = client; host = host; name = name; state = state })
+same-done a b host client (CarryClient reply) s distinct = record { locks = s; answer = refl }
 
 client_of : KnownClient → ℕ
 client_of k = k.client
@@ -203,51 +144,29 @@ same-applied x y c locks values clients distinct = rw (find_alike client_of c.cl
 LeavesDistinct : CommandOutcome → Type 0
 LeavesDistinct o = IsDistinct o.locks
 
-distinct_by_test : (t : Bool) (x y : CommandOutcome) → LeavesDistinct x → LeavesDistinct y → LeavesDistinct (cond t x y)
-distinct_by_test true x y one other = one
-distinct_by_test false x y one other = other
-
-distinct-converted : (a : List LockRecord) (r : LockRecord) (mode : Mode) (no_queue : Bool) (state : LockState) → IsDistinct a → LeavesDistinct (converted a r mode no_queue state)
-unfolding LeavesDistinct
-distinct-converted a r mode no_queue (Waiting wanted) d = d
-distinct-converted a r mode no_queue (Converting held wanted) d = d
-distinct-converted a r mode no_queue (Granted held) d =
-    distinct_by_test (admits a r.lock r.name mode) _ _ (IsDistinct-settled r.name _ (IsDistinct-put a (in_state r (Granted mode)) d))
-    (distinct_by_test no_queue _ _ d (IsDistinct-put a (in_state r (Converting held mode)) d))
-
-distinct-cancelled : (a : List LockRecord) (r : LockRecord) (state : LockState) → IsDistinct a → LeavesDistinct (cancelled a r state)
-unfolding LeavesDistinct
-distinct-cancelled a r (Granted held) d = d
-distinct-cancelled a r (Converting held wanted) d = IsDistinct-settled r.name _ (IsDistinct-put a (in_state r (Granted held)) d)
-distinct-cancelled a r (Waiting wanted) d = IsDistinct-settled r.name _ (IsDistinct-filter (λ o. not (is_lock r.lock o)) a d)
-
-distinct-own : (a : List LockRecord) (client : ℕ) (does : LockRecord → CommandOutcome) (found : Option LockRecord) → IsDistinct a → ((r : LockRecord) → LeavesDistinct (does r)) → LeavesDistinct (with_own a client does found)
-unfolding LeavesDistinct
-distinct-own a client does None d each = d
-distinct-own a client does (Some r) d each = distinct_by_test (r.client == client) _ _ (each r) d
-
-distinct-told : (a : List LockRecord) (found : Option LockRecord) → IsDistinct a → LeavesDistinct (told a found)
-unfolding LeavesDistinct
-distinct-told a None d = d
-distinct-told a (Some r) d = d
-
 pub distinct-done : (a : List LockRecord) (host client : ℕ) (action : Action) → IsDistinct a → IsDistinct (done a host client action).locks
 unfolding LeavesDistinct
 distinct-done a host client (Enqueue lock name mode no_queue) d =
     let new : LockRecord = record { lock = lock; client = client; host = host; name = name; state = Waiting mode } in
-    distinct_by_test (is_some (lock_in a lock)) _ _ d
-    (distinct_by_test (nat_le LOCKS (length a)) _ _ d
-    (distinct_by_test (not (has_queue a name) && admits a lock name mode) _ _ (IsDistinct-put a (in_state new (Granted mode)) d)
-    (distinct_by_test no_queue _ _ d (IsDistinct-put a (in_state new (Waiting mode)) d))))
-distinct-done a host client (Convert lock mode no_queue value) d = distinct-own a client (λ r. converted a r mode no_queue r.state) (lock_in a lock) d (λ r. distinct-converted a r mode no_queue r.state d)
-distinct-done a host client (Release lock value) d = distinct-own a client (released a) (lock_in a lock) d (λ r. IsDistinct-settled r.name _ (IsDistinct-filter (λ o. not (is_lock r.lock o)) a d))
-distinct-done a host client (Cancel lock) d = distinct-own a client (λ r. cancelled a r r.state) (lock_in a lock) d (λ r. distinct-cancelled a r r.state d)
-distinct-done a host client (Status lock) d = distinct-told a (lock_in a lock) d
+    after_enqueue LeavesDistinct a (λ why. d) new mode no_queue
+    (λ place may. IsDistinct-put a (in_state new (Granted mode)) d)
+    (λ place may. IsDistinct-put a (in_state new (Waiting mode)) d)
+distinct-done a host client (Convert lock mode no_queue value) d =
+    after_convert LeavesDistinct a (λ why. d) client lock mode no_queue
+    (λ r held there is may. IsDistinct-settled r.name _ (IsDistinct-put a (in_state r (Granted mode)) d))
+    (λ r held there is may. IsDistinct-put a (in_state r (Converting held mode)) d)
+distinct-done a host client (Release lock value) d =
+    after_release LeavesDistinct a (λ why. d) client lock (λ r found there. IsDistinct-settled r.name _ (IsDistinct-filter (λ o. not (is_lock r.lock o)) a d))
+distinct-done a host client (Cancel lock) d =
+    after_cancel LeavesDistinct a (λ why. d) client lock
+    (λ r held wanted there is. IsDistinct-settled r.name _ (IsDistinct-put a (in_state r (Granted held)) d))
+    (λ r found there. IsDistinct-settled r.name _ (IsDistinct-filter (λ o. not (is_lock r.lock o)) a d))
+distinct-done a host client (Status lock) d = after_status LeavesDistinct a (λ why. d) lock (λ r. d)
 distinct-done a host client (Purge gone) d = IsDistinct-settled_all (map (λ (r : LockRecord). r.name) (filter (is_through gone) a)) _ (IsDistinct-filter (λ r. not (is_through gone r)) a d)
 distinct-done a host client (QuietPurge gone) d = IsDistinct-settled_all (map (λ (r : LockRecord). r.name) (filter (is_through gone) a)) _ (IsDistinct-filter (λ r. not (is_through gone r)) a d)
 distinct-done a host client (CarryLock lock name state value) d =
-    distinct_by_test (is_some (lock_in a lock)) _ _ d
-    (distinct_by_test (nat_le LOCKS (length a)) _ _ d (IsDistinct-put a (record { lock = lock; client = client; host = host; name = name; state = state }) d))
+    let new : LockRecord = record { lock = lock; client = client; host = host; name = name; state = state } in
+    after_carry LeavesDistinct a (λ why. d) new (λ place. IsDistinct-put a new d)
 distinct-done a host client (CarryClient reply) d = d
 
 LeavesTableDistinct : Applied → Type 0

@@ -1,5 +1,5 @@
 -- A table that is carried over is the same again.
-use Rattle.std.proofs.Common.{◌≡◌, ◌≤◌, ◌<◌, ◌+◌, ℕ, zero, suc, Bool, true, false, cond, not, nat_le, ◌||◌, ◌==◌, List, [], ◌∷◌, ◌++◌, length, Option, Some, None, is_some, map, refl, sym, ap, subst, ◌∙◌, arith, append_assoc, length-append}
+use Rattle.std.proofs.Common.{◌≡◌, ◌≤◌, ◌<◌, ◌+◌, ℕ, zero, suc, Bool, true, false, cond, not, nat_le, ◌||◌, ◌==◌, List, [], ◌∷◌, ◌++◌, length, Option, Some, None, map, refl, sym, ap, subst, ◌∙◌, arith, append_assoc, length-append}
 use Rattle.std.specs.List.{filter, find, list_any}
 use Rattle.std.specs.List.Sorted.{IsSorted}
 use Rattle.std.specs.Ordering.{is_lt}
@@ -22,7 +22,7 @@ use Rattle.lock_table.specs.declared.known_client.KnownClient.{KnownClient}
 use Rattle.lock_index.specs.State.{goal_of}
 use Rattle.lock_index.specs.Locks.{is_on, option_or, lock_in, put, converts_on, waits_on, head_of, IsDistinct}
 use Rattle.lock_table.specs.Values.{Values, zeros, stored, of_locked, values_after}
-use Rattle.lock_table.specs.Apply.{refused, carried, Plain, is_client, carried_out, unchanged, refusing, applied_after, applied, no_locks, table_after}
+use Rattle.lock_table.specs.Apply.{carried, Plain, is_client, carried_out, unchanged, refusing, applied_after, applied, no_locks, table_after}
 use Rattle.lock_index.specs.Printed.{printed_cmp, HasSameLocks}
 use Rattle.lock_table.specs.Picture.{client_cmp, Shown, HasSameClients, HasZeros, values_beside, IsPictureOf}
 use Rattle.lock_table.specs.Carrying.{carried_lock, carried_client, carried_locks, carried_over, stays_known, without_clients, forgetting, table_later, AreOrdinary, IsLogAfter}
@@ -35,6 +35,7 @@ use Rattle.lock_table.proofs.Quiet.{IsPeaceful, found_numbered, same_name-sym}
 use Rattle.lock_table.proofs.Reachable.{peace_from, no_locks_peace}
 use Rattle.lock_table.proofs.Heads.{IsCalm, calm_from, no_locks_calm}
 use Rattle.lock_table.proofs.History.{table_from, after_both}
+use Rattle.lock_table.proofs.Outcomes.{place_there}
 use Rattle.lock_table.proofs.Pictures.{client_order, one_picture, picture_of_same}
 use Rattle.lock_table.proofs.Room.{known, known-append, known_one, known_less, reachable_room}
 
@@ -61,8 +62,7 @@ not_found locks lock none =
 carried_behind : (locks : List LockRecord) (r : LockRecord) → numbered r.lock locks ≡ 0 → length locks < LOCKS
     → carried locks r ≡ record { locks = locks ++ r ∷ []; answer = answer.State r.state }
 carried_behind locks r none room =
-    ap (λ o. cond (is_some o) (refused locks refusal.LockInUse) (cond (nat_le LOCKS (length locks)) (refused locks refusal.TableFull) (record { locks = put locks r; answer = answer.State r.state }))) (not_found locks r.lock none)
-    ∙ ap (λ b. cond b (refused locks refusal.TableFull) (record { locks = put locks r; answer = answer.State r.state })) (not_full LOCKS (length locks) room)
+    place_there locks r.lock (record { locks = put locks r; answer = answer.State r.state }) (record { free = not_found locks r.lock none; room = room })
     ∙ ap (λ (l : List LockRecord). record { locks = l ++ r ∷ []; answer = answer.State r.state }) (without_absent r.lock locks none)
 
 twice_locked : (a b : Bool) (x : LockValue) → a ≡ b → cond a (cond b x zeros) zeros ≡ cond a x zeros

@@ -1,17 +1,16 @@
 -- The entries of values, where a lock is carried over.
-use Rattle.std.proofs.Common.{◌≡◌, ◌≤◌, ◌<◌, Bool, true, false, cond, not, nat_le, ◌||◌, List, [], ◌∷◌, length, is_some, refl, sym, ap, ◌∙◌, arith}
+use Rattle.std.proofs.Common.{◌≡◌, ◌≤◌, ◌<◌, Bool, true, false, cond, not, ◌||◌, List, [], ◌∷◌, length, refl, sym, ap, ◌∙◌, arith}
 use Rattle.std.specs.List.{filter, list_any}
 use Rattle.std.proofs.lemmas.List.Folds.{list_any-append}
 use Rattle.lock_command.specs.declared.command.Action.TheVariants.{CarryLock}
 use Rattle.lock_command.specs.declared.reply.Answer.TheVariants as answer
 use Rattle.lock_command.specs.declared.reply.LockValue.{LockValue}
-use Rattle.lock_command.specs.declared.reply.Refusal.TheVariants as refusal
 use Rattle.lock_index.specs.declared.record.TheConstants.{LOCKS}
 use Rattle.lock_index.specs.declared.record.LockRecord.{LockRecord}
 use Rattle.lock_table.specs.declared.values.NamedValue.{NamedValue}
-use Rattle.lock_index.specs.Locks.{is_on, lock_in, without, put, IsDistinct}
+use Rattle.lock_index.specs.Locks.{is_on, without, put, IsDistinct}
 use Rattle.lock_table.specs.Values.{Values, is_state, of_locked, stored}
-use Rattle.lock_table.specs.Apply.{CommandOutcome, refused, carried}
+use Rattle.lock_table.specs.Apply.{CommandOutcome, carried}
 use Rattle.lock_index.specs.Printed.{printed_cmp}
 use Rattle.lock_table.specs.Picture.{HasZeros}
 use Rattle.lock_index.specs.Placed.{in_order}
@@ -21,7 +20,8 @@ use Rattle.lock_index.proofs.Apart.{same_name-itself}
 use Rattle.lock_table.proofs.Behave.{distinct-done, same-of_locked}
 use Rattle.lock_table.proofs.Keeping.{still_locked}
 use Rattle.lock_index.proofs.PrintedOrder.{same_in_order}
-use Rattle.lock_table.proofs.Room.{length-put, not_full}
+use Rattle.lock_table.proofs.Outcomes.{HasPlace, after_carry}
+use Rattle.lock_table.proofs.Room.{length-put}
 use Rattle.lock_table.proofs.Stored.{all_locked, locked_values, of_locked_zeros, put_stores, room_for, valued_put}
 
 -- what is stored is stored for names that have locks
@@ -31,16 +31,13 @@ valued_values locks entries valued = ap value_in (all_locked locks entries value
 pub valued_zeros : (locks : List LockRecord) (entries : List NamedValue) → IsValued locks entries → HasZeros locks (value_in entries)
 valued_zeros locks entries valued name none = ap (λ (v : Values). v name) (valued_values locks entries valued) ∙ of_locked_zeros locks (value_in entries) name none
 
-outcome_by : Bool → Bool → List LockRecord → LockRecord → CommandOutcome
-outcome_by taken full locks r =
-    cond taken (refused locks refusal.LockInUse) (cond full (refused locks refusal.TableFull) (record { locks = put locks r; answer = answer.State r.state }))
+-- an outcome that tells a state comes from a lock that was put in
+IsPut : List LockRecord → LockRecord → CommandOutcome → Type 0
+IsPut locks r o = is_state o.answer ≡ true → HasPlace locks r.lock × (o ≡ record { locks = put locks r; answer = answer.State r.state })
 
-put_by : (taken full : Bool) (locks : List LockRecord) (r : LockRecord) → is_state (outcome_by taken full locks r).answer ≡ true
-    → (full ≡ false) × (outcome_by taken full locks r ≡ record { locks = put locks r; answer = answer.State r.state })
-unfolding outcome_by
-put_by true full locks r h = let impossible : ⊥ = cc in absurd impossible
-put_by false true locks r h = let impossible : ⊥ = cc in absurd impossible
-put_by false false locks r h = (refl, refl)
+is_put : (locks : List LockRecord) (r : LockRecord) → IsPut locks r (carried locks r)
+unfolding IsPut
+is_put locks r = after_carry (IsPut locks r) locks (λ why told. let impossible : ⊥ = cc in absurd impossible) r (λ place told. (place, refl))
 
 or_yes : (b : Bool) → (b || true) ≡ true
 or_yes true = refl
@@ -70,9 +67,9 @@ module _ (locks now : List LockRecord) (entries : List NamedValue) (r : LockReco
       ∙ ap (λ b. of_locked (carried locks r).locks (cond b (stored (value_in entries) r.name value) (value_in entries))) (sym h)
 
   module _ (h : is_state (carried locks r).answer ≡ true) where
-    put_is : (nat_le LOCKS (length locks) ≡ false) × (carried locks r ≡ record { locks = put locks r; answer = answer.State r.state })
-    unfolding outcome_by
-    put_is = put_by (is_some (lock_in locks r.lock)) (nat_le LOCKS (length locks)) locks r h
+    put_is : HasPlace locks r.lock × (carried locks r ≡ record { locks = put locks r; answer = answer.State r.state })
+    unfolding IsPut
+    put_is = is_put locks r h
 
     has_now : list_any (is_on r.name) now ≡ true
     has_now =
@@ -87,7 +84,7 @@ module _ (locks now : List LockRecord) (entries : List NamedValue) (r : LockReco
     few_now =
         let same : length now ≡ length (carried locks r).locks = ap length is ∙ same-length (in_order printed_cmp (carried locks r).locks) (carried locks r).locks (same_in_order (carried locks r).locks left_distinct) in
         let more : length (carried locks r).locks ≡ length (put locks r) = ap (λ (o : CommandOutcome). length o.locks) put_is.1 in
-        omega (arith, same, more, length-put locks r, not_full LOCKS (length locks) put_is.0)
+        omega (arith, same, more, length-put locks r, put_is.0.room)
 
     pub room_own : length (filter (λ o. not (is_of r.name o)) entries) < LOCKS
     unfolding own

@@ -1,5 +1,5 @@
 -- No lock whose turn it is could be granted, in every table that commands can reach.
-use Rattle.std.proofs.Common.{◌≡◌, ◌≤◌, ℕ, Bool, true, false, cond, not, ◌&&◌, ◌||◌, ◌==◌, nat_lt, nat_le, List, [], ◌∷◌, ◌++◌, length, Option, Some, None, is_some, map, refl, sym, ap, ◌∙◌, arith}
+use Rattle.std.proofs.Common.{◌≡◌, ◌≤◌, ℕ, Bool, true, false, cond, not, ◌&&◌, ◌||◌, ◌==◌, nat_lt, nat_le, List, [], ◌∷◌, ◌++◌, length, Option, Some, None, map, refl, sym, ap, ◌∙◌, arith}
 use Rattle.std.specs.List.{filter, find, fold, list_any}
 use Rattle.std.proofs.lemmas.List.{nil_from_length}
 use Rattle.std.proofs.lemmas.List.Folds.{list_any-append}
@@ -10,14 +10,13 @@ use Rattle.lock_command.specs.Command.{is_carried}
 use Rattle.lock_command.specs.declared.command.Action.{Action}
 use Rattle.lock_command.specs.declared.command.Action.TheVariants.{Enqueue, Convert, Release, Cancel, Status, Purge, QuietPurge, CarryLock, CarryClient}
 use Rattle.lock_table.specs.declared.clients.TheConstants.{CLIENTS}
-use Rattle.lock_index.specs.declared.record.TheConstants.{LOCKS}
 use Rattle.lock_index.specs.declared.record.LockRecord.{LockRecord}
 use Rattle.lock_command.specs.declared.state.LockState.{LockState}
 use Rattle.lock_command.specs.declared.state.LockState.TheVariants.{Granted, Converting, Waiting}
 use Rattle.lock_table.specs.declared.known_client.KnownClient.{KnownClient}
 use Rattle.lock_index.specs.State.{is_converting, is_waiting, is_queued, goal_of, holds_against}
 use Rattle.lock_index.specs.Locks.{is_lock, is_on, in_state, option_or, lock_in, without, put, converts_on, waits_on, conversions, head_of, has_queue, stands_against, admits, settled, settled_all, IsDistinct, is_through, IsSettled}
-use Rattle.lock_table.specs.Apply.{CommandOutcome, enqueued, converted, released, cancelled, with_own, told, purged, done, Plain, Applied, is_client, applied_after, applied, no_locks}
+use Rattle.lock_table.specs.Apply.{CommandOutcome, purged, done, Plain, Applied, is_client, applied_after, applied, no_locks}
 use Rattle.lock_table.specs.Carrying.{AreOrdinary}
 use Rattle.lock_table.specs.Laws.{IsSettledEverywhere}
 use Rattle.lock_index.proofs.Parts.{first, find_is_first, filter-filter, filter_within, or_false}
@@ -28,7 +27,8 @@ use Rattle.lock_index.proofs.Apart.{on, and_first, name_is, same_name-itself, ad
 use Rattle.lock_index.proofs.Queued.{head_on_name}
 use Rattle.lock_index.proofs.Settled.{settled_is_settled, is_among, settled_all-on}
 use Rattle.lock_table.proofs.Behave.{any-names, distinct-done}
-use Rattle.lock_table.proofs.Reachable.{either, found_again, first_asked}
+use Rattle.lock_table.proofs.Outcomes.{either, after_enqueue, after_convert, after_release, after_cancel, after_status}
+use Rattle.lock_table.proofs.Reachable.{first_asked}
 
 find_within : (P Q : LockRecord → Bool) → ((r : LockRecord) → P r ≡ true → Q r ≡ true) → (xs : List LockRecord) → find P (filter Q xs) ≡ find P xs
 find_within P Q stricter xs = find_is_first P (filter Q xs) ∙ ap first (filter_within P Q stricter xs) ∙ sym (find_is_first P xs)
@@ -243,49 +243,9 @@ calm-converting a r held mode distinct before there is may =
     ] refl (ap (λ c. option_or c (find (waits_on name) (put a k))) (sym conversion) ∙ turn) in
     settled_after name a (put a k) before (λ other differ. sym (on-put_apart other k a differ (absent_elsewhere a r other distinct there differ))) now
 
-is_none : (found : Option LockRecord) → is_some found ≡ false → found ≡ None
-is_none None h = refl
-is_none (Some r) h = let impossible : ⊥ = cc in absurd impossible
-
 and_parts : (a b : Bool) → (a && b) ≡ true → a ≡ true
 and_parts true b h = refl
 and_parts false b h = h
-
-calm-enqueued : (a : List LockRecord) (new : LockRecord) (mode : Mode) (no_queue : Bool) → IsDistinct a → IsSettledEverywhere a → HasCalm (enqueued a new mode no_queue)
-unfolding HasCalm
-calm-enqueued a new mode no_queue distinct before =
-    either HasCalm (is_some (lock_in a new.lock)) _ _ (λ _. before)
-    (λ absent. either HasCalm (nat_le LOCKS (length a)) _ _ (λ _. before)
-    (λ _. either HasCalm (not (has_queue a new.name) && admits a new.lock new.name mode) _ _
-    (λ may. calm-granted a new mode before (is_none (lock_in a new.lock) absent) (not_no (has_queue a new.name) (and_parts _ _ may)))
-    (λ may. either HasCalm no_queue _ _ (λ _. before)
-    (λ _. calm-queued a new mode before (is_none (lock_in a new.lock) absent) may))))
-
-calm-converted : (a : List LockRecord) (r : LockRecord) (mode : Mode) (no_queue : Bool) → IsDistinct a → IsSettledEverywhere a → lock_in a r.lock ≡ Some r
-    → (s : LockState) → r.state ≡ s → HasCalm (converted a r mode no_queue s)
-unfolding HasCalm
-calm-converted a r mode no_queue distinct before there (Waiting wanted) is = before
-calm-converted a r mode no_queue distinct before there (Converting held wanted) is = before
-calm-converted a r mode no_queue distinct before there (Granted held) is =
-    either HasCalm (admits a r.lock r.name mode) _ _ (λ _. calm-put_settled a r (Granted mode) distinct before there)
-    (λ may. either HasCalm no_queue _ _ (λ _. before) (λ _. calm-converting a r held mode distinct before there is may))
-
-calm-cancelled : (a : List LockRecord) (r : LockRecord) → IsDistinct a → IsSettledEverywhere a → lock_in a r.lock ≡ Some r → (s : LockState) → HasCalm (cancelled a r s)
-unfolding HasCalm
-calm-cancelled a r distinct before there (Granted held) = before
-calm-cancelled a r distinct before there (Converting held wanted) = calm-put_settled a r (Granted held) distinct before there
-calm-cancelled a r distinct before there (Waiting wanted) = calm-without_settled a r distinct before there
-
-calm-own : (a : List LockRecord) (client : ℕ) (does : LockRecord → CommandOutcome) (found : Option LockRecord) → IsSettledEverywhere a
-    → ((r : LockRecord) → found ≡ Some r → HasCalm (does r)) → HasCalm (with_own a client does found)
-unfolding HasCalm
-calm-own a client does None before each = before
-calm-own a client does (Some r) before each = either HasCalm (r.client == client) _ _ (λ _. each r refl) (λ _. before)
-
-calm-told : (a : List LockRecord) (found : Option LockRecord) → IsSettledEverywhere a → HasCalm (told a found)
-unfolding HasCalm
-calm-told a None before = before
-calm-told a (Some r) before = before
 
 -- a name that no lock of a part is on keeps its locks without that part
 part_apart : (P T : LockRecord → Bool) (xs : List LockRecord) → list_any P (filter T xs) ≡ false → filter P (filter (λ o. not (T o)) xs) ≡ filter P xs
@@ -316,14 +276,21 @@ calm-purged a host distinct before name =
 
 calm-done : (a : List LockRecord) (host client : ℕ) (action : Action) → is_carried action ≡ false → IsDistinct a → IsSettledEverywhere a → IsSettledEverywhere (done a host client action).locks
 unfolding HasCalm
-calm-done a host client (Enqueue lock name mode no_queue) asked distinct before = calm-enqueued a (record { lock = lock; client = client; host = host; name = name; state = Waiting mode }) mode no_queue distinct before
+calm-done a host client (Enqueue lock name mode no_queue) asked distinct before =
+    let new : LockRecord = record { lock = lock; client = client; host = host; name = name; state = Waiting mode } in
+    after_enqueue HasCalm a (λ why. before) new mode no_queue
+    (λ place may. calm-granted a new mode before place.free (not_no (has_queue a name) (and_parts _ _ may)))
+    (λ place may. calm-queued a new mode before place.free may)
 calm-done a host client (Convert lock mode no_queue value) asked distinct before =
-    calm-own a client (λ r. converted a r mode no_queue r.state) (lock_in a lock) before (λ r found. calm-converted a r mode no_queue distinct before (found_again a lock r found) r.state refl)
-calm-done a host client (Release lock value) asked distinct before =
-    calm-own a client (released a) (lock_in a lock) before (λ r found. calm-without_settled a r distinct before (found_again a lock r found))
+    after_convert HasCalm a (λ why. before) client lock mode no_queue
+    (λ r held there is may. calm-put_settled a r (Granted mode) distinct before there)
+    (λ r held there is may. calm-converting a r held mode distinct before there is may)
+calm-done a host client (Release lock value) asked distinct before = after_release HasCalm a (λ why. before) client lock (λ r found there. calm-without_settled a r distinct before there)
 calm-done a host client (Cancel lock) asked distinct before =
-    calm-own a client (λ r. cancelled a r r.state) (lock_in a lock) before (λ r found. calm-cancelled a r distinct before (found_again a lock r found) r.state)
-calm-done a host client (Status lock) asked distinct before = calm-told a (lock_in a lock) before
+    after_cancel HasCalm a (λ why. before) client lock
+    (λ r held wanted there is. calm-put_settled a r (Granted held) distinct before there)
+    (λ r found there. calm-without_settled a r distinct before there)
+calm-done a host client (Status lock) asked distinct before = after_status HasCalm a (λ why. before) lock (λ r. before)
 calm-done a host client (Purge gone) asked distinct before = calm-purged a gone distinct before
 calm-done a host client (QuietPurge gone) asked distinct before = calm-purged a gone distinct before
 calm-done a host client (CarryLock lock name state value) asked distinct before = let impossible : ⊥ = cc in absurd impossible

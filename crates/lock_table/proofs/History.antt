@@ -22,7 +22,8 @@ use Rattle.lock_table.specs.Apply.{Plain, Applied, is_client, done, carried_out,
 use Rattle.lock_table.specs.Carrying.{AreOrdinary}
 use Rattle.lock_table.specs.History.{is_new_after, is_new, stored_from, stored_through, stored_of, stored_under, takes_writer, purges_writer, is_locked_in, StaysLocked, purged_along}
 use Rattle.lock_table.proofs.Behave.{told_asked, zeros-applied}
-use Rattle.lock_table.proofs.Reachable.{either, first_asked}
+use Rattle.lock_table.proofs.Outcomes.{either}
+use Rattle.lock_table.proofs.Reachable.{first_asked}
 
 -- what one command leaves of a value, by what it stores and whether it purges
 abbrev left_of : Option (List ℕ) → Bool → LockValue → LockValue

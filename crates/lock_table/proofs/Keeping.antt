@@ -1,17 +1,16 @@
 -- Which names keep locks while a command is carried out.
-use Rattle.std.proofs.Common.{◌≡◌, ℕ, Bool, true, false, not, ◌&&◌, ◌||◌, ◌==◌, nat_le, List, [], ◌∷◌, length, Option, Some, None, is_some, refl, sym, ap, subst, ◌∙◌}
+use Rattle.std.proofs.Common.{◌≡◌, ℕ, true, false, not, ◌||◌, List, [], ◌∷◌, Some, None, refl, sym, ap, subst, ◌∙◌}
 use Rattle.std.specs.List.{list_any}
 use Rattle.std.proofs.lemmas.List.Folds.{list_any-append}
 use Rattle.lock_modes.specs.declared.mode.Mode.{Mode}
 use Rattle.lock_command.specs.Name.{same_name}
 use Rattle.lock_command.specs.declared.command.Action.{Action}
 use Rattle.lock_command.specs.declared.command.Action.TheVariants.{Enqueue, Convert, Release, Cancel, Status, Purge, QuietPurge, CarryLock, CarryClient}
-use Rattle.lock_index.specs.declared.record.TheConstants.{LOCKS}
 use Rattle.lock_index.specs.declared.record.LockRecord.{LockRecord}
 use Rattle.lock_command.specs.declared.state.LockState.{LockState}
 use Rattle.lock_command.specs.declared.state.LockState.TheVariants.{Granted, Converting, Waiting}
-use Rattle.lock_index.specs.Locks.{is_on, is_lock, in_state, lock_in, without, put, admits, has_queue, settled, IsDistinct}
-use Rattle.lock_table.specs.Apply.{carried, CommandOutcome, enqueued, converted, released, cancelled, with_own, told, done}
+use Rattle.lock_index.specs.Locks.{is_on, is_lock, in_state, lock_in, without, put, settled, IsDistinct}
+use Rattle.lock_table.specs.Apply.{CommandOutcome, done}
 use Rattle.lock_table.specs.declared.values.NamedValue.{NamedValue}
 use Rattle.lock_index.specs.Printed.{printed_cmp}
 use Rattle.lock_index.specs.Placed.{in_order}
@@ -25,7 +24,7 @@ use Rattle.lock_index.proofs.Apart.{on, name_is, on-put_apart, on-without_apart,
 use Rattle.lock_table.proofs.Heads.{own_on}
 use Rattle.lock_table.proofs.Quiet.{same_name-sym}
 use Rattle.lock_index.proofs.Shown.{without_new}
-use Rattle.lock_table.proofs.Reachable.{either, found_again}
+use Rattle.lock_table.proofs.Outcomes.{after_enqueue, after_convert, after_release, after_cancel, after_status, after_carry}
 
 -- the name has a lock
 Has : List ℕ → List LockRecord → Type 0
@@ -66,75 +65,40 @@ without_keeps name r a distinct there other has =
 HasAfter : List ℕ → CommandOutcome → Type 0
 HasAfter name o = Has name o.locks
 
-none_found : (found : Option LockRecord) → is_some found ≡ false → found ≡ None
-none_found None h = refl
-none_found (Some r) h = let impossible : ⊥ = cc in absurd impossible
-
-has-enqueued : (name : List ℕ) (a : List LockRecord) (new : LockRecord) (mode : Mode) (no_queue : Bool) → Has name a → HasAfter name (enqueued a new mode no_queue)
-unfolding HasAfter
-has-enqueued name a new mode no_queue has =
-    either (HasAfter name) (is_some (lock_in a new.lock)) _ _ (λ _. has)
-    (λ fresh. either (HasAfter name) (nat_le LOCKS (length a)) _ _ (λ _. has)
-    (λ _. either (HasAfter name) (not (has_queue a new.name) && admits a new.lock new.name mode) _ _
-    (λ _. new_keeps name (in_state new (Granted mode)) a (none_found (lock_in a new.lock) fresh) has)
-    (λ _. either (HasAfter name) no_queue _ _ (λ _. has)
-    (λ _. new_keeps name (in_state new (Waiting mode)) a (none_found (lock_in a new.lock) fresh) has))))
-
-has-converted : (name : List ℕ) (a : List LockRecord) (r : LockRecord) (mode : Mode) (no_queue : Bool) (s : LockState) → IsDistinct a → lock_in a r.lock ≡ Some r → Has name a → HasAfter name (converted a r mode no_queue s)
-unfolding HasAfter
-has-converted name a r mode no_queue (Waiting wanted) distinct there has = has
-has-converted name a r mode no_queue (Converting held wanted) distinct there has = has
-has-converted name a r mode no_queue (Granted held) distinct there has =
-    either (HasAfter name) (admits a r.lock r.name mode) _ _
-    (λ _. settled_keeps r.name name _ (IsDistinct-put a (in_state r (Granted mode)) distinct) (put_keeps name r (Granted mode) a distinct there has))
-    (λ _. either (HasAfter name) no_queue _ _ (λ _. has)
-    (λ _. put_keeps name r (Converting held mode) a distinct there has))
-
-has-released : (name : List ℕ) (a : List LockRecord) (r : LockRecord) → IsDistinct a → lock_in a r.lock ≡ Some r → same_name r.name name ≡ false → Has name a → HasAfter name (released a r)
-unfolding HasAfter
-has-released name a r distinct there other has =
+gone_keeps : (name : List ℕ) (r : LockRecord) (a : List LockRecord) → IsDistinct a → lock_in a r.lock ≡ Some r → same_name r.name name ≡ false → Has name a → Has name (settled (without a r.lock) r.name)
+gone_keeps name r a distinct there other has =
     settled_keeps r.name name _ (IsDistinct-filter (λ o. not (is_lock r.lock o)) a distinct) (without_keeps name r a distinct there other has)
 
-has-cancelled : (name : List ℕ) (a : List LockRecord) (r : LockRecord) (s : LockState) → IsDistinct a → lock_in a r.lock ≡ Some r → same_name r.name name ≡ false → Has name a → HasAfter name (cancelled a r s)
-unfolding HasAfter
-has-cancelled name a r (Granted held) distinct there other has = has
-has-cancelled name a r (Converting held wanted) distinct there other has =
+granted_keeps : (name : List ℕ) (r : LockRecord) (held : Mode) (a : List LockRecord) → IsDistinct a → lock_in a r.lock ≡ Some r → Has name a → Has name (settled (put a (in_state r (Granted held))) r.name)
+granted_keeps name r held a distinct there has =
     settled_keeps r.name name _ (IsDistinct-put a (in_state r (Granted held)) distinct) (put_keeps name r (Granted held) a distinct there has)
-has-cancelled name a r (Waiting wanted) distinct there other has = has-released name a r distinct there other has
-
-has-own : (name : List ℕ) (a : List LockRecord) (client : ℕ) (does : LockRecord → CommandOutcome) (found : Option LockRecord) → Has name a
-    → ((r : LockRecord) → found ≡ Some r → HasAfter name (does r)) → HasAfter name (with_own a client does found)
-unfolding HasAfter
-has-own name a client does None has each = has
-has-own name a client does (Some r) has each = either (HasAfter name) (r.client == client) _ _ (λ _. each r refl) (λ _. has)
-
-has-carried : (name : List ℕ) (a : List LockRecord) (r : LockRecord) → Has name a → HasAfter name (carried a r)
-unfolding HasAfter
-has-carried name a r has =
-    either (HasAfter name) (is_some (lock_in a r.lock)) _ _ (λ _. has)
-    (λ fresh. either (HasAfter name) (nat_le LOCKS (length a)) _ _ (λ _. has)
-    (λ _. new_keeps name r a (none_found (lock_in a r.lock) fresh) has))
-
-has-told : (name : List ℕ) (a : List LockRecord) (found : Option LockRecord) → Has name a → HasAfter name (told a found)
-unfolding HasAfter
-has-told name a None has = has
-has-told name a (Some r) has = has
 
 -- a name that has locks keeps one, unless the command is about a lock of it that it takes away, or purges
 pub keeps_locks : (name : List ℕ) (a : List LockRecord) (host client : ℕ) (action : Action) → IsDistinct a → list_any (is_on name) a ≡ true
     → may_lose (asked_lock a action) action name ≡ false → list_any (is_on name) (done a host client action).locks ≡ true
 unfolding Has HasAfter
-keeps_locks name a host client (Enqueue lock on_name mode no_queue) distinct has still = has-enqueued name a (record { lock = lock; client = client; host = host; name = on_name; state = Waiting mode }) mode no_queue has
+keeps_locks name a host client (Enqueue lock on_name mode no_queue) distinct has still =
+    let new : LockRecord = record { lock = lock; client = client; host = host; name = on_name; state = Waiting mode } in
+    after_enqueue (HasAfter name) a (λ why. has) new mode no_queue
+    (λ place may. new_keeps name (in_state new (Granted mode)) a place.free has)
+    (λ place may. new_keeps name (in_state new (Waiting mode)) a place.free has)
 keeps_locks name a host client (Convert lock mode no_queue value) distinct has still =
-    has-own name a client (λ r. converted a r mode no_queue r.state) (lock_in a lock) has (λ r found. has-converted name a r mode no_queue r.state distinct (found_again a lock r found) has)
+    after_convert (HasAfter name) a (λ why. has) client lock mode no_queue
+    (λ r held there is may. granted_keeps name r mode a distinct there has)
+    (λ r held there is may. put_keeps name r (Converting held mode) a distinct there has)
 keeps_locks name a host client (Release lock value) distinct has still =
-    has-own name a client (released a) (lock_in a lock) has (λ r found. has-released name a r distinct (found_again a lock r found) (same_name-sym r.name name ∙ sym (ap (λ f. may_lose f (Release lock value) name) found) ∙ still) has)
+    after_release (HasAfter name) a (λ why. has) client lock
+    (λ r found there. gone_keeps name r a distinct there (same_name-sym r.name name ∙ sym (ap (λ f. may_lose f (Release lock value) name) found) ∙ still) has)
 keeps_locks name a host client (Cancel lock) distinct has still =
-    has-own name a client (λ r. cancelled a r r.state) (lock_in a lock) has (λ r found. has-cancelled name a r r.state distinct (found_again a lock r found) (same_name-sym r.name name ∙ sym (ap (λ f. may_lose f (Cancel lock) name) found) ∙ still) has)
-keeps_locks name a host client (Status lock) distinct has still = has-told name a (lock_in a lock) has
+    after_cancel (HasAfter name) a (λ why. has) client lock
+    (λ r held wanted there is. granted_keeps name r held a distinct there has)
+    (λ r found there. gone_keeps name r a distinct there (same_name-sym r.name name ∙ sym (ap (λ f. may_lose f (Cancel lock) name) found) ∙ still) has)
+keeps_locks name a host client (Status lock) distinct has still = after_status (HasAfter name) a (λ why. has) lock (λ r. has)
 keeps_locks name a host client (Purge gone) distinct has still = let impossible : ⊥ = cc in absurd impossible
 keeps_locks name a host client (QuietPurge gone) distinct has still = let impossible : ⊥ = cc in absurd impossible
-keeps_locks name a host client (CarryLock lock on_name state value) distinct has still = has-carried name a (record { lock = lock; client = client; host = host; name = on_name; state = state }) has
+keeps_locks name a host client (CarryLock lock on_name state value) distinct has still =
+    let new : LockRecord = record { lock = lock; client = client; host = host; name = on_name; state = state } in
+    after_carry (HasAfter name) a (λ why. has) new (λ place. new_keeps name new a place.free has)
 keeps_locks name a host client (CarryClient reply) distinct has still = has
 
 -- so what is stored is stored under names that have locks, but for those that a command may have taken the last lock of

@@ -12,7 +12,8 @@ use Rattle.lock_table.specs.Apply.{Plain, Applied, is_client, kept, keeps_none, 
 use Rattle.lock_table.specs.Carrying.{IsKnownFrom}
 use Rattle.lock_table.proofs.Carrying.{unknown}
 use Rattle.lock_table.proofs.Quiet.{find-append}
-use Rattle.lock_table.proofs.Reachable.{either, repeated_request, stale_request}
+use Rattle.lock_table.proofs.Outcomes.{either}
+use Rattle.lock_table.proofs.Reachable.{repeated_request, stale_request}
 use Rattle.lock_table.proofs.Room.{none_of}
 
 is_less : (m n : ℕ) → nat_lt m n ≡ true → m < n

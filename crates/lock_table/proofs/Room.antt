@@ -1,5 +1,5 @@
 -- No table that commands can reach has more locks or clients than there is room for, and no client twice.
-use Rattle.std.proofs.Common.{◌≡◌, ◌≤◌, ◌<◌, ◌+◌, ◌⊎◌, inl, inr, ℕ, Bool, true, false, cond, not, nat_lt, nat_le, ◌&&◌, ◌==◌, List, [], ◌∷◌, ◌++◌, length, Option, Some, None, is_some, map, refl, sym, ap, ◌∙◌, arith, length-append}
+use Rattle.std.proofs.Common.{◌≡◌, ◌≤◌, ◌<◌, ◌+◌, ◌⊎◌, inl, inr, ℕ, Bool, true, false, cond, not, nat_lt, nat_le, ◌==◌, List, [], ◌∷◌, ◌++◌, length, Option, Some, None, map, refl, sym, ap, ◌∙◌, arith, length-append}
 use Rattle.std.specs.List.{filter, find, fold}
 use Rattle.std.proofs.lemmas.Bool.{eqb-true}
 use Rattle.std.proofs.lemmas.Bool.Decides.{nat_tests}
@@ -8,19 +8,18 @@ use Rattle.lock_modes.specs.declared.mode.Mode.{Mode}
 use Rattle.lock_command.specs.declared.command.Command.{Command}
 use Rattle.lock_command.specs.declared.command.Action.{Action}
 use Rattle.lock_command.specs.declared.command.Action.TheVariants.{Enqueue, Convert, Release, Cancel, Status, Purge, QuietPurge, CarryLock, CarryClient}
-use Rattle.lock_command.specs.declared.state.LockState.{LockState}
 use Rattle.lock_command.specs.declared.state.LockState.TheVariants.{Granted, Converting, Waiting}
 use Rattle.lock_table.specs.declared.clients.TheConstants.{CLIENTS}
 use Rattle.lock_index.specs.declared.record.TheConstants.{LOCKS}
 use Rattle.lock_index.specs.declared.record.LockRecord.{LockRecord}
 use Rattle.lock_table.specs.declared.known_client.KnownClient.{KnownClient}
 use Rattle.lock_index.specs.State.{goal_of}
-use Rattle.lock_index.specs.Locks.{is_lock, is_through, in_state, lock_in, without, put, converts_on, waits_on, conversions, waiting, queue, has_queue, admits, granted, grant_from, settled, settled_all}
-use Rattle.lock_table.specs.Apply.{CommandOutcome, enqueued, converted, released, cancelled, with_own, told, purged, carried, done, Plain, Applied, is_client, kept, keeps_none, kept_after, carried_out, applied_after, applied, no_locks, table_after}
+use Rattle.lock_index.specs.Locks.{is_lock, is_through, in_state, lock_in, without, put, converts_on, waits_on, conversions, waiting, queue, admits, granted, grant_from, settled, settled_all}
+use Rattle.lock_table.specs.Apply.{CommandOutcome, purged, done, Plain, Applied, is_client, kept, keeps_none, kept_after, carried_out, applied_after, applied, no_locks, table_after}
 use Rattle.lock_index.proofs.Parts.{length_parts}
 use Rattle.lock_index.proofs.Numbered.{numbered, numbered-cons, numbered-append, numbered-filter}
 use Rattle.lock_table.proofs.Quiet.{found_numbered}
-use Rattle.lock_table.proofs.Reachable.{either, found_again}
+use Rattle.lock_table.proofs.Outcomes.{either, not_full, after_enqueue, after_convert, after_release, after_cancel, after_status, after_carry}
 
 -- LOCKS
 
@@ -82,58 +81,12 @@ settled_all_few (name ∷ names) a = omega (arith, settled_all_few names (settle
 IsFew : CommandOutcome → Type 0
 IsFew o = length o.locks ≤ LOCKS
 
-pub not_full : (m n : ℕ) → nat_le m n ≡ false → n < m
-not_full m n h = grind (arith, nat_tests, h)
-
-few-enqueued : (a : List LockRecord) (new : LockRecord) (mode : Mode) (no_queue : Bool) → length a ≤ LOCKS → IsFew (enqueued a new mode no_queue)
-unfolding IsFew
-few-enqueued a new mode no_queue few =
-    either IsFew (is_some (lock_in a new.lock)) _ _ (λ _. few)
-    (λ _. either IsFew (nat_le LOCKS (length a)) _ _ (λ _. few)
-    (λ room. either IsFew (not (has_queue a new.name) && admits a new.lock new.name mode) _ _
-    (λ _. omega (arith, length-put a (in_state new (Granted mode)), not_full LOCKS (length a) room))
-    (λ _. either IsFew no_queue _ _ (λ _. few)
-    (λ _. omega (arith, length-put a (in_state new (Waiting mode)), not_full LOCKS (length a) room)))))
-
-few-carried : (a : List LockRecord) (r : LockRecord) → length a ≤ LOCKS → IsFew (carried a r)
-unfolding IsFew
-few-carried a r few =
-    either IsFew (is_some (lock_in a r.lock)) _ _ (λ _. few)
-    (λ _. either IsFew (nat_le LOCKS (length a)) _ _ (λ _. few)
-    (λ room. omega (arith, length-put a r, not_full LOCKS (length a) room)))
-
-few-converted : (a : List LockRecord) (r : LockRecord) (mode : Mode) (no_queue : Bool) → length a ≤ LOCKS → lock_in a r.lock ≡ Some r → (s : LockState) → IsFew (converted a r mode no_queue s)
-unfolding IsFew
-few-converted a r mode no_queue few there (Waiting wanted) = few
-few-converted a r mode no_queue few there (Converting held wanted) = few
-few-converted a r mode no_queue few there (Granted held) =
-    let here = found_numbered r.lock a r there in
-    either IsFew (admits a r.lock r.name mode) _ _
-    (λ _. omega (arith, few, settled_few (put a (in_state r (Granted mode))) r.name, length-put_there a (in_state r (Granted mode)) here))
-    (λ _. either IsFew no_queue _ _ (λ _. few)
-    (λ _. omega (arith, few, length-put_there a (in_state r (Converting held mode)) here)))
-
-few-released : (a : List LockRecord) (r : LockRecord) → length a ≤ LOCKS → IsFew (released a r)
-unfolding IsFew
-few-released a r few = omega (arith, few, settled_few (without a r.lock) r.name, length-filter (λ o. not (is_lock r.lock o)) a)
-
-few-cancelled : (a : List LockRecord) (r : LockRecord) → length a ≤ LOCKS → lock_in a r.lock ≡ Some r → (s : LockState) → IsFew (cancelled a r s)
-unfolding IsFew
-few-cancelled a r few there (Granted held) = few
-few-cancelled a r few there (Converting held wanted) =
+few-granted : (a : List LockRecord) (r : LockRecord) (held : Mode) → length a ≤ LOCKS → lock_in a r.lock ≡ Some r → length (settled (put a (in_state r (Granted held))) r.name) ≤ LOCKS
+few-granted a r held few there =
     omega (arith, few, settled_few (put a (in_state r (Granted held))) r.name, length-put_there a (in_state r (Granted held)) (found_numbered r.lock a r there))
-few-cancelled a r few there (Waiting wanted) = few-released a r few
 
-few-own : (a : List LockRecord) (client : ℕ) (does : LockRecord → CommandOutcome) (found : Option LockRecord) → length a ≤ LOCKS
-    → ((r : LockRecord) → found ≡ Some r → IsFew (does r)) → IsFew (with_own a client does found)
-unfolding IsFew
-few-own a client does None few each = few
-few-own a client does (Some r) few each = either IsFew (r.client == client) _ _ (λ _. each r refl) (λ _. few)
-
-few-told : (a : List LockRecord) (found : Option LockRecord) → length a ≤ LOCKS → IsFew (told a found)
-unfolding IsFew
-few-told a None few = few
-few-told a (Some r) few = few
+few-without : (a : List LockRecord) (r : LockRecord) → length a ≤ LOCKS → length (settled (without a r.lock) r.name) ≤ LOCKS
+few-without a r few = omega (arith, few, settled_few (without a r.lock) r.name, length-filter (λ o. not (is_lock r.lock o)) a)
 
 few-purged : (a : List LockRecord) (host : ℕ) → length a ≤ LOCKS → IsFew (purged a host)
 unfolding IsFew
@@ -142,15 +95,24 @@ few-purged a host few =
 
 few-done : (a : List LockRecord) (host client : ℕ) (action : Action) → length a ≤ LOCKS → IsFew (done a host client action)
 unfolding IsFew
-few-done a host client (Enqueue lock name mode no_queue) few = few-enqueued a (record { lock = lock; client = client; host = host; name = name; state = Waiting mode }) mode no_queue few
+few-done a host client (Enqueue lock name mode no_queue) few =
+    let new : LockRecord = record { lock = lock; client = client; host = host; name = name; state = Waiting mode } in
+    after_enqueue IsFew a (λ why. few) new mode no_queue
+    (λ place may. omega (arith, length-put a (in_state new (Granted mode)), place.room))
+    (λ place may. omega (arith, length-put a (in_state new (Waiting mode)), place.room))
 few-done a host client (Convert lock mode no_queue value) few =
-    few-own a client (λ r. converted a r mode no_queue r.state) (lock_in a lock) few (λ r found. few-converted a r mode no_queue few (found_again a lock r found) r.state)
-few-done a host client (Release lock value) few = few-own a client (released a) (lock_in a lock) few (λ r found. few-released a r few)
-few-done a host client (Cancel lock) few = few-own a client (λ r. cancelled a r r.state) (lock_in a lock) few (λ r found. few-cancelled a r few (found_again a lock r found) r.state)
-few-done a host client (Status lock) few = few-told a (lock_in a lock) few
+    after_convert IsFew a (λ why. few) client lock mode no_queue
+    (λ r held there is may. few-granted a r mode few there)
+    (λ r held there is may. omega (arith, few, length-put_there a (in_state r (Converting held mode)) (found_numbered r.lock a r there)))
+few-done a host client (Release lock value) few = after_release IsFew a (λ why. few) client lock (λ r found there. few-without a r few)
+few-done a host client (Cancel lock) few =
+    after_cancel IsFew a (λ why. few) client lock (λ r held wanted there is. few-granted a r held few there) (λ r found there. few-without a r few)
+few-done a host client (Status lock) few = after_status IsFew a (λ why. few) lock (λ r. few)
 few-done a host client (Purge gone) few = few-purged a gone few
 few-done a host client (QuietPurge gone) few = few-purged a gone few
-few-done a host client (CarryLock lock name state value) few = few-carried a (record { lock = lock; client = client; host = host; name = name; state = state }) few
+few-done a host client (CarryLock lock name state value) few =
+    let new : LockRecord = record { lock = lock; client = client; host = host; name = name; state = state } in
+    after_carry IsFew a (λ why. few) new (λ place. omega (arith, length-put a new, place.room))
 few-done a host client (CarryClient reply) few = few
 
 -- CLIENTS
