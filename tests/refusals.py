@@ -142,7 +142,7 @@ PLACES = (
     Place("crates/bench/baseline/lock_tables.rs", r"^    (?P<name>\w+),$", ["table"], begin="pub enum Refusal {", end="}"),
     Place("crates/dlm/src/racing.rt", TEXT, ["threads"]),
     Place("capi/examples/rust/guard.rs", r"^const (?P<symbol>[A-Z_]+): c_int = (?P<number>\d+);", [], ["table"], repeats=True),
-    Place("crates/dlm_c/src/fault.rt", r"Fault::(?P<name>NoMemory) => (?P<number>\d+)", ["no memory"]),
+    Place("crates/c_host/src/fault.rt", r"Fault::(?P<name>NoMemory) => (?P<number>\d+)", ["no memory"]),
 )
 PYTHON = "capi/python/midgegalena/__init__.py"
 # Pages about C, and what the names on them are taken from: headers, and the variables of mg-lock.

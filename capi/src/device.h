@@ -12,7 +12,7 @@
 
 enum { DEVICE_VERSION = 3, DEVICE_FIRST = 4096, DEVICE_LONGEST_SECTOR = 4096, DEVICE_HOSTS = 16, DEVICE_DISKS = 7, DEVICE_ROW = 4096, DEVICE_BLOCK = 256 };
 
-/* ---- crates/dlm_c/src ---- */
+/* ---- crates/dlm_c/src, and crates/c_host/src below it ---- */
 
 /* Device, FirstBytes and Sectors of device.rt. A sector size of 0: it is none such. */
 struct device {

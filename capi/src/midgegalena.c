@@ -23,7 +23,7 @@
 #include <time.h>
 #include <unistd.h>
 
-/* ---- crates/dlm_c/src ---- */
+/* ---- crates/dlm_c/src, and crates/c_host/src below it ---- */
 
 enum { HEADER_LENGTH = 1024, ROW_LENGTH = 4096, COPY_LENGTH = 128 };
 

@@ -6,7 +6,7 @@ use Rattle.session.specs.Outcomes.{IsOut}
 use Rattle.session.specs.declared.claim.Claim.{Claim}
 use Rattle.session.specs.declared.learned.Learned.{Learned}
 use Rattle.dlm_c.specs.Claims.{HearsOn, IsLearnedBy, IsOutBy, StaysAsked}
-use Rattle.dlm_c.specs.declared.open_host.OpenHost.{OpenHost}
+use Rattle.c_host.specs.declared.open_host.OpenHost.{OpenHost}
 
 -- It is the same lock, and stays asked for.
 abbrev pub GoesOn : Claim → Claim → Type 0

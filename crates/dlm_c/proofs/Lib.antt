@@ -1,7 +1,3 @@
-mod ClaimValues
-mod Ended
 mod Heard
 mod Nothing
-mod Shown
-mod Steps
 mod Values

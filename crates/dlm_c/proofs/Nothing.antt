@@ -9,7 +9,7 @@ use Rattle.cleanup.specs.declared.purging.PurgeOrder.TheVariants.{TrySign, Submi
 use Rattle.cleanup.specs.declared.purging.Purging.{Purging}
 use Rattle.dlm_c.specs.Cleanups.{IsPurgingOf, PurgesNothing}
 use Rattle.dlm_c.specs.declared.cleanups.CleanupNumbers.{CleanupNumbers}
-use Rattle.dlm_c.specs.declared.open_host.OpenHost.{OpenHost}
+use Rattle.c_host.specs.declared.open_host.OpenHost.{OpenHost}
 
 pub nothing_due_by : (n : CleanupNumbers) (host : OpenHost) (p : Purging) (picture : Shown) (order : PurgeOrder) →
     IsPurgingOf n p → IsPictureOf picture (table_after host.core.prefix) →

@@ -22,9 +22,9 @@ use Rattle.session.specs.declared.claim.Step.TheVariants as step
 use Rattle.session.specs.declared.outcome.Outcome.TheVariants.{Failed}
 use Rattle.session.specs.declared.outcome.Why.TheVariants.{Gone, Stopped, TimeOver, Waits}
 use Rattle.dlm_c.specs.declared.asker.AskerNumbers.{AskerNumbers}
-use Rattle.dlm_c.specs.declared.open_host.OpenHost.{OpenHost}
-use Rattle.dlm_c.specs.Numbers.{bad_argument, busy, done, mode_number, no_memory, nothing_due}
-use Rattle.dlm_c.specs.Steps.{Begins, HasBegun}
+use Rattle.c_host.specs.declared.open_host.OpenHost.{OpenHost}
+use Rattle.c_host.specs.Numbers.{bad_argument, busy, done, mode_number, no_memory, nothing_due}
+use Rattle.c_host.specs.Steps.{Begins, HasBegun}
 
 -- WHOSE CLAIM IT IS
 

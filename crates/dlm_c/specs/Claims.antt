@@ -23,9 +23,9 @@ use Rattle.session.specs.Outcomes.{IsBorneOut, IsOut, IsUnheard, TellsWhy}
 use Rattle.lock_command.specs.declared.reply.Refusal.TheVariants.{NoSuchLock, StillWaiting, TableFull}
 use Rattle.dlm_c.specs.declared.claims.ClaimView.{ClaimView}
 use Rattle.dlm_c.specs.declared.due_order.DueOrder.{DueOrder}
-use Rattle.dlm_c.specs.declared.open_host.OpenHost.{OpenHost}
+use Rattle.c_host.specs.declared.open_host.OpenHost.{OpenHost}
 use Rattle.dlm_c.specs.Marking.{is_waited_for}
-use Rattle.dlm_c.specs.Numbers.{closed, table_number}
+use Rattle.c_host.specs.Numbers.{table_number}
 
 -- THE NUMBERS OF WHAT FAILED
 
@@ -160,15 +160,3 @@ pub record HearsAlone (event : ℕ) (status : ℤ) (old new : Claim) : Type 0 wh
   pub release : KeepsRelease old new
   pub nearer : event ≢ 2 → ComesNearer old new
   pub told : (failed : Failure) → event ≢ 2 → event ≢ 3 → failure_number failed ≡ status → IsOpening old.step → old.over ≡ None → TellsWhy new (why.Failed failed)
-
--- this is so of the claim that is kept, if one is
-abbrev pub InKept : (Claim → Claim → Type 0) → Option Claim → Option Claim → Type 0
-InKept Changes None new = new ≡ None
-InKept Changes (Some old) None = ⊥
-InKept Changes (Some old) (Some new) = Changes old new
-
--- this is so of the claim that is kept; where none is, C is told so
-abbrev pub InClaim : (Claim → Claim → Type 0) → Option Claim → Option Claim → ℤ → Type 0
-InClaim Changes None new status = (new ≡ None) × (status ≡ closed)
-InClaim Changes (Some old) None status = ⊥
-InClaim Changes (Some old) (Some new) status = Changes old new

@@ -19,12 +19,12 @@ use Rattle.cleanup.specs.declared.whose.Kind.TheVariants.{All, Shared, Alone}
 use Rattle.cleanup.specs.Left.{AllPassed, IsFirstFrom, left_by, one_more}
 use Rattle.cleanup.specs.Purges.{HasNoLocks, HasNoRequest, IsTried, PurgesHost}
 use Rattle.dlm_c.specs.declared.cleanups.CleanupNumbers.{CleanupNumbers}
-use Rattle.dlm_c.specs.declared.open_host.OpenHost.{OpenHost}
-use Rattle.dlm_c.specs.declared.view.LockView.{LockView}
+use Rattle.c_host.specs.declared.open_host.OpenHost.{OpenHost}
+use Rattle.c_host.specs.declared.view.LockView.{LockView}
 use Rattle.dlm_c.specs.Claims.{why_number}
-use Rattle.dlm_c.specs.Numbers.{bad_argument, busy, done, no_memory, nothing_due}
-use Rattle.dlm_c.specs.Steps.{Begins, HasBegun}
-use Rattle.dlm_c.specs.Views.{ShowsLock}
+use Rattle.c_host.specs.Numbers.{bad_argument, busy, done, no_memory, nothing_due}
+use Rattle.c_host.specs.Steps.{Begins, HasBegun}
+use Rattle.c_host.specs.Views.{ShowsLock}
 
 -- THE NUMBERS
 

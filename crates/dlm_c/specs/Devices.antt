@@ -17,9 +17,9 @@ use Rattle.sectors.specs.Sector.{stamp_of, sector_with}
 use Rattle.dlm_c.specs.declared.device.Device.{Device}
 use Rattle.dlm_c.specs.declared.device.FirstBytes.{FirstBytes}
 use Rattle.dlm_c.specs.declared.device.Sectors.{Sectors}
-use Rattle.dlm_c.specs.declared.header.HeaderBytes.{HeaderBytes}
-use Rattle.dlm_c.specs.Headers.{header_with}
-use Rattle.dlm_c.specs.Numbers.{done, bad_argument, different, stamp_spent}
+use Rattle.c_host.specs.declared.header.HeaderBytes.{HeaderBytes}
+use Rattle.c_host.specs.Headers.{header_with}
+use Rattle.c_host.specs.Numbers.{done, bad_argument, different, stamp_spent}
 
 -- ---- a device and its header
 

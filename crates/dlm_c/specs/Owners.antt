@@ -12,7 +12,7 @@ use Rattle.sectors.specs.Sector.{stamp_of}
 use Rattle.dlm_c.specs.declared.owner.NameBytes.{NameBytes}
 use Rattle.dlm_c.specs.declared.owner.Heard.{Heard}
 use Rattle.dlm_c.specs.declared.owner.AllHeard.{AllHeard}
-use Rattle.dlm_c.specs.Numbers.{done, bad_argument, stamp_spent, host_in_use, operation_number}
+use Rattle.c_host.specs.Numbers.{done, bad_argument, stamp_spent, host_in_use, operation_number}
 
 -- the name as C has it
 abbrev pub name_of : NameBytes → MachineName

@@ -3,7 +3,7 @@ use Rattle.std.specs.Prelude.{◌≡◌, ◌≤◌, ◌<◌, ◌+◌, ◌⊎◌,
 use Rattle.torn_block.specs.declared.layout.TheConstants.{HOSTS}
 use Rattle.lock_command.specs.Command.{IsLock}
 use Rattle.session.specs.Signs.{sign_name}
-use Rattle.dlm_c.specs.Numbers.{done, bad_argument, no_memory}
+use Rattle.c_host.specs.Numbers.{done, bad_argument, no_memory}
 
 -- the buffer begins with this name and a zero; what stands behind them stays
 abbrev pub IsText : (name old new : List ℕ) → Type 0

@@ -1,7 +1,7 @@
 ghost use Rattle.std.specs.Option.{SomeIff};
 ghost use Rattle.dlm_c.specs.Asking.{MayAsk, asker_of};
 
-use crate::open_host::host_of;
+use c_host::host_of;
 use session::Asker;
 
 /// What a session is to know before it takes a lock, as C hands it over.

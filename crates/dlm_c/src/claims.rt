@@ -1,25 +1,21 @@
 //! Claims in handles: what C calls to have a lock of a session.
 ghost use Rattle.std.specs.Prelude.{◌≡◌, ◌⊎◌, None, Some};
-ghost use Rattle.std.specs.Option.{SomeIff};
-ghost use Rattle.lock_command.specs.Command.{IsLock};
 ghost use Rattle.lock_table.specs.Apply.{table_after};
 ghost use Rattle.lock_table.specs.Picture.{IsPictureOf};
 ghost use Rattle.session.specs.Orders.{order_of};
 ghost use Rattle.dlm_c.specs.Asking.{BeginsGoalOr, KeepsLeft, KeepsNew, Stops, SubmitsOrder};
-ghost use Rattle.dlm_c.specs.Claims.{HearsAlone, HearsOfSigns, HearsOn, HearsRight, InClaim, InKept, ShowsClaim, told_order};
-ghost use Rattle.dlm_c.specs.Numbers.{done, no_memory};
-ghost use Rattle.dlm_c.specs.Steps.{InHandle};
-ghost use Rattle.dlm_c.specs.declared.open_host.OpenHost.{OpenHost};
+ghost use Rattle.dlm_c.specs.Claims.{HearsAlone, HearsOfSigns, HearsOn, HearsRight, ShowsClaim, told_order};
+ghost use Rattle.dlm_c.specs.Handles.{InClaim, InHandle, InKept};
+ghost use Rattle.c_host.specs.Numbers.{done, no_memory};
+ghost use Rattle.c_host.specs.declared.open_host.OpenHost.{OpenHost};
 
 use crate::asker::AskerNumbers;
 use crate::claim_handle::ClaimHandle;
 use crate::due_order::{DueOrder, failure_of};
-use crate::fault::{BAD_ARGUMENT, BUSY, CLOSED, Fault, NOTHING_DUE};
 use crate::handle::Handle;
-use crate::mode_number::mode_of;
-use crate::open_host::OpenHost;
+use c_host::{BAD_ARGUMENT, BUSY, CLOSED, Fault, NOTHING_DUE, OpenHost, lock_of, mode_of};
 use host::HostAnswer;
-use lock_command::{LockName, LockNumber, ValueBytes};
+use lock_command::{LockName, ValueBytes};
 use lock_table::Picture;
 use session::{Claim, Failure, Learned, Order, Standing, Why};
 use std::alloc::Global;
@@ -69,12 +65,6 @@ pub extern "C" fn dlm_c_left(
         handle,
         Claim::left(asker.host, lock, name, mode, set),
     )
-}
-
-pub fn lock_of(number: u32) -> Option<LockNumber>
-    ensures { SomeIff result (IsLock number) number }
-{
-    LockNumber::new(u16::try_from(number).ok()?)
 }
 
 fn keep(alloc: Global, handle: &mut ClaimHandle, claim: Claim) -> i32

@@ -2,16 +2,13 @@
 ghost use Rattle.std.specs.Prelude.{◌≡◌, ◌⊎◌, ◌+◌, ◌-◌, ◌^◌, min, ℕ, IfSome, IfOk, IfErr, None};
 ghost use Rattle.lock_command.specs.declared.command.Command.{Command};
 ghost use Rattle.cleanup.specs.declared.whose.Kind.{Kind};
-ghost use Rattle.dlm_c.specs.Claims.{InClaim};
 ghost use Rattle.dlm_c.specs.Cleanups.{HasPassedAll, IsCleanupOf, IsNoCleanup, IsNoPurging, IsPurged, IsPurgingOf, LacksRequest, PurgesNext, SettlesOrNot, ShowsNext, SubmitsPurgeOrNot, TellsNextLeft, TellsNextPurge, TellsSign, kind_number, passed};
-ghost use Rattle.dlm_c.specs.Steps.{InHandle};
+ghost use Rattle.dlm_c.specs.Handles.{InClaim, InHandle};
 
 use crate::claim_handle::ClaimHandle;
 use crate::due_order::status_of;
-use crate::fault::{BAD_ARGUMENT, BUSY, CLOSED, Fault, NOTHING_DUE};
 use crate::handle::Handle;
-use crate::open_host::{OpenHost, host_of};
-use crate::view::LockView;
+use c_host::{BAD_ARGUMENT, BUSY, CLOSED, Fault, LockView, NOTHING_DUE, OpenHost, host_of};
 use cleanup::{Cleanup, Kind, PurgeOrder, Purging};
 use session::{Claim, Order, Why};
 use std::alloc::Global;

@@ -3,10 +3,8 @@ ghost use Rattle.std.specs.Prelude.{◌+◌, ◌≤◌, ◌↔◌, IsTrue, lengt
 ghost use Rattle.torn_block.specs.declared.layout.TheConstants.{BLOCK_LENGTH};
 ghost use Rattle.dlm_c.specs.Devices.{geometry_of, header_of, FindsBlock, FindsDevice, FindsRow, GivesRow, LaysOutDevice, PutsIn};
 
-use crate::call::Row;
 use crate::device::{Device, FirstBytes, Sectors};
-use crate::fault::{BAD_ARGUMENT, DIFFERENT, STAMP_SPENT};
-use crate::header::{HeaderBytes, lay_out};
+use c_host::{BAD_ARGUMENT, DIFFERENT, HeaderBytes, Row, STAMP_SPENT, lay_out};
 use sectors::{
     DeviceHeader, STAMPED_LENGTH, agree, block_at, decode_device_header, device_size,
     encode_device_header, gather, is_device_header, put_in, row_at, row_size,

@@ -1,8 +1,8 @@
 ghost use Rattle.std.specs.Prelude.{◌≡◌};
 ghost use Rattle.dlm_c.specs.Claims.{ended_as, failure_number, of_kind, told_order, why_number};
 
-use crate::fault::table_number;
 use crate::marking::is_waited_for;
+use c_host::table_number;
 use session::{Failure, Order, Outcome, Why};
 
 /// What is to be done next for a claim, as C is told it.

@@ -1,8 +1,8 @@
 ghost use Rattle.std.specs.Prelude.{◌≡◌, Some, None, IfSome, is_some};
 
 use crate::held::Held;
-use crate::open_host::OpenHost;
 use crate::parts::Parts;
+use c_host::OpenHost;
 use std::alloc::Global;
 use std::mem;
 

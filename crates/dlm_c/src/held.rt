@@ -1,8 +1,8 @@
 ghost use Rattle.std.specs.Prelude.{◌≡◌, Option, Some, None, IsSome};
-ghost use Rattle.dlm_c.specs.declared.open_host.OpenHost.{OpenHost};
+ghost use Rattle.c_host.specs.declared.open_host.OpenHost.{OpenHost};
 
-use crate::open_host::OpenHost;
 use crate::parts::Parts;
+use c_host::OpenHost;
 use std::alloc::{Allocator, Global};
 use std::marker::Model;
 
@@ -17,7 +17,7 @@ pub struct Held {
 
 impl Model for Held {
     ghost use Rattle.dlm_c.specs.Held.{may_own};
-    ghost use Rattle.dlm_c.specs.contracts.open_host.OpenHost.{the_row};
+    ghost use Rattle.c_host.specs.contracts.open_host.OpenHost.{the_row};
 
     ghost also_owns = { λ h. may_own (⟦<Global as Allocator>⟧.dealloc_token h.alloc) the_row h.at h.value };
 }

@@ -4,52 +4,39 @@
 
 ghost use Rattle.std.specs.Prelude.{◌≡◌, ◌↔◌, None, IfOk, IfErr, IsTrue};
 ghost use Rattle.paxos_block.specs.Headers.{IsFormatted};
-ghost use Rattle.dlm_c.specs.Calls.{no_call};
-ghost use Rattle.dlm_c.specs.Headers.{LaysOut};
-ghost use Rattle.dlm_c.specs.Images.{IsOpenedIn, MayRefuse, OpensIn};
-ghost use Rattle.dlm_c.specs.Numbers.{done, closed, fault_number};
-ghost use Rattle.dlm_c.specs.Steps.{InHandle, Submits, Recovers, Looks, Marks, CallsNext, GoesOn};
-ghost use Rattle.dlm_c.specs.Told.{answer_told, status_told};
-ghost use Rattle.dlm_c.specs.Views.{ShowsHost, TellsLock, TellsValue, ShowsLocks, ShowsClients, ShowsText, Tells};
+ghost use Rattle.c_host.specs.Calls.{no_call};
+ghost use Rattle.c_host.specs.Headers.{LaysOut};
+ghost use Rattle.c_host.specs.Images.{MayRefuse};
+ghost use Rattle.c_host.specs.Numbers.{done, closed, fault_number};
+ghost use Rattle.c_host.specs.Steps.{Submits, Recovers, Looks, Marks, CallsNext, GoesOn};
+ghost use Rattle.c_host.specs.Told.{answer_told, status_told};
+ghost use Rattle.c_host.specs.Views.{ShowsHost, ShowsLocks, ShowsClients, ShowsText};
+ghost use Rattle.dlm_c.specs.Handles.{InHandle};
+ghost use Rattle.dlm_c.specs.Opening.{IsOpenedIn, OpensIn};
+ghost use Rattle.dlm_c.specs.Showing.{TellsLock, TellsValue, Tells};
 
-mod answer;
 mod asker;
-mod call;
 mod claim_handle;
 mod claims;
 mod cleanups;
 mod device;
 mod devices;
 mod due_order;
-mod fault;
 mod handle;
-mod header;
 mod held;
 mod held_claim;
-mod images;
-mod law;
 mod marking;
-mod mode_number;
-mod open_host;
 mod owner;
 mod parts;
-mod request;
-mod showing;
 mod signs;
-mod view;
 
-use answer::Answer;
-use call::{DueCall, Row, ToldAnswer, Written};
-use fault::{CLOSED, Fault};
+use c_host::{
+    Answer, CLOSED, ClientView, DueCall, Fault, HeaderBytes, HostView, Images, LockView, OpenHost,
+    Opened, Request, Row, ToldAnswer, ValueView, Written, lay_out,
+};
 use handle::Handle;
-use header::{HeaderBytes, lay_out};
-use images::{Images, Opened};
-pub use law::{calls_make_operations, ends_are_told};
-use open_host::OpenHost;
 use paxos_block::is_formatted;
-use request::Request;
 use std::alloc::Global;
-use view::{ClientView, HostView, LockView, ValueView};
 
 /// Tells the size and the first bytes of an image that is to be made.
 #[unsafe(no_mangle)]

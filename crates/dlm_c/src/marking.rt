@@ -2,9 +2,9 @@
 ghost use Rattle.std.specs.Prelude.{◌≡◌, ◌↔◌, ℕ, List, true, IsTrue};
 ghost use Rattle.lock_command.specs.declared.command.Command.{Command};
 ghost use Rattle.dlm_c.specs.Marking.{is_waited_for};
-ghost use Rattle.dlm_c.specs.Requests.{IsAsked};
+ghost use Rattle.c_host.specs.Requests.{IsAsked};
 
-use crate::request::Request;
+use c_host::Request;
 use lock_command::Action;
 
 /// Tells whether the command that is asked is marked at once, since somebody may wait for what it does. Else a host that marks later may do so with its

@@ -2,7 +2,7 @@
 ghost use Rattle.std.specs.Prelude.{◌≡◌, map};
 ghost use Rattle.dlm_c.specs.Owners.{FindsName, PutsName, TellsOwner, name_of, said_by};
 
-use crate::fault::{BAD_ARGUMENT, HOST_IN_USE, STAMP_SPENT, operation_number};
+use c_host::{BAD_ARGUMENT, HOST_IN_USE, STAMP_SPENT, operation_number};
 use host::Refusal;
 use sectors::{MachineName, NAME_LENGTH, NAMED_LENGTH, Owner, name_in, owner_of, put_name};
 use torn_block::DISKS;

@@ -2,13 +2,11 @@
 ghost use Rattle.std.specs.Prelude.{◌≡◌, ◌⊎◌, ◌<◌, ◌++◌, None, IfOk, IfErr, drop, length};
 ghost use Rattle.session.specs.Signs.{sign_name};
 ghost use Rattle.dlm_c.specs.Signs.{HasNoName, IsText, NamesSign};
-ghost use Rattle.dlm_c.specs.Steps.{InHandle};
+ghost use Rattle.dlm_c.specs.Handles.{InHandle};
 
-use crate::claims::lock_of;
-use crate::fault::{CLOSED, Fault};
 use crate::handle::Handle;
 use crate::number_of;
-use crate::open_host::{OpenHost, host_of};
+use c_host::{CLOSED, Fault, host_of, lock_of};
 use session::sign_name;
 use std::alloc::Global;
 use std::io::Write;
@@ -30,27 +28,23 @@ pub extern "C" fn dlm_c_sign_name(
     let Some(host) = handle.take(alloc) else {
         return CLOSED;
     };
-    let outcome = host.name_sign(alloc, number, lock, into);
+    let outcome = name_sign(alloc, host.cluster, number, lock, into);
     handle.keep(host);
     number_of(outcome)
 }
 
-impl OpenHost {
-    fn name_sign(&self, alloc: Global, number: u32, lock: u32, into: &mut [u8]) -> Result<(), Fault>
-        ensures named { IfOk result (λ _. IsText (sign_name self.now.cluster number lock) into.old into.new) }
-        ensures unnamed { IfErr result (λ fault. into.new ≡ into.old × (((fault ≡ Fault.BadArgument) × HasNoName self.now.cluster number lock (length into.old)) ⊎ (fault ≡ Fault.NoMemory))) }
-    {
-        let (Some(host), Some(lock)) = (host_of(number), lock_of(lock)) else {
-            return Err(Fault::BadArgument);
-        };
-        let mut name = Vec::new(alloc);
-        if sign_name(self.cluster, host, lock, &mut name).is_err()
-            || name.write_all(b"\0").is_err()
-        {
-            return Err(Fault::NoMemory);
-        }
-        put(&name, into)
+fn name_sign(alloc: Global, set: u64, number: u32, lock: u32, into: &mut [u8]) -> Result<(), Fault>
+    ensures named { IfOk result (λ _. IsText (sign_name set number lock) into.old into.new) }
+    ensures unnamed { IfErr result (λ fault. into.new ≡ into.old × (((fault ≡ Fault.BadArgument) × HasNoName set number lock (length into.old)) ⊎ (fault ≡ Fault.NoMemory))) }
+{
+    let (Some(host), Some(lock)) = (host_of(number), lock_of(lock)) else {
+        return Err(Fault::BadArgument);
+    };
+    let mut name = Vec::new(alloc);
+    if sign_name(set, host, lock, &mut name).is_err() || name.write_all(b"\0").is_err() {
+        return Err(Fault::NoMemory);
     }
+    put(&name, into)
 }
 
 fn put(name: &[u8], into: &mut [u8]) -> Result<(), Fault>

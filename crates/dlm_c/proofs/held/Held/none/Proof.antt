@@ -18,6 +18,7 @@ use denote.Steps.{nothing}
 use Rattle.std.specs.Prelude.{None}
 use Rattle.std.proofs.raw_atomic.Walks.{proved_at}
 use Rattle.dlm_c.proofs.Values.{both, Z, none_good, handle_out, none_in}
+use Rattle.c_host.specs.contracts.open_host.OpenHost.{the_row}
 use Rattle.dlm_c.specs.contracts.held.Held.none.{ended, clauses}
 use Rattle.dlm_c.specs.contracts.held.Held.none.Key.{name as #self}
 use Rattle.dlm_c.proofs.held.Held.none.Statement.{statement}
@@ -32,7 +33,7 @@ none_spec 𝓤 𝓛 𝓜 𝓡 wired =
     qed 𝓛 ((‵ ftrue ⊛ ‵ (owns (types_at ended.signature.params κs) z.0.3 z.0.4)) ∷ raw ((c κs z.0.3).requires z.1) ∷ []) ∵ split ! $ move ! (1 ∷ []) $ fsplit ! $ handle_out ! a z.0.4.0 (λ h ws fits.
     suffices ! (Run (h ∷ [])) (subst (λ (us : List Val). ent 𝓤 (Run (h ∷ [])) (Run us)) (sym (λ i. ws i ++ [])) (id⊢ 𝓤 (Run (h ∷ [])))) $
     enter ! 𝓣.C 𝓣.Λ fn (h ∷ []) Post $ alloc_all ! (λ l. pass_all ! refl (fits, tt) $
-    sets ! (agg ! (and_then ! (lit ! tt) (and_then ! (get ! refl) (no_more !)))) refl (none_good h fits) $ none_in ! h a $
+    sets ! (agg ! (and_then ! (lit ! tt) (and_then ! (get ! refl) (no_more !)))) refl (none_good h fits) $ none_in the_row ! h a $
     returns ! (look_at ! 0 refl) $ free_all ! refl $ keep ! (0 ∷ []) $
     suffices ! _ (ends_at 𝓛 ended hs c z (both vnull h) (record { at = null_ptr; alloc = a; value = None }) (tt, tt) (tt, tt)) $ says ! refl $
     nothing ! $ nothing ! $ join ! $ nothing ! $ done !)))

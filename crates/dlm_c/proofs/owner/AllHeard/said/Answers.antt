@@ -4,7 +4,7 @@ use Rattle.std.specs.Option.{unwrap_or}
 use Rattle.std.proofs.lemmas.Option.{slice_get_within, slice_get-get_or}
 use Rattle.dlm_c.specs.declared.owner.Heard.{Heard}
 use Rattle.dlm_c.specs.Owners.{said_by}
-use Rattle.dlm_c.proofs.Shown.{all_go, goes_put}
+use Rattle.c_host.proofs.Shown.{all_go, goes_put}
 use Rattle.dlm_c.proofs.owner.AllHeard.said.Goals as goal
 
 pub loop-disk-preserved : goal.loop-disk-preserved

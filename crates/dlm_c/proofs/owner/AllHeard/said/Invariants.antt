@@ -1,6 +1,6 @@
 use Rattle.std.proofs.Common.{◌≡◌, length}
 use Rattle.dlm_c.specs.Owners.{said_by}
-use Rattle.dlm_c.proofs.Shown.{GoBelow}
+use Rattle.c_host.proofs.Shown.{GoBelow}
 use Rattle.dlm_c.proofs.owner.AllHeard.said.Given as goal
 
 abbrev pub invariant-loop-disk : goal.invariant-loop-disk

@@ -1,0 +1,3 @@
+mod Ended
+pub mod Shown
+mod Steps

@@ -1,0 +1,9 @@
+pub mod Calls
+pub mod Ends
+pub mod Headers
+pub mod Images
+pub mod Numbers
+pub mod Requests
+pub mod Steps
+pub mod Told
+pub mod Views

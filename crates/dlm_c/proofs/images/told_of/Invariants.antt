@@ -1,8 +1,0 @@
-use Rattle.std.proofs.Common.{◌≡◌}
-use Rattle.dlm_c.specs.Images.{used_of}
-use Rattle.dlm_c.proofs.Shown.{GoBelow}
-use Rattle.dlm_c.proofs.images.told_of.Given as goal
-
--- those below the number are told
-abbrev pub invariant-loop-disk : goal.invariant-loop-disk
-invariant-loop-disk l = GoBelow (λ k flag said. flag ≡ used_of said) l.used l.found l.disk

@@ -1,6 +1,0 @@
-use Rattle.dlm_c.specs.Views.{ShowBelow, ShowsClient}
-use Rattle.dlm_c.proofs.showing.show_clients.Given as goal
-
--- those below the place are shown
-abbrev pub invariant-loop-place : goal.invariant-loop-place
-invariant-loop-place l = ShowBelow ShowsClient l.into l.clients l.place
