@@ -59,11 +59,6 @@ below_some (suc n) g d is =
           rw before refl)
     ]
 
--- the same numbers pass: the same is the first
-pub first_same : (n : ℕ) (g h : ℕ → Bool) → ((d : ℕ) → d < n → g d ≡ h d) → first_below n g ≡ first_below n h
-first_same zero g h e = refl
-first_same (suc n) g h e = rw (first_same n g h (λ d l. e d (omega arith)), e n (omega arith)) refl
-
 -- HOW MANY
 
 -- where more pass, the count is no less

@@ -79,12 +79,6 @@ module _ (s : Setup) where
   answers_at before (y ∷ heard) (suc place) x is at =
       subst (λ (l : List Answered). IsAnswerTo (next_call s (on l)) x) (append_assoc before (y ∷ []) (take place heard)) (answers_at (before ++ y ∷ []) heard place x is.1 at)
 
-  -- what comes before a place is a history, and the rest goes on from there
-  front_at : (before heard : List Answered) (place : ℕ) → IsHistoryFrom s before heard → IsHistoryFrom s before (take place heard)
-  front_at before heard zero is = tt
-  front_at before [] (suc place) is = tt
-  front_at before (y ∷ heard) (suc place) is = (is.0, front_at (before ++ y ∷ []) heard place is.1)
-
   -- and the rest goes on from there
   pub rest_at : (before heard : List Answered) (place : ℕ) → IsHistoryFrom s before heard → IsHistoryFrom s (before ++ take place heard) (drop place heard)
   rest_at before heard zero is = subst (λ (l : List Answered). IsHistoryFrom s l heard) (sym (append-nil before)) is

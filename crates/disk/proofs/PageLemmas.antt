@@ -111,14 +111,6 @@ range_read pages bytes at n size page rooms is given one within =
     ap (λ (r : ℕ). slice_range bytes (4096 * r + at % 4096) (4096 * r + at % 4096 + n)) room
     ∙ sym (seen_range pages 0 bytes at n size rooms one (is_given pages (length bytes) (at / 4096) rooms (λ far. given (room ∙ far))) within)
 
--- what is left once both parts of a list were written
-pub in_two : {X : Type 0} (into one two : List X) (k : ℕ) → k ≤ length into → length one ≡ k → take k (one ++ drop k into) ++ (two ++ drop (length (one ++ drop k into) - k) (drop k (one ++ drop k into))) ≡ one ++ two
-in_two {X} into one two k fits n =
-    let all = one ++ drop k into in
-    ap (λ (l : List X). l ++ (two ++ drop (length all - k) (drop k all))) (take-append-le k one (drop k into) (omega arith) ∙ take_all k one (omega arith))
-    ∙ ap (λ (l : List X). one ++ (two ++ l)) (drop_all (length all - k) (drop k all) (omega (arith, length-drop k all)))
-    ∙ ap (λ (l : List X). one ++ l) (append-nil two)
-
 -- the bytes of a page outside its range
 module _ (pages : List Page) (all : List ℕ) (marked : List Bool) (blank : BlankOutside pages all marked) (at : ℕ) (e : Page) (whole : at % 4096 ≡ 0) (is : e ≡ nth_page pages (at / 4096)) (k : ℕ) (within : k < 4096) where
   same_page : nth_page pages ((at + k) / 4096) ≡ e

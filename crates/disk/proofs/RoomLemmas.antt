@@ -175,37 +175,6 @@ module _ (pages : List Page) (n i : ℕ) (page : Page) (rooms : HaveRooms pages 
 
 -- a page's range is widened
 module _ (pages : List Page) (i : ℕ) (page : Page) (within : i < length pages) (room : page.room ≡ (nth_page pages i).room) where
-  same_room : (j : ℕ) → (nth_page (set pages i page) j).room ≡ (nth_page pages j).room
-  same_room j = set_each pages i page within (λ (p : Page). p.room ≡ (nth_page pages j).room) j (λ is. room ∙ ap (λ (k : ℕ). (nth_page pages k).room) (sym is)) (λ off. refl)
-
-  pub same_home : (k : ℕ) → home (set pages i page) k ≡ home pages k
-  same_home k = ap (λ (r : ℕ). 4096 * r + k % 4096) (same_room (k / 4096))
-
-  pub rooms_widened : (n : ℕ) → page.to ≤ 4096 → HaveRooms pages n → 4096 * (nth_page pages i).room < n → HaveRooms (set pages i page) n
-  rooms_widened n last rooms here =
-      record {
-        own = λ a b same under. rooms.own a b (sym (same_room a) ∙ same ∙ same_room b) (omega (arith, same_room a, under));
-        others = λ j. set_each pages i page within (λ (p : Page). n ≤ 4096 * p.room → p ≡ unwritten) j (λ is past. absurd (omega (arith, room, past, here))) (λ off past. rooms.others j past);
-        within = λ j. set_each pages i page within (λ (p : Page). p.to ≤ 4096) j (λ is. last) (λ off. rooms.within j);
-        all =
-            (let same : has_room page ≡ has_room (nth_page pages i) = ap (λ (r : ℕ). nat_lt r (2 ^ 64 - 1)) room in
-            omega (arith, count_same has_room pages i page unwritten within same, rooms.all));
-      }
-
-  pub covers_here : (k : ℕ) → k / 4096 ≡ i → page.from ≤ k % 4096 → k % 4096 < page.to → Covers (set pages i page) k
-  covers_here k is from to =
-      let each = λ (P : Page → Type 0) (holds : P page). set_each pages i page within P (k / 4096) (λ e. holds) (λ off. absurd (off is)) in
-      record { from = each (λ (p : Page). p.from ≤ k % 4096) from; to = each (λ (p : Page). k % 4096 < p.to) to }
-
-  pub covers_set : (k : ℕ) → page.from ≤ (nth_page pages i).from → (nth_page pages i).to ≤ page.to → Covers pages k → Covers (set pages i page) k
-  covers_set k low high covers =
-      let at : k / 4096 ≡ i → nth_page pages (k / 4096) ≡ nth_page pages i = ap (nth_page pages) in
-      let each = λ (P : Page → Type 0). set_each pages i page within P (k / 4096) in
-      record {
-        from = each (λ (p : Page). p.from ≤ k % 4096) (λ is. omega (arith, low, covers.from, ap (λ (p : Page). p.from) (at is))) (λ off. covers.from);
-        to = each (λ (p : Page). k % 4096 < p.to) (λ is. omega (arith, high, covers.to, ap (λ (p : Page). p.to) (at is))) (λ off. covers.to);
-      }
-
 -- where its page was widened a range is still kept
 pub kept_after : (old new : List Page) (n at : ℕ) (page : Page) → HaveRooms new n → home new at ≡ home old at → 4096 * (nth_page old (at / 4096)).room < n → page ≡ nth_page new (at / 4096) → 4096 * page.room + 4096 ≤ n
 kept_after old new n at page rooms same here is =

@@ -193,9 +193,6 @@ goes gives command tries config old new over done =
 pub still_over : {D : Type 0} (gives : D → Call → Answer → D → Type 0) (command : Command) (tries : ℕ) (config : Shape) (old new : Standing D) → IsOver config old → HasTried gives command tries old new → IsOver config new
 still_over gives command tries config old new over done = let w = comes gives command tries config over.0 over.1 old new over.2 done in (over.0, w.memory, w.leads)
 
-pub over_recovered : {D : Type 0} (gives : D → Call → Answer → D → Type 0) (tries : ℕ) (config : Shape) (old new : Standing D) → IsOver config old → HasOperated gives Recovering tries old new → IsOver config new
-over_recovered gives tries config old new over done = (over.0, after_made config over.0 (goes_on config over.1 Recovering tries) done.made, done.leads config over.0 over.1 over.2)
-
 pub is_one_more : (slots had now slot : ℕ) (reply : Reply) (said : Option HostAnswer) → said ≡ Some (Ack slot reply) → Told slots had now said → had < now
 is_one_more slots had now slot reply said is told = subst (Told slots had now) is told
 

@@ -51,9 +51,6 @@ up_to P n k lower last below = on_test (nat_lt k n) refl
     on_test true is = lower (ltb-true k n is)
     on_test false is = let most : n ≤ k = ltb-false k n is in let e : n ≡ k = omega (arith, most, below) in subst P e last
 
-pub none_became : {X : Type 0} (becomes : ℕ → X → X → Type 0) (xs : List X) → FirstBecame becomes 0 xs xs
-none_became becomes xs = record { as_many = refl; first = λ k a b below at_a at_b. absurd (omega (arith, below)); others = λ k above. refl }
-
 -- the next one does
 pub one_more_became : {X : Type 0} (becomes : ℕ → X → X → Type 0) (n : ℕ) (old now : List X) (a b : X) → slice_get now n ≡ Some a → becomes n a b → FirstBecame becomes n old now → FirstBecame becomes (n + 1) old (slice_set now n b)
 one_more_became {X} becomes n old now a b at_a one w = record { as_many = length-set now n b ∙ w.as_many; first = first; others = others }
@@ -73,21 +70,6 @@ one_more_became {X} becomes n old now a b at_a one w = record { as_many = length
 
     first : (k : ℕ) (x y : X) → k < n + 1 → slice_get old k ≡ Some x → slice_get (slice_set now n b) k ≡ Some y → becomes k x y
     first k x y below = up_to (λ (m : ℕ). slice_get old m ≡ Some x → slice_get (slice_set now n b) m ≡ Some y → becomes m x y) n k (lower k x y) (here x y) below
-
--- what is found of an image that told its first bytes
-pub finds_told : {D : Type 0} (gives : D → Call → Answer → D → Type 0) (header : Header) (size : ℕ) (old new : D) (bytes : List ℕ) (gate : Gate) → HEADER_LENGTH ≤ size → HasToldFirst gives old bytes new
-    → ((gate ≡ Open) ↔ IsOpenImage header size bytes) → ((gate ≡ Closed) ↔ IsClosedImage header size bytes) → Finds gives header size old new gate
-finds_told gives header size old new bytes Open room told when_open when_closed = (room, bytes, told, when_open.0 refl)
-finds_told gives header size old new bytes Closed room told when_open when_closed = (room, bytes, told, when_closed.0 refl)
-finds_told gives header size old new bytes Neither room told when_open when_closed =
-    inr (
-      bytes,
-      told,
-      record {
-        not_open = λ is. let e : Neither ≡ Open = when_open.1 is in absurd (cc);
-        not_closed = λ is. let e : Neither ≡ Closed = when_closed.1 is in absurd (cc);
-      },
-    )
 
 -- an opening that the write ends
 pub writing_failed : {D : Type 0} (gives : D → Call → Answer → D → Type 0) (old attached new : D) (boot : ℕ) (fault : DiskFault) (result : Result Unit DiskFault) → IsErrAnd result (λ why. why ≡ fault) → gives old Attach (Booted boot) attached

@@ -390,9 +390,6 @@ module _ (c : Shape) (h : ℕ) (m : Memory) (k : Kept) (leads : LeadsTo c h m k)
     doing = doing;
   }
 
-  pub begins_beat : (b : beat_notes.Notes) → beat_kept.LeadsTo (beat_of c h) [] b → LeadsTo c h (does m (Beats [])) (record k { said = None; beside = beside.Beat b })
-  begins_beat b begun = begins_beside (does m (Beats [])) (beside.Beat b) refl refl refl refl ([], refl, begun)
-
   -- a look at the next slot
   pub begins_look : (first : ℕ) (b : look_notes.Notes) → length m.learned < c.slots → look_kept.LeadsTo (look_of c m first) [] b → LeadsTo c h (looks_on c m first) (record k { said = None; beside = beside.Look b })
   begins_look first b there begun =

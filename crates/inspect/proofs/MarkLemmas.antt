@@ -149,13 +149,6 @@ zero_seen zero a = omega arith
 zero_seen (suc n) zero = omega arith
 zero_seen (suc n) (suc a) = zero_seen n a
 
--- one lock before the queue waits too
-pub queue_more : (locks : List LockRecord) (queue end : ℕ) (first : LockRecord) → 0 < queue → first ≡ slice_index_or locks (queue - 1) first → is_waiting first.state ≡ true → IsQueue locks queue end → IsQueue locks (queue - 1) end
-queue_more locks queue end first some is_first waits behind j y from lt at_y = elim (same_or_not j (queue - 1)) [
-  | inl is ↦
-      let is_y : first ≡ y = is_first ∙ get_or_from_slice_get locks (queue - 1) y first (subst (λ n. slice_get locks n ≡ Some y) is at_y) in
-      subst (λ (r : LockRecord). is_waiting r.state ≡ true) is_y waits
-  | inr other ↦ behind j y (search rules) lt at_y
 ]
 
 -- what is seen before a run says nothing of its queue

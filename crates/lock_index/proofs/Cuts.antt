@@ -98,9 +98,6 @@ module _ {X : Type 0} (cmp : X → X → Ordering) where
     pub partitioned : (p : X → Bool) → ((x y : X) → lt y x ≡ false → p y ≡ true → p x ≡ true) → (xs : List X) → IsSorted cmp xs → IsPartitionedBy p xs
     partitioned p down xs up i j d before inside passes = down (get_or xs i d) (get_or xs j d) (sorted_far lt order xs up i j d before inside) passes
 
-    pub not_above_down : (z x y : X) → lt y x ≡ false → not (lt z y) ≡ true → not (lt z x) ≡ true
-    not_above_down z x y not_less passes = ap not (order.chain z y x (not-true (lt z y) passes) not_less)
-
     pub in_order_sorted : (xs : List X) → IsSorted cmp xs → in_order cmp xs ≡ xs
     in_order_sorted xs up =
         one_sorted cmp order (in_order cmp xs) xs (IsSorted-in_order cmp order xs) up

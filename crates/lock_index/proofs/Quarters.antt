@@ -13,20 +13,7 @@ pub record IsCounted {X : Type 0} (p : X → Bool) (xs : List X) (place at : ℕ
   pub behind : place < at → AllWithin (λ x. p x ≡ false) xs place (length xs)
 
 module _ {X : Type 0} (p : X → Bool) (xs : List X) (from size : ℕ) (narrowed : IsNarrowed p xs from size) where
-  pub counted_none : IsCounted p xs from from
-  counted_none = record { front = narrowed.front; reached = omega arith; behind = λ less. absurd (omega (arith, less)) }
-
   module _ (place at : ℕ) (counted : IsCounted p xs place at) (on : at ≡ from + size) where
-    pub counted_bound : place ≤ length xs
-    counted_bound = omega (arith, counted.reached, narrowed.inside, on)
-
-    pub counted_all : IsPartitionPoint (λ x. p x ≡ true) (λ x. p x ≡ false) xs place
-    counted_all = (
-      counted.front,
-      elim (cases_lt place at) as (λ w. AllWithin (λ x. p x ≡ false) xs place (length xs)) [
-        | inl less ↦ counted.behind less
-        | inr not_less ↦ λ k d low high. narrowed.behind k d (omega (arith, not_less, on, low)) high
-      ],
     )
 
 module _ {X : Type 0} (p : X → Bool) (xs : List X) (cut : IsPartitionedBy p xs) where

@@ -66,13 +66,6 @@ at_inside first disks (suc n) f l = elim (cases_lt n first) [
   | inr high ↦ (let at = at_high first n high in omega arith)
 ]
 
-pub turn_inside : (first disks d : ℕ) → d < disks → first < disks → turn_of first d < disks
-turn_inside first disks d l f = elim (cases_eq d first) [
-  | inl same ↦ (let is = ap (turn_of first) same ∙ turn_first first in omega arith)
-  | inr off ↦ elim (cases_lt d first) [
-    | inl below ↦ (let is = turn_below first d below in omega arith)
-    | inr beyond ↦ (let above : first < d = omega arith in let is = turn_above first d above in omega arith)
-  ]
 ]
 
 -- behind the first, the disks below the one that is asked had their turns

@@ -66,9 +66,6 @@ block_left n slot value is =
     ap (λ (l : List (List ℕ)). map Putting (blocks_from slot l) ++ rest) (drop_found n.log.items slot value is)
     ∙ ap (λ (k : ℕ). Putting (place_of cluster_version (VoteOf slot 0), block_for value) ∷ (map Putting (blocks_from k (drop (slot + 1) n.log.items)) ++ rest)) next
 
-pub no_block_left : (n : Notes) (slot : ℕ) → length n.log.items ≤ slot → left_from n slot ≡ Syncing ∷ header_calls (setup_of n) n.disk
-no_block_left n slot all = ap (λ (l : List (List ℕ)). map Putting (blocks_from slot l) ++ Syncing ∷ header_calls (setup_of n) n.disk) (drop_all slot n.log.items all)
-
 -- THE NEXT DISK
 
 module _ (f : ℕ → List Due) where
@@ -96,9 +93,6 @@ module _ (n : Notes) where
       ap (λ (l : List Due). l ++ each opening 0 disks) (each_more (filling (setup_of n)) d disks more)
       ∙ append_assoc (filling (setup_of n) (d + 1)) (each (filling (setup_of n)) (d + 1 + 1) (disks - (d + 1 + 1))) (each opening 0 disks)
 
-  pub first_opened : 1 ≤ disks → disks ≤ d + 1 → fills_later n ≡ on 0 opens ++ each opening 1 (disks - 1)
-  first_opened some last = ap (λ (l : List Due). l ++ each opening 0 disks) (each_none (filling (setup_of n)) d disks last) ∙ each_first opening disks some
-
   pub next_opened : d + 1 < disks → gates_later n ≡ on (d + 1) opens ++ each opening (d + 1 + 1) (disks - (d + 1 + 1))
   next_opened more = each_more opening d disks more
 
@@ -115,26 +109,12 @@ fills_next n going is more =
     ∙ ap (going_on n) (sym (next_filled n more))
     ∙ sym (succeeds_at n stage.SyncingHeader (record { disk = n.disk; kind = Syncing }) (fills_later n) going is refl)
 
-pub opens_first : (n : Notes) → n.end ≡ None → n.stage ≡ stage.SyncingHeader → 1 ≤ n.config.disks → n.config.disks ≤ n.disk + 1
-    → progress_of (record n { disk = 0; stage = stage.OpeningGate }) ≡ hears (progress_of n) Done
-opens_first n going is some last =
-    let new = record n { disk = 0; stage = stage.OpeningGate } in
-    stands_at new stage.OpeningGate going refl
-    ∙ ap (going_on n) (sym (first_opened n some last))
-    ∙ sym (succeeds_at n stage.SyncingHeader (record { disk = n.disk; kind = Syncing }) (fills_later n) going is refl)
-
 pub opens_next : (n : Notes) → n.end ≡ None → n.stage ≡ stage.SyncingGate → n.disk + 1 < n.config.disks
     → progress_of (record n { disk = n.disk + 1; stage = stage.OpeningGate }) ≡ hears (progress_of n) Done
 opens_next n going is more =
     let new = record n { disk = n.disk + 1; stage = stage.OpeningGate } in
     stands_at new stage.OpeningGate going refl
     ∙ ap (going_on n) (sym (next_opened n more))
-    ∙ sym (succeeds_at n stage.SyncingGate (record { disk = n.disk; kind = Syncing }) (gates_later n) going is refl)
-
-pub opens_last : (n : Notes) → n.end ≡ None → n.stage ≡ stage.SyncingGate → n.config.disks ≤ n.disk + 1
-    → progress_of (record n { end = Some Migrated }) ≡ hears (progress_of n) Done
-opens_last n going is last =
-    ap (going_on n) (sym (none_opened n last))
     ∙ sym (succeeds_at n stage.SyncingGate (record { disk = n.disk; kind = Syncing }) (gates_later n) going is refl)
 
 -- the block of a slot is put
@@ -155,9 +135,6 @@ boot_at boots d boot within e = elim (cases_eq e d) [
       let none : Boot = record { number = 0 } in
       ap (λ (b : Boot). b.number) (get_or-set_other boots d e boot none other) ∙ sym (cond-false (e == d) boot.number (boot_in boots e) (ne_eqb e d other))
 ]
-
-pub boots_now : (boots : List Boot) (d : ℕ) (boot : Boot) → d < length boots → boot_in (set boots d boot) ≡ with_boot (boot_in boots) d (Booted boot.number)
-boots_now boots d boot within = λ i. λ e. (boot_at boots d boot within e) i
 
 -- THE CALL THAT IS DUE
 

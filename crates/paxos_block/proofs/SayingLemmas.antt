@@ -221,11 +221,6 @@ unfolding zeros
 zero_since zero = refl
 zero_since (suc n) = zero_since n
 
-same_tests : (a b : Bool) → (a ≡ true → b ≡ true) → (b ≡ true → a ≡ true) → a ≡ b
-same_tests true b there back = sym (there refl)
-same_tests false true there back = back refl
-same_tests false false there back = refl
-
 -- ---- the tests of a reader that has the heading, the ballots and the rest apart
 
 pub body_parts : (v : Version) → body_length v ≡ 23 + value_length v + padding v

@@ -10,15 +10,6 @@ use Rattle.session.specs.declared.claim.Then.TheVariants.{AskAgain, End}
 use Rattle.session.specs.declared.learned.Learned.{Learned}
 use Rattle.session.specs.declared.outcome.Outcome.TheVariants.{Held, NotHeld, Given, InDoubt, Failed}
 
--- what has nothing to be heard is borne out by anything
-pub unheard_is_borne_out : (l : Learned) (c : Claim) → IsUnheard c → IsBorneOut l c
-unheard_is_borne_out l c is = record {
-  held = λ ends. absurd (is.held ends);
-  nothing = λ why ends. inl (is.nothing why ends);
-  given = λ slot ends. absurd (is.given slot ends);
-  again = λ asks. absurd (is.again asks);
-  failed = is.failed;
-  own = is.own;
 }
 
 -- a step that leads to something submits nothing

@@ -8,11 +8,6 @@ pub long_copy : (v : Version) → 64 ≤ copy_length v
 long_copy Version1 = omega arith
 long_copy Version2 = omega arith
 
--- the longest has 128
-pub short_copy : (v : Version) → copy_length v ≤ 128
-short_copy Version1 = omega arith
-short_copy Version2 = omega arith
-
 -- a copy has room for a heading, three numbers and an input
 pub long_value : (v : Version) → 32 + value_length v ≤ copy_length v
 long_value Version1 = omega arith
