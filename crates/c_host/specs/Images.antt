@@ -31,13 +31,13 @@ IsRead disk image header = (image.is_read ≡ 1) × IsRight cluster_version disk
 
 -- it was read, and is right by the layout that images had before
 abbrev pub IsReadAsOld : ℕ → Image → Type 0
-IsReadAsOld disk image = (image.is_read ≡ 1) × IsOld disk (long_of image) image.bytes
+IsReadAsOld disk image = (image.is_read ≡ 1) × IsOld cluster_version disk (long_of image) image.bytes
 
 -- what is wrong with an image: its gate is not open; it is too short for a header, or its header is right by neither layout; it was not read;
 -- or it has the layout that images had before
 abbrev pub HasFault : ℕ → Image → ImageFault → Type 0
 HasFault disk image NotFormatted = (image.is_read ≡ 1) × (HEADER_LENGTH ≤ long_of image) × ¬ IsFormatted image.bytes
-HasFault disk image WrongHeader = (image.is_read ≡ 1) × ((long_of image < HEADER_LENGTH) ⊎ HasWrongHeader disk (long_of image) image.bytes)
+HasFault disk image WrongHeader = (image.is_read ≡ 1) × ((long_of image < HEADER_LENGTH) ⊎ HasWrongHeader cluster_version disk (long_of image) image.bytes)
 HasFault disk image Unreadable = image.is_read ≢ 1
 HasFault disk image OldLayout = IsReadAsOld disk image
 

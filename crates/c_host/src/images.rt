@@ -7,7 +7,7 @@ use disk::ImageFault;
 use dlm_images::{image_header, length_in_header};
 use host::Config;
 use paxos_block::Header;
-use torn_block::{DISKS, HEADER_LENGTH};
+use torn_block::{ClusterLayout, DISKS, HEADER_LENGTH};
 
 /// What C found of an image.
 #[repr(C)]
@@ -59,7 +59,7 @@ fn header_of(disk: u8, image: &Image) -> Result<Header, ImageFault>
     if image.is_read != 1 {
         return Err(ImageFault::Unreadable);
     }
-    image_header(disk, image.long(), &image.bytes)
+    image_header::<ClusterLayout>(disk, image.long(), &image.bytes)
 }
 
 impl Image {

@@ -4,7 +4,7 @@ use Rattle.std.proofs.Math.Numerals.{add-one}
 use Rattle.std.proofs.lemmas.Bool.{eqb-true}
 use Rattle.std.proofs.lemmas.List.{length-set}
 use Rattle.std.specs.Result.{IsErrAnd}
-use Rattle.torn_block.specs.Layout.{cluster_version}
+use Rattle.torn_block.specs.Layout.{Version}
 use Rattle.torn_block.specs.declared.layout.TheConstants.{DISKS, SLOTS}
 use Rattle.disk.specs.declared.fault.ImageFault.{ImageFault}
 use Rattle.disk.specs.FileStates.{FileState}
@@ -82,15 +82,15 @@ get-take (suc n) (y ∷ ys) zero x is = is
 get-take (suc n) (y ∷ ys) (suc k) x is = get-take n ys k x is
 
 -- the folder's disks are in use where their images were found right
-pub opened : (found : Found) → AreImages found → (config : Shape) (cluster : ℕ) → HasNumbers found config cluster → (size : ℕ) → size ≡ image_length cluster_version config.slots
-    → (all : List FileState) → ((k : ℕ) (d : FileState) (image : Result Header ImageFault) → slice_get all k ≡ Some d → slice_get found k ≡ Some image → IsDiskOf image d)
+pub opened : (v : Version) (found : Found) → AreImages found → (config : Shape) (cluster : ℕ) → HasNumbers found config cluster → (size : ℕ) → size ≡ image_length v config.slots → (all : List FileState)
+    → ((k : ℕ) (d : FileState) (image : Result Header ImageFault) → slice_get all k ≡ Some d → slice_get found k ≡ Some image → IsDiskOf v image d)
     → (n : ℕ) (disks : List FileState) → disks ≡ map (resized size) (take n all) → IsOpened found config cluster disks
-opened found images config cluster numbers size long all pairs n disks is = record { images = images; numbers = numbers; used = used }
+opened v found images config cluster numbers size long all pairs n disks is = record { images = images; numbers = numbers; used = used }
   where
-    by_image : (k : ℕ) (d e : FileState) (image : Result Header ImageFault) → resized size e ≡ d → slice_get found k ≡ Some image → IsDiskOf image e → d.used ≡ is_ok image
+    by_image : (k : ℕ) (d e : FileState) (image : Result Header ImageFault) → resized size e ≡ d → slice_get found k ≡ Some image → IsDiskOf v image e → d.used ≡ is_ok image
     by_image k d e (Ok header) is there right =
         let slots : config.slots ≡ header.slots = numbers.slots ∙ (numbers.is_set.all k header there).slots in
-        let same : e.size ≡ size = right.1 ∙ sym (long ∙ ap (image_length cluster_version) slots) in
+        let same : e.size ≡ size = right.1 ∙ sym (long ∙ ap (image_length v) slots) in
         ap (λ (x : FileState). x.used) (sym is ∙ resized-same size e same) ∙ right.0
     by_image k d e (Err fault) is there refused = ap (λ (x : FileState). x.used) (sym is) ∙ resized-unused size e refused
 

@@ -5,7 +5,7 @@ use Rattle.disk.specs.declared.fault.ImageFault.TheVariants.{NotFormatted, Wrong
 use Rattle.disk.specs.Disk.{Call, Attach, Read, Answer, Booted, Told, Fault}
 use Rattle.disk.specs.declared.fault.DiskFault.{DiskFault}
 use Rattle.disk.specs.FileStates.{FileState, FileGives}
-use Rattle.torn_block.specs.Layout.{cluster_version}
+use Rattle.torn_block.specs.Layout.{Version}
 use Rattle.torn_block.specs.declared.layout.TheConstants.{HEADER_LENGTH}
 use Rattle.paxos_block.specs.declared.header.Header.{Header}
 use Rattle.paxos_block.specs.Headers.{IsRight, IsFormatted}
@@ -46,14 +46,14 @@ pub record IsCutToHeader (old new : FileState) : Type 0 where
   pub told : HasToldFirst FileGives old bytes read
   pub size : new ≡ record read { size = min (told_length bytes) read.size }
 
--- The device told its first bytes, and as those of the image of this number and size they are right: they say this header.
-pub record ReadsHeader {D : Type 0} (gives : D → Call → Answer → D → Type 0) (old : D) (disk size : ℕ) (header : Header) (new : D) : Type 0 where
+-- The device told its first bytes, and as those of the image of this number and size they are right by this layout: they say this header.
+pub record ReadsHeader {D : Type 0} (v : Version) (gives : D → Call → Answer → D → Type 0) (old : D) (disk size : ℕ) (header : Header) (new : D) : Type 0 where
   pub boot : ℕ
   pub attached : D
   pub bytes : List ℕ
   pub boots : gives old Attach (Booted boot) attached
   pub tells : gives attached (Read boot 0 HEADER_LENGTH) (Told bytes) new
-  pub right : IsRight cluster_version disk size bytes header
+  pub right : IsRight v disk size bytes header
 
 -- the device was asked for so many first bytes, and one of the two calls was answered with this fault
 abbrev pub FailsToTell : {D : Type 0} → (D → Call → Answer → D → Type 0) → ℕ → (old : D) → DiskFault → (new : D) → Type 0
@@ -61,17 +61,17 @@ FailsToTell {D} gives count old fault new =
     gives old Attach (Fault fault) new ⊎ ((boot : ℕ) × (attached : D) × gives old Attach (Booted boot) attached × gives attached (Read boot 0 count) (Fault fault) new)
 
 -- why it says none: its first bytes, which it told, have no open gate; or they are no header of that image, or fewer than a header has; or
--- they are right by the layout that images had before; or it failed to tell those that it has
-abbrev pub ReadsNoHeader : {D : Type 0} → (D → Call → Answer → D → Type 0) → (old : D) → (disk size : ℕ) → (new : D) → ImageFault → Type 0
-ReadsNoHeader gives old disk size new NotFormatted = (bytes : List ℕ) × HasToldFirst gives old bytes new × ¬ IsFormatted bytes
-ReadsNoHeader gives old disk size new WrongHeader = (size < HEADER_LENGTH) ⊎ ((bytes : List ℕ) × HasToldFirst gives old bytes new × HasWrongHeader disk size bytes)
-ReadsNoHeader gives old disk size new OldLayout = (bytes : List ℕ) × HasToldFirst gives old bytes new × IsOld disk size bytes
-ReadsNoHeader gives old disk size new Unreadable = (fault : DiskFault) × FailsToTell gives (min size HEADER_LENGTH) old fault new
+-- they are right by the layout that images had before this one; or it failed to tell those that it has
+abbrev pub ReadsNoHeader : {D : Type 0} → Version → (D → Call → Answer → D → Type 0) → (old : D) → (disk size : ℕ) → (new : D) → ImageFault → Type 0
+ReadsNoHeader v gives old disk size new NotFormatted = (bytes : List ℕ) × HasToldFirst gives old bytes new × ¬ IsFormatted bytes
+ReadsNoHeader v gives old disk size new WrongHeader = (size < HEADER_LENGTH) ⊎ ((bytes : List ℕ) × HasToldFirst gives old bytes new × HasWrongHeader v disk size bytes)
+ReadsNoHeader v gives old disk size new OldLayout = (bytes : List ℕ) × HasToldFirst gives old bytes new × IsOld v disk size bytes
+ReadsNoHeader v gives old disk size new Unreadable = (fault : DiskFault) × FailsToTell gives (min size HEADER_LENGTH) old fault new
 
 -- an image that is right is in use and as long as its header says; of one that is refused no call is carried out
-abbrev pub IsDiskOf : Result Header ImageFault → FileState → Type 0
-IsDiskOf (Ok header) disk = (disk.used ≡ true) × (disk.size ≡ image_length cluster_version header.slots)
-IsDiskOf (Err fault) disk = disk.used ≡ false
+abbrev pub IsDiskOf : Version → Result Header ImageFault → FileState → Type 0
+IsDiskOf v (Ok header) disk = (disk.used ≡ true) × (disk.size ≡ image_length v header.slots)
+IsDiskOf v (Err fault) disk = disk.used ≡ false
 
 -- ALL OF THEM
 

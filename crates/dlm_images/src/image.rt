@@ -1,6 +1,5 @@
 ghost use Rattle.std.specs.Prelude.{◌≡◌, ◌≤◌, true, IfOk, IfErr, OnOk, min};
 ghost use Rattle.std.specs.Path.{path_buf_bytes, path_join};
-ghost use Rattle.torn_block.specs.Layout.{cluster_version};
 ghost use Rattle.paxos_block.specs.Places.{image_length};
 ghost use Rattle.paxos_block.specs.Headers.{IsHeader};
 ghost use Rattle.dlm_images.specs.declared.fault.FolderFault.TheVariants.{NoMemory};
@@ -15,7 +14,7 @@ use std::fs::OpenFile;
 use std::os::unix::fs::FileExt;
 use std::path::{Path, PathBuf};
 use std::rt::Files;
-use torn_block::HEADER_LENGTH;
+use torn_block::{HEADER_LENGTH, Layout};
 
 /// What an image is opened for.
 #[derive(Clone, Copy)]
@@ -33,8 +32,8 @@ pub fn image_path(alloc: Global, folder: &str, disk: u8) -> Result<PathBuf, Fold
     Ok(Path::new(folder).join(alloc, name.as_str())?)
 }
 
-/// Opens the file or block device at this path as the image of this disk. A device may be longer than its image.
-pub fn open_image<R: Files>(
+/// Opens the file or block device at this path as the image of this disk, in a layout. A device may be longer than its image.
+pub fn open_image<L: Layout, R: Files>(
     files: &R,
     path: &str,
     disk: u8,
@@ -44,11 +43,11 @@ where
     R::File: FileExt + OpenFile + Drop,
     ensures right { IfOk result (λ image. IsHeader image.0) }
     ensures number { IfOk result (λ image. image.0.disk ≡ disk) }
-    ensures long { IfOk result (λ image. image.1.size ≡ image_length cluster_version image.0.slots) }
+    ensures long { IfOk result (λ image. image.1.size ≡ image_length L.version image.0.slots) }
     ensures used { IfOk result (λ image. image.1.used ≡ true) }
 {
     let mut file = open_cut_to_header(files, path, access)?;
-    let header = read_header(&mut file, disk)?;
+    let header = read_header::<L, _>(&mut file, disk)?;
     Ok((header, file))
 }
 
@@ -85,18 +84,17 @@ fn cut_to_header<F: FileExt + OpenFile + Drop>(device: &mut FileDisk<F>) -> Resu
 }
 
 /// The header of a device, where it is that of the image of this number.
-fn read_header<D: Disk>(device: &mut D, disk: u8) -> Result<Header, ImageFault>
+fn read_header<L: Layout, D: Disk>(device: &mut D, disk: u8) -> Result<Header, ImageFault>
     ensures right { IfOk result IsHeader }
     ensures number { IfOk result (λ header. header.disk ≡ disk) }
-    ensures long { IfOk result (λ header. image_length cluster_version header.slots ≡
-        (D.device device.old).size) }
-    ensures told { IfOk result (λ header. ReadsHeader D.gives device.old disk (D.device device.old).size header device.new) }
-    ensures fault { IfErr result (ReadsNoHeader D.gives device.old disk (D.device device.old).size device.new) }
+    ensures long { IfOk result (λ header. image_length L.version header.slots ≡ (D.device device.old).size) }
+    ensures told { IfOk result (λ header. ReadsHeader L.version D.gives device.old disk (D.device device.old).size header device.new) }
+    ensures fault { IfErr result (ReadsNoHeader L.version D.gives device.old disk (D.device device.old).size device.new) }
     ensures device { D.device device.new ≡ D.device device.old }
 {
     let long = device.size();
     match first_bytes(device) {
-        Ok(bytes) => image_header(disk, long, &bytes),
+        Ok(bytes) => image_header::<L>(disk, long, &bytes),
         Err(_) => Err(ImageFault::Unreadable),
     }
 }

@@ -22,7 +22,7 @@ pub use disk_host::{Acknowledgement, DiskHost};
 pub use examples::first_operation_is_acknowledged;
 pub use fault::FolderFault;
 pub use find::find_folder;
-pub use folder::{Folder, open_folder, open_folder_to_read, resize};
+pub use folder::{Folder, open_folder, open_folder_to_read, open_images};
 pub use format::{format_folder, lay_out, new_device, put_zeros, refuse_taken, sync_folder};
 pub use header::{image_header, length_in_header};
 pub use host_lock::{LockFault, TryLock, lock_host, lock_path};

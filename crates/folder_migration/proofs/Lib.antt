@@ -1,6 +1,5 @@
 pub mod Calling
 pub mod Filling
-pub mod OldOpening
 pub mod Opened
 pub mod Recovering
 pub mod Renewing

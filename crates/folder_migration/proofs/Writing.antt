@@ -8,12 +8,13 @@ use Rattle.slot_log.specs.declared.outcome.LogOutcome.TheVariants.{Refused as En
 use Rattle.migration.specs.Kept.{setup_by}
 use Rattle.migration.specs.declared.end.End.{End}
 use Rattle.migration.specs.declared.end.End.TheVariants as end
+use Rattle.dlm_images.specs.Folders.{IsOpened}
 use Rattle.dlm_images.specs.SetFaults.{IsFormatFault}
+use Rattle.dlm_images.specs.Sets.{Found}
 use Rattle.dlm_images.specs.declared.fault.FolderFault.{FolderFault}
 use Rattle.dlm_images.specs.declared.fault.FolderFault.TheVariants as folder
 use Rattle.folder_migration.specs.Migrating.{AreBlank, AreNotBegun, HasWritten, IsFolderFault, MayFail, with_slots}
 use Rattle.folder_migration.specs.Moving.{HasMoved}
-use Rattle.folder_migration.specs.OldFolders.{IsOpened}
 use Rattle.folder_migration.specs.Recovery.{HasRecovered, RecoversTo}
 use Rattle.folder_migration.specs.Writing.{Writes, StopsFor}
 use Rattle.folder_migration.specs.declared.fault.MoveFault.{MoveFault}
@@ -38,14 +39,14 @@ pub made_as : {D E : Type 0} (old_gives : D → Call → Answer → D → Type 0
 made_as old_gives new_gives makes other config wide cluster old left commands end as_other w =
     record { log = w.log; blank = w.blank; new = w.new; recovers = w.recovers; made = as_other w.blank w.made; moves = w.moves; commands_is = w.commands_is }
 
-pub written : (slots : ℕ) (config wide : Shape) (cluster : ℕ) (old used left : List FileState) (commands disks : ℕ) (end : End) → IsOpened config cluster old → wide ≡ with_slots config slots → config.slots ≤ slots → used ≡ old → AreNotBegun wide cluster
+pub written : (slots : ℕ) (config wide : Shape) (cluster : ℕ) (old used left : List FileState) (commands disks : ℕ) (end : End) (found : Found) → IsOpened found config cluster old → wide ≡ with_slots config slots → config.slots ≤ slots → used ≡ old → AreNotBegun wide cluster
     → Writes FileGives FileGives (AreBlank wide) config wide cluster used left commands end → disks ≡ wide.disks → HasWritten slots commands disks end
-written slots config wide cluster old used left commands disks end opened is room same not_begun writes as_many = record {
+written slots config wide cluster old used left commands disks end found opened is room same not_begun writes as_many = record {
   config = config;
   cluster = cluster;
   old = old;
   left = left;
-  ready = record { opened = opened; room = room };
+  ready = record { found = found; opened = opened; room = room };
   not_begun = subst (λ (c : Shape). AreNotBegun c cluster) is not_begun;
   writes =
       subst (λ (c : Shape). Writes FileGives FileGives (AreBlank c) config c cluster old left commands end) is
@@ -59,10 +60,10 @@ of_format disks few folder.AlreadyThere is = tt
 of_format disks few (folder.Image disk fault) is = let below : disk < disks = is.0 in inr (omega (arith, below, few), is.1)
 
 -- why a migration stops is why it is refused
-pub stops : (slots : ℕ) (config wide : Shape) (cluster : ℕ) (old used left : List FileState) (makes : List FileState → Type 0) (fails : FolderFault → Type 0) (fault : MoveFault) → IsOpened config cluster old
+pub stops : (slots : ℕ) (config wide : Shape) (cluster : ℕ) (old used left : List FileState) (makes : List FileState → Type 0) (fails : FolderFault → Type 0) (fault : MoveFault) (found : Found) → IsOpened found config cluster old
     → wide ≡ with_slots config slots → config.slots ≤ slots → used ≡ old → AreNotBegun wide cluster → wide.disks ≤ DISKS → StopsFor FileGives FileGives makes fails config wide cluster used left fault
     → ((images : List FileState) → makes images → AreBlank wide images) → ((x : FolderFault) → fails x → IsFormatFault wide.disks x) → MayFail slots fault
-stops slots config wide cluster old used left makes fails fault opened is room as_old not_begun few stopped blank failed = by_fault fault stopped
+stops slots config wide cluster old used left makes fails fault found opened is room as_old not_begun few stopped blank failed = by_fault fault stopped
   where
     by_fault : (fault : MoveFault) → StopsFor FileGives FileGives makes fails config wide cluster used left fault → MayFail slots fault
     by_fault NoMemory stopped = tt
@@ -72,7 +73,7 @@ stops slots config wide cluster old used left makes fails fault opened is room a
       old = old;
       left = left;
       learned = stopped.0;
-      ready = record { opened = opened; room = room };
+      ready = record { found = found; opened = opened; room = room };
       recovers = subst (λ (l : List FileState). HasRecovered FileGives config l left stopped.0 (Ended refusal)) as_old stopped.1;
     }
     by_fault (Folder x) stopped = of_format wide.disks few x (failed x stopped.2)
@@ -81,7 +82,7 @@ stops slots config wide cluster old used left makes fails fault opened is room a
           commands = stopped.0;
           disks = wide.disks;
           written =
-              written slots config wide cluster old used left stopped.0 wide.disks end.MigrationFailed opened is room as_old not_begun
+              written slots config wide cluster old used left stopped.0 wide.disks end.MigrationFailed found opened is room as_old not_begun
               (made_as FileGives FileGives makes (AreBlank wide) config wide cluster used left stopped.0 end.MigrationFailed blank stopped.1) refl;
         })
     by_fault TooFewSlots stopped = absurd stopped

@@ -2,7 +2,6 @@ pub mod Filling
 pub mod Gates
 pub mod Migrating
 pub mod Moving
-pub mod OldFolders
 pub mod Recovery
 pub mod Renewing
 pub mod RenewingFolders

@@ -12,12 +12,12 @@ use Rattle.slot_log.specs.declared.outcome.LogOutcome.TheVariants.{Refused as En
 use Rattle.slot_log.specs.declared.outcome.Refusal.{Refusal}
 use Rattle.migration.specs.declared.end.End.{End}
 use Rattle.migration.specs.declared.end.End.TheVariants as end
-use Rattle.dlm_images.specs.Folders.{IsLockFault}
+use Rattle.dlm_images.specs.Folders.{IsLockFault, IsOpened}
 use Rattle.dlm_images.specs.SetFaults.{MayRefuse}
+use Rattle.dlm_images.specs.Sets.{Found}
 use Rattle.dlm_images.specs.declared.fault.FolderFault.{FolderFault}
 use Rattle.dlm_images.specs.declared.fault.FolderFault.TheVariants as folder
 use Rattle.folder_migration.specs.Gates.{IsCleared, HasOpenGate, HaveNoOpenGate, AreLeftOpen, IsStopped}
-use Rattle.folder_migration.specs.OldFolders.{IsOpened}
 use Rattle.folder_migration.specs.Recovery.{HasRecovered}
 use Rattle.folder_migration.specs.Writing.{Writes}
 use Rattle.folder_migration.specs.declared.fault.MoveFault.{MoveFault}
@@ -33,15 +33,17 @@ with_slots config slots = record { disks = config.disks; slots = slots }
 
 -- an old folder was opened, of no more slots
 pub record IsReady (slots : ℕ) (config : Shape) (cluster : ℕ) (disks : List FileState) : Type 0 where
-  pub opened : IsOpened config cluster disks
+  pub found : Found
+  pub opened : IsOpened found config cluster disks
   pub room : config.slots ≤ slots
 
 -- it has more slots
 pub record IsTooSmall (slots : ℕ) : Type 0 where
   pub config : Shape
   pub cluster : ℕ
+  pub found : Found
   pub disks : List FileState
-  pub opened : IsOpened config cluster disks
+  pub opened : IsOpened found config cluster disks
   pub more : slots < config.slots
 
 -- NEW IMAGES

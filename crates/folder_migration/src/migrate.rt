@@ -6,13 +6,13 @@ use crate::finishing::{finish, has_gate};
 use crate::gate::Gate;
 use crate::migrating::migrate_disks;
 use crate::new_folder::{first_host, make_free_images, open_new_folder};
-use crate::old_folder::open_old_folder;
-use dlm_images::{FolderFault, TryLock, find_folder, lock_host};
+use dlm_images::{Access, FolderFault, TryLock, find_folder, lock_host, open_images};
 use host::Config;
 use slot_log::SlotCount;
 use std::fs::OpenFile;
 use std::os::unix::fs::FileExt;
 use std::rt::Files;
+use torn_block::Layout1;
 
 /// What came of a migration.
 #[derive(Clone, Copy, Debug, PartialEq, Eq)]
@@ -38,7 +38,7 @@ where
     ensures fault { IfErr result (MayFail slots) }
 {
     let old = find_folder(rt, old)?;
-    let images = open_old_folder(rt, old.as_str())?;
+    let images = open_images::<Layout1, R>(rt, old.as_str(), Access::ReadAndWrite)?;
     let cluster = images.cluster;
     let config = new_config(images.config, slots)?;
     let disks = config.disks();

@@ -12,5 +12,5 @@ invariant-loop-disk g l = record {
   found : length l.found ≡ 7;
   right : AreHeaders l.found;
   numbers : (k : ℕ) (header : Header) → Says l.found k header → header.disk ≡ k;
-  images : (k : ℕ) (d : FileState) (image : Result Header ImageFault) → slice_get l.disks.items k ≡ Some d → slice_get l.found k ≡ Some image → IsDiskOf image d;
+  images : (k : ℕ) (d : FileState) (image : Result Header ImageFault) → slice_get l.disks.items k ≡ Some d → slice_get l.found k ≡ Some image → IsDiskOf g.L.Layout.version image d;
 }

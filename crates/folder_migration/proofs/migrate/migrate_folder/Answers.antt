@@ -14,7 +14,7 @@ returns-in_err-commands-clause-fault g c =
     let few : c.in_ok-config.config.disks ≤ 7 = omega (arith, c.disks-disks.ensures.value, c.disks-disks.ensures.range) in
     let not_begun : AreNotBegun config images.cluster = search rules in
     let fails : MayFail c.args.slots c.in_err-commands.field-0.0 =
-    stops c.args.slots images.config config images.cluster images.disks.items c.deref_mut.result.now c.migrate_disks.new.disks _ _ c.in_err-commands.field-0.0 c.in_ok-images.ensures.opened
+    stops c.args.slots images.config config images.cluster images.disks.items c.deref_mut.result.now c.migrate_disks.new.disks _ _ c.in_err-commands.field-0.0 images.found c.in_ok-images.ensures.opened
     c.in_ok-config.ensures.new.0 c.in_ok-config.ensures.new.1 c.deref_mut.ensures.value not_begun few c.in_err-commands.ensures.stopped
     (λ images made. let post = made.1 in let blank : AreBlank c.in_ok-config.config made.0.items = search rules in subst (AreBlank c.in_ok-config.config) made.2 blank)
     (λ x post. let is : IsFormatFault c.in_ok-config.config.disks x = search rules in is) in
