@@ -173,9 +173,6 @@ module _ (pages : List Page) (n i : ℕ) (page : Page) (rooms : HaveRooms pages 
       ∙ sym (get_or_past old (home pages k) blank (let e : length old ≤ 4096 * (nth_page pages (k / 4096)).room + k % 4096 = omega (arith, before, few, small) in e)))
       (λ off. refl))
 
--- a page's range is widened
-module _ (pages : List Page) (i : ℕ) (page : Page) (within : i < length pages) (room : page.room ≡ (nth_page pages i).room) where
-
 -- where its page was widened a range is still kept
 pub kept_after : (old new : List Page) (n at : ℕ) (page : Page) → HaveRooms new n → home new at ≡ home old at → 4096 * (nth_page old (at / 4096)).room < n → page ≡ nth_page new (at / 4096) → 4096 * page.room + 4096 ≤ n
 kept_after old new n at page rooms same here is =
