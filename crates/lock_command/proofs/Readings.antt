@@ -17,7 +17,6 @@ use Rattle.lock_command.specs.declared.state.LockState.TheVariants as state
 use Rattle.lock_command.specs.declared.reply.Answer.{Answer}
 use Rattle.lock_command.specs.declared.reply.Answer.TheVariants as answer
 use Rattle.lock_command.specs.declared.reply.Refusal.{Refusal}
-use Rattle.lock_command.specs.declared.reply.Refusal.TheVariants as refusal
 use Rattle.lock_command.specs.declared.reply.LockValue.{LockValue}
 use Rattle.lock_command.specs.Name.{IsName, padded}
 use Rattle.lock_command.specs.Command.{Fields, flags_of, value_bytes, first_mode, state_number, told_flags, told_bytes, fields_of, number, spelled, spelling, mode_number, IsLock, IsValue, IsTold, FitsAnswer, FitsAction, Fits}
@@ -153,16 +152,7 @@ state_in (state.Converting held wanted) count = converting_in held wanted count
 
 refusal_in : (why : Refusal) (told : Option LockState) (count : ℕ) → answer_in (refusal_number why) told count ≡ Some (answer.Refused why)
 unfolding refusal_of
-refusal_in refusal.LockInUse told count = refl
-refusal_in refusal.NoSuchLock told count = refl
-refusal_in refusal.NotOwner told count = refl
-refusal_in refusal.AlreadyConverting told count = refl
-refusal_in refusal.StillWaiting told count = refl
-refusal_in refusal.NotQueued told count = refl
-refusal_in refusal.TableFull told count = refl
-refusal_in refusal.Stale told count = refl
-refusal_in refusal.ClientsFull told count = refl
-refusal_in refusal.NothingToCancel told count = refl
+refusal_in why told count = grind arith
 
 answer_at-spelled : (host client request : ℕ) (a : Answer) (v : Option LockValue) → FitsAnswer a
     → answer_at (spelled host client request (fields_of (CarryClient (record { answer = a; value = v })))) ≡ Some a

@@ -1,5 +1,5 @@
 -- Two plain tables with the same locks and clients do and answer the same.
-use Rattle.std.proofs.Common.{◌≡◌, ℕ, Bool, true, false, cond, not, ◌&&◌, ◌||◌, ◌==◌, nat_lt, nat_le, List, [], ◌∷◌, length, Option, Some, None, map, refl, sym, ap, ◌∙◌, arith}
+use Rattle.std.proofs.Common.{◌≡◌, ℕ, Bool, true, false, cond, not, ◌&&◌, ◌||◌, ◌==◌, nat_lt, nat_le, List, [], ◌∷◌, Option, Some, None, map, refl, sym, ap, ◌∙◌, arith}
 use Rattle.std.specs.List.{filter, find, fold, list_any}
 use Rattle.lock_command.specs.declared.command.Command.{Command}
 use Rattle.lock_command.specs.Command.{is_carried}
@@ -23,7 +23,7 @@ use Rattle.lock_index.proofs.Numbered.{IsDistinct-filter, IsDistinct-put}
 use Rattle.lock_index.proofs.Alike.{same-filter, same-any, same-lock_in, same-length}
 use Rattle.lock_index.proofs.Apart.{IsDistinct-settled, IsDistinct-settled_all}
 use Rattle.lock_index.proofs.Settled.{is_among, same-settled_all}
-use Rattle.lock_table.proofs.Outcomes.{IsSameOutcome, same-enqueued, same-convert, same-release, same-cancel, same-status, same-carried, after_enqueue, after_convert, after_release, after_cancel, after_status, after_carry}
+use Rattle.lock_table.proofs.Outcomes.{IsSameOutcome, same-enqueued, same-convert, same-release, same-cancel, same-status, same-carried, after_enqueue, after_convert, after_release, after_cancel, after_status, after_carry, after_request}
 
 pub any-names : (name : List ℕ) (locks : List LockRecord) → is_among (map (λ (r : LockRecord). r.name) locks) name ≡ list_any (is_on name) locks
 any-names name [] = refl
@@ -172,19 +172,11 @@ distinct-done a host client (CarryClient reply) d = d
 LeavesTableDistinct : Applied → Type 0
 LeavesTableDistinct x = IsDistinct x.table.locks
 
-distinct_by_truth : (t : Bool) (x y : Applied) → LeavesTableDistinct x → LeavesTableDistinct y → LeavesTableDistinct (cond t x y)
-distinct_by_truth true x y one other = one
-distinct_by_truth false x y one other = other
-
-distinct-after : (t : Plain) (c : Command) (found : Option KnownClient) → IsDistinct t.locks → LeavesTableDistinct (applied_after t c found)
-unfolding LeavesTableDistinct
-distinct-after t c None d = distinct_by_truth (nat_le CLIENTS (length t.clients)) _ _ d (distinct-done t.locks c.host c.client c.action d)
-distinct-after t c (Some k) d =
-    distinct_by_truth (nat_lt c.request k.request) _ _ d (distinct_by_truth (c.request == k.request) _ _ d (distinct-done t.locks c.host c.client c.action d))
-
 pub distinct-applied : (t : Plain) (c : Command) → IsDistinct t.locks → IsDistinct (applied t c).table.locks
-unfolding applied LeavesTableDistinct
-distinct-applied t c d = distinct-after t c (find (is_client c.client) t.clients) d
+unfolding LeavesTableDistinct
+distinct-applied t c d =
+    let done = distinct-done t.locks c.host c.client c.action d in
+    after_request LeavesTableDistinct t c (λ reply. d) (λ unknown room. done) (λ k known later. done)
 
 distinct_from : (commands : List Command) (t : Plain) → IsDistinct t.locks → IsDistinct (fold (λ u c. (applied u c).table) t commands).locks
 distinct_from [] t d = d
@@ -195,10 +187,6 @@ pub reachable_distinct : (commands : List Command) → IsDistinct (table_after c
 reachable_distinct commands = distinct_from commands no_locks (λ lock. omega arith)
 
 -- a command leaves zeros under names without locks
-zeros_by_truth : (P : Applied → Type 0) (t : Bool) (x y : Applied) → P x → P y → P (cond t x y)
-zeros_by_truth P true x y one other = one
-zeros_by_truth P false x y one other = other
-
 LeavesZeros : Applied → Type 0
 LeavesZeros x = HasZeros x.table.locks x.table.values
 
@@ -206,15 +194,9 @@ zeros-carried_out : (t : Plain) (c : Command) → LeavesZeros (carried_out t c)
 unfolding LeavesZeros
 zeros-carried_out t c name none = ap (λ b. cond b (changed t.values t.locks c.action (done t.locks c.host c.client c.action).answer name) zeros) none
 
-zeros-after : (t : Plain) (c : Command) (found : Option KnownClient) → HasZeros t.locks t.values → LeavesZeros (applied_after t c found)
-unfolding LeavesZeros
-zeros-after t c None has = zeros_by_truth LeavesZeros (nat_le CLIENTS (length t.clients)) _ _ has (zeros-carried_out t c)
-zeros-after t c (Some k) has =
-    zeros_by_truth LeavesZeros (nat_lt c.request k.request) _ _ has (zeros_by_truth LeavesZeros (c.request == k.request) _ _ has (zeros-carried_out t c))
-
 pub zeros-applied : (t : Plain) (c : Command) → HasZeros t.locks t.values → HasZeros (applied t c).table.locks (applied t c).table.values
-unfolding applied LeavesZeros
-zeros-applied t c has = zeros-after t c (find (is_client c.client) t.clients) has
+unfolding LeavesZeros
+zeros-applied t c has = after_request LeavesZeros t c (λ reply. has) (λ unknown room. zeros-carried_out t c) (λ k known later. zeros-carried_out t c)
 
 -- what is told of a command that a client may ask for
 pub told_asked : (action : Action) (r : Reply) → is_carried action ≡ false → told_again action r ≡ r

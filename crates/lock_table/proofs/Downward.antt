@@ -1,7 +1,6 @@
 -- A conversion downward meets no conflict that the held mode did not meet.
 use Rattle.std.proofs.Common.{◌≡◌, ℕ, Bool, true, false, cond, not, ◌&&◌, ◌||◌, List, [], ◌∷◌, Option, Some, refl, sym, ap, ◌∙◌}
 use Rattle.std.specs.List.{list_any}
-use Rattle.std.proofs.lemmas.Bool.{eq-eqb}
 use Rattle.lock_modes.specs.declared.mode.Mode.{Mode}
 use Rattle.lock_modes.specs.declared.mode.Mode.TheVariants.{Null, ConcurrentRead, ConcurrentWrite, ProtectedRead, ProtectedWrite, Exclusive}
 use Rattle.lock_modes.specs.Mode.{conflict, downward}
@@ -9,14 +8,13 @@ use Rattle.lock_command.specs.declared.command.Action.TheVariants.{Convert}
 use Rattle.lock_index.specs.declared.record.LockRecord.{LockRecord}
 use Rattle.lock_command.specs.declared.state.LockState.{LockState}
 use Rattle.lock_command.specs.declared.state.LockState.TheVariants.{Granted, Converting, Waiting}
-use Rattle.lock_command.specs.declared.reply.Answer.{Answer}
 use Rattle.lock_command.specs.declared.reply.Answer.TheVariants as answer
-use Rattle.lock_command.specs.declared.reply.Refusal.TheVariants as refusal
 use Rattle.lock_index.specs.State.{holds_against}
 use Rattle.lock_index.specs.Locks.{is_on, is_lock, lock_in, stands_against, admits}
-use Rattle.lock_table.specs.Apply.{CommandOutcome, refused, converted, with_own, done}
+use Rattle.lock_table.specs.Apply.{CommandOutcome, converted, done}
 use Rattle.lock_table.specs.Laws.{held_by}
 use Rattle.lock_index.proofs.Parts.{or_false}
+use Rattle.lock_table.proofs.Outcomes.{own_there}
 use Rattle.lock_table.proofs.Quiet.{IsPeaceful, not_true}
 
 null_is_free : (wanted : Mode) → conflict Null wanted ≡ false
@@ -84,14 +82,10 @@ pub downward_granted : (locks : List LockRecord) (host : ℕ) (r : LockRecord) (
 downward_granted locks host r held mode no_queue value peace there is down =
     let quiet : admits locks r.lock r.name held ≡ true = peace.quiet r there held (ap held_by is) in
     let may : admits locks r.lock r.name mode ≡ true = ap not (none_new locks r.lock r.name held mode down (not_true _ quiet)) in
-    ap (λ found. (with_own locks r.client (λ o. converted locks o mode no_queue o.state) found).answer) there
-    ∙ ap (λ b. (answered_if b (converted locks r mode no_queue r.state) (refused locks refusal.NotOwner))) (eq-eqb r.client r.client refl)
+    ap (λ (o : CommandOutcome). o.answer) (own_there locks r (λ o. converted locks o mode no_queue o.state) there)
     ∙ ap (λ s. (converted locks r mode no_queue s).answer) is
     ∙ granted_if (admits locks r.lock r.name mode) _ _ may refl
   where
-    answered_if : Bool → CommandOutcome → CommandOutcome → Answer
-    answered_if b x y = (cond b x y).answer
-
     granted_if : (b : Bool) (x y : CommandOutcome) → b ≡ true → x.answer ≡ answer.Granted → (cond b x y).answer ≡ answer.Granted
     granted_if true x y h done = done
     granted_if false x y h done = let impossible : ⊥ = cc in absurd impossible

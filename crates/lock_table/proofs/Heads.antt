@@ -1,5 +1,5 @@
 -- No lock whose turn it is could be granted, in every table that commands can reach.
-use Rattle.std.proofs.Common.{◌≡◌, ◌≤◌, ℕ, Bool, true, false, cond, not, ◌&&◌, ◌||◌, ◌==◌, nat_lt, nat_le, List, [], ◌∷◌, ◌++◌, length, Option, Some, None, map, refl, sym, ap, ◌∙◌, arith}
+use Rattle.std.proofs.Common.{◌≡◌, ◌≤◌, ℕ, Bool, true, false, cond, not, ◌&&◌, ◌||◌, List, [], ◌∷◌, ◌++◌, length, Option, Some, None, map, refl, sym, ap, ◌∙◌, arith}
 use Rattle.std.specs.List.{filter, find, fold, list_any}
 use Rattle.std.proofs.lemmas.List.{nil_from_length}
 use Rattle.std.proofs.lemmas.List.Folds.{list_any-append}
@@ -9,14 +9,12 @@ use Rattle.lock_command.specs.declared.command.Command.{Command}
 use Rattle.lock_command.specs.Command.{is_carried}
 use Rattle.lock_command.specs.declared.command.Action.{Action}
 use Rattle.lock_command.specs.declared.command.Action.TheVariants.{Enqueue, Convert, Release, Cancel, Status, Purge, QuietPurge, CarryLock, CarryClient}
-use Rattle.lock_table.specs.declared.clients.TheConstants.{CLIENTS}
 use Rattle.lock_index.specs.declared.record.LockRecord.{LockRecord}
 use Rattle.lock_command.specs.declared.state.LockState.{LockState}
 use Rattle.lock_command.specs.declared.state.LockState.TheVariants.{Granted, Converting, Waiting}
-use Rattle.lock_table.specs.declared.known_client.KnownClient.{KnownClient}
 use Rattle.lock_index.specs.State.{is_converting, is_waiting, is_queued, goal_of, holds_against}
 use Rattle.lock_index.specs.Locks.{is_lock, is_on, in_state, option_or, lock_in, without, put, converts_on, waits_on, conversions, head_of, has_queue, stands_against, admits, settled, settled_all, IsDistinct, is_through, IsSettled}
-use Rattle.lock_table.specs.Apply.{CommandOutcome, purged, done, Plain, Applied, is_client, applied_after, applied, no_locks}
+use Rattle.lock_table.specs.Apply.{CommandOutcome, purged, done, Plain, Applied, applied, no_locks}
 use Rattle.lock_table.specs.Carrying.{AreOrdinary}
 use Rattle.lock_table.specs.Laws.{IsSettledEverywhere}
 use Rattle.lock_index.proofs.Parts.{first, find_is_first, filter-filter, filter_within, or_false}
@@ -27,7 +25,7 @@ use Rattle.lock_index.proofs.Apart.{on, and_first, name_is, same_name-itself, ad
 use Rattle.lock_index.proofs.Queued.{head_on_name}
 use Rattle.lock_index.proofs.Settled.{settled_is_settled, is_among, settled_all-on}
 use Rattle.lock_table.proofs.Behave.{any-names, distinct-done}
-use Rattle.lock_table.proofs.Outcomes.{either, after_enqueue, after_convert, after_release, after_cancel, after_status}
+use Rattle.lock_table.proofs.Outcomes.{after_enqueue, after_convert, after_release, after_cancel, after_status, after_request}
 use Rattle.lock_table.proofs.Reachable.{first_asked}
 
 find_within : (P Q : LockRecord → Bool) → ((r : LockRecord) → P r ≡ true → Q r ≡ true) → (xs : List LockRecord) → find P (filter Q xs) ≡ find P xs
@@ -307,16 +305,11 @@ HasCalmAfter x = IsCalm x.table.locks
 both-done : (t : Plain) (c : Command) → is_carried c.action ≡ false → IsCalm t.locks → IsCalm (done t.locks c.host c.client c.action).locks
 both-done t c asked calm = record { distinct = distinct-done t.locks c.host c.client c.action calm.distinct; settled = calm-done t.locks c.host c.client c.action asked calm.distinct calm.settled }
 
-calm-after : (t : Plain) (c : Command) (found : Option KnownClient) → is_carried c.action ≡ false → IsCalm t.locks → HasCalmAfter (applied_after t c found)
-unfolding HasCalmAfter
-calm-after t c None asked calm = either HasCalmAfter (nat_le CLIENTS (length t.clients)) _ _ (λ _. calm) (λ _. both-done t c asked calm)
-calm-after t c (Some k) asked calm =
-    either HasCalmAfter (nat_lt c.request k.request) _ _ (λ _. calm)
-    (λ _. either HasCalmAfter (c.request == k.request) _ _ (λ _. calm) (λ _. both-done t c asked calm))
-
 calm-applied : (t : Plain) (c : Command) → is_carried c.action ≡ false → IsCalm t.locks → IsCalm (applied t c).table.locks
-unfolding applied HasCalmAfter
-calm-applied t c asked calm = calm-after t c (find (is_client c.client) t.clients) asked calm
+unfolding HasCalmAfter
+calm-applied t c asked calm =
+    let done = both-done t c asked calm in
+    after_request HasCalmAfter t c (λ reply. calm) (λ unknown room. done) (λ k known later. done)
 
 pub calm_from : (commands : List Command) (t : Plain) → AreOrdinary commands → IsCalm t.locks → IsCalm (fold (λ u c. (applied u c).table) t commands).locks
 calm_from [] t all calm = calm

@@ -1,18 +1,17 @@
 -- A client that is known stays known, and its old requests change nothing.
-use Rattle.std.proofs.Common.{◌≡◌, ◌≤◌, ◌<◌, ℕ, true, false, cond, not, nat_lt, nat_le, ◌==◌, List, [], ◌∷◌, length, Option, Some, None, refl, sym, ap, ◌∙◌, arith}
+use Rattle.std.proofs.Common.{◌≡◌, ◌≤◌, ◌<◌, ℕ, true, false, cond, not, nat_lt, ◌==◌, List, [], ◌∷◌, Option, Some, None, refl, sym, ap, ◌∙◌, arith}
 use Rattle.std.specs.List.{filter, find, fold}
 use Rattle.std.proofs.lemmas.Bool.{eqb-true, eq-eqb}
 use Rattle.std.proofs.lemmas.Bool.Decides.{nat_tests}
 use Rattle.lock_command.specs.declared.command.Command.{Command}
 use Rattle.lock_command.specs.declared.command.Action.{Action}
-use Rattle.lock_table.specs.declared.clients.TheConstants.{CLIENTS}
 use Rattle.lock_table.specs.declared.known_client.KnownClient.{KnownClient}
 use Rattle.lock_index.specs.Locks.{option_or}
-use Rattle.lock_table.specs.Apply.{Plain, Applied, is_client, kept, keeps_none, kept_after, carried_out, applied_after, applied}
+use Rattle.lock_table.specs.Apply.{Plain, Applied, is_client, kept, keeps_none, kept_after, carried_out, applied}
 use Rattle.lock_table.specs.Carrying.{IsKnownFrom}
 use Rattle.lock_table.proofs.Carrying.{unknown}
 use Rattle.lock_table.proofs.Quiet.{find-append}
-use Rattle.lock_table.proofs.Outcomes.{either}
+use Rattle.lock_table.proofs.Outcomes.{after_request}
 use Rattle.lock_table.proofs.Reachable.{repeated_request, stale_request}
 use Rattle.lock_table.proofs.Room.{none_of}
 
@@ -21,9 +20,6 @@ is_less m n h = grind (arith, nat_tests, h)
 
 is_same : (m n : ℕ) → m ≤ n → nat_lt m n ≡ false → m ≡ n
 is_same m n le h = grind (arith, nat_tests, le, h)
-
-is_later : (m n : ℕ) → nat_lt m n ≡ false → (m == n) ≡ false → n ≤ m
-is_later m n h e = grind (arith, nat_tests, h, e)
 
 -- an old request changes nothing
 pub old_request : (t : Plain) (c : Command) (k : KnownClient) → find (is_client c.client) t.clients ≡ Some k → c.request ≤ k.request → (applied t c).table ≡ t
@@ -81,30 +77,23 @@ module _ (client request : ℕ) where
   IsKnownAfter : Applied → Type 0
   IsKnownAfter x = IsKnownFrom client request x.table.clients
 
-  stays-after : (t : Plain) (c : Command) (found : Option KnownClient) → find (is_client c.client) t.clients ≡ found → IsKnownFrom client request t.clients → IsKnownAfter (applied_after t c found)
+  stays-applied : (t : Plain) (c : Command) → IsKnownFrom client request t.clients → IsKnownFrom client request (applied t c).table.clients
   unfolding IsKnownAfter
-  stays-after t c None is was =
-      elim (c.client == client) as (λ b. (c.client == client) ≡ b → IsKnownAfter (applied_after t c None)) [
+  stays-applied t c was = after_request IsKnownAfter t c (λ reply. was)
+      (λ is room. elim (c.client == client) as (λ b. (c.client == client) ≡ b → IsKnownAfter (carried_out t c)) [
         | true ↦ λ own.
             let some : None ≡ Some was.0 = sym is ∙ ap (λ n. find (is_client n) t.clients) (eqb-true c.client client own) ∙ was.1 in
             let impossible : ⊥ = cc in absurd impossible
-        | false ↦ λ differ. either IsKnownAfter (nat_le CLIENTS (length t.clients)) _ _ (λ _. was) (λ _. stays_other c.action t.clients _ differ was)
-      ] refl
-  stays-after t c (Some k) is was =
-      either IsKnownAfter (nat_lt c.request k.request) _ _ (λ _. was)
-      (λ no. either IsKnownAfter (c.request == k.request) _ _ (λ _. was)
-      (λ other. elim (c.client == client) as (λ b. (c.client == client) ≡ b → IsKnownAfter (carried_out t c)) [
+        | false ↦ λ differ. stays_other c.action t.clients _ differ was
+      ] refl)
+      (λ k is later. elim (c.client == client) as (λ b. (c.client == client) ≡ b → IsKnownAfter (carried_out t c)) [
         | true ↦ λ own.
             let found : Some k ≡ Some was.0 = sym is ∙ ap (λ n. find (is_client n) t.clients) (eqb-true c.client client own) ∙ was.1 in
             let same : k ≡ was.0 = cc in
             let lower : k.request ≡ was.0.request = ap (λ (o : KnownClient). o.request) same in
-            stays_own c.action t.clients _ (eqb-true c.client client own) (omega (arith, was.2, lower, is_later c.request k.request no other)) was
+            stays_own c.action t.clients _ (eqb-true c.client client own) (omega (arith, was.2, lower, later)) was
         | false ↦ λ differ. stays_other c.action t.clients _ differ was
-      ] refl))
-
-  stays-applied : (t : Plain) (c : Command) → IsKnownFrom client request t.clients → IsKnownFrom client request (applied t c).table.clients
-  unfolding applied IsKnownAfter
-  stays-applied t c was = stays-after t c (find (is_client c.client) t.clients) refl was
+      ] refl)
 
   pub stays_known_from : (commands : List Command) (t : Plain) → IsKnownFrom client request t.clients → IsKnownFrom client request (fold (λ u c. (applied u c).table) t commands).clients
   stays_known_from [] t was = was

@@ -1,20 +1,25 @@
 -- What holds after a command: it held before, and holds after each effect. Here alone a proof goes through the refusals of each command.
-use Rattle.std.proofs.Common.{◌≡◌, ◌<◌, ℕ, Bool, true, false, cond, not, nat_le, ◌&&◌, ◌==◌, List, [], ◌∷◌, length, Option, Some, None, is_some, refl, sym, ap, ◌∙◌, arith}
-use Rattle.std.proofs.lemmas.Bool.{eqb-true}
+use Rattle.std.proofs.Common.{◌≡◌, ◌<◌, ℕ, Bool, true, false, cond, not, nat_lt, nat_le, ◌&&◌, ◌==◌, List, [], ◌∷◌, length, Option, Some, None, is_some, refl, sym, ap, ◌∙◌, arith}
+use Rattle.std.specs.List.{find}
+use Rattle.std.proofs.lemmas.Bool.{eqb-true, eq-eqb}
 use Rattle.std.proofs.lemmas.Bool.Decides.{nat_tests}
 use Rattle.lock_modes.specs.declared.mode.Mode.{Mode}
+use Rattle.lock_command.specs.declared.command.Command.{Command}
 use Rattle.lock_command.specs.declared.state.LockState.{LockState}
 use Rattle.lock_command.specs.declared.state.LockState.TheVariants.{Granted, Converting, Waiting}
 use Rattle.lock_command.specs.declared.reply.Refusal.{Refusal}
 use Rattle.lock_command.specs.declared.reply.Refusal.TheVariants as refusal
 use Rattle.lock_command.specs.declared.reply.Answer.{Answer}
 use Rattle.lock_command.specs.declared.reply.Answer.TheVariants as answer
+use Rattle.lock_command.specs.declared.reply.Reply.{Reply}
+use Rattle.lock_table.specs.declared.clients.TheConstants.{CLIENTS}
+use Rattle.lock_table.specs.declared.known_client.KnownClient.{KnownClient}
 use Rattle.lock_index.specs.declared.record.TheConstants.{LOCKS}
 use Rattle.lock_index.specs.declared.record.LockRecord.{LockRecord}
 use Rattle.lock_index.specs.Locks.{is_lock, in_state, lock_in, without, put, has_queue, admits, settled}
 use Rattle.lock_index.specs.Printed.{HasSameLocks}
 use Rattle.lock_index.proofs.Alike.{same-filter, same-put, same-lock_in, same-length, same-admits, same-has_queue, same-settled}
-use Rattle.lock_table.specs.Apply.{CommandOutcome, refused, with_place, enqueued, converted, released, cancelled, with_own, convert_own, release_own, cancel_own, told, carried}
+use Rattle.lock_table.specs.Apply.{CommandOutcome, refused, with_place, enqueued, converted, released, cancelled, with_own, convert_own, release_own, cancel_own, told, carried, Plain, Applied, is_client, carried_out, unchanged, applied_after, applied}
 
 pub either : {A : Type 0} (P : A → Type 0) (b : Bool) (x y : A) → (b ≡ true → P x) → (b ≡ false → P y) → P (cond b x y)
 either P true x y held refuted = held refl
@@ -34,6 +39,9 @@ none_found (Some r) h = let impossible : ⊥ = cc in absurd impossible
 pub not_full : (m n : ℕ) → nat_le m n ≡ false → n < m
 not_full m n h = grind (arith, nat_tests, h)
 
+is_later : (m n : ℕ) → nat_lt m n ≡ false → (m == n) ≡ false → n < m
+is_later m n h e = grind (arith, nat_tests, h, e)
+
 full_not : (m n : ℕ) → n < m → nat_le m n ≡ false
 full_not m n h = grind (arith, nat_tests, h)
 
@@ -42,6 +50,11 @@ pub place_there : (locks : List LockRecord) (lock : ℕ) (outcome : CommandOutco
 place_there locks lock outcome place =
     ap (λ found. cond (is_some found) (refused locks refusal.LockInUse) (cond (nat_le LOCKS (length locks)) (refused locks refusal.TableFull) outcome)) place.free
     ∙ ap (λ b. cond b (refused locks refusal.TableFull) outcome) (full_not LOCKS (length locks) place.room)
+
+-- nor is a client refused its own lock
+pub own_there : (locks : List LockRecord) (r : LockRecord) (does : LockRecord → CommandOutcome) → lock_in locks r.lock ≡ Some r → with_own locks r.client does (lock_in locks r.lock) ≡ does r
+own_there locks r does there =
+    ap (with_own locks r.client does) there ∙ ap (λ b. cond b (does r) (refused locks refusal.NotOwner)) (eq-eqb r.client r.client refl)
 
 found_number : (locks : List LockRecord) (lock : ℕ) (r : LockRecord) → lock_in locks lock ≡ Some r → r.lock ≡ lock
 found_number [] lock r h = let impossible : ⊥ = cc in absurd impossible
@@ -110,6 +123,19 @@ module _ (P : CommandOutcome → Type 0) (a : List LockRecord) (no_change : (why
       by_found : (found : Option LockRecord) → P (told a found)
       by_found None = no_change refusal.NoSuchLock
       by_found (Some r) = effect r
+
+-- what holds wherever the client decides alone holds after a command, if it holds after one that is carried out
+module _ (P : Applied → Type 0) (t : Plain) (c : Command) (no_change : (reply : Reply) → P (unchanged t reply)) where
+  pub after_request : (find (is_client c.client) t.clients ≡ None → length t.clients < CLIENTS → P (carried_out t c))
+      → ((k : KnownClient) → find (is_client c.client) t.clients ≡ Some k → k.request < c.request → P (carried_out t c)) → P (applied t c)
+  unfolding applied
+  after_request new later = by_known (find (is_client c.client) t.clients) refl
+    where
+      by_known : (found : Option KnownClient) → find (is_client c.client) t.clients ≡ found → P (applied_after t c found)
+      by_known None unknown = either P (nat_le CLIENTS (length t.clients)) _ _ (λ _. no_change _) (λ room. new unknown (not_full CLIENTS (length t.clients) room))
+      by_known (Some k) known =
+          either P (nat_lt c.request k.request) _ _ (λ _. no_change _)
+          (λ no_older. either P (c.request == k.request) _ _ (λ _. no_change _) (λ other. later k known (is_later c.request k.request no_older other)))
 
 -- TWO TABLES WITH THE SAME LOCKS
 

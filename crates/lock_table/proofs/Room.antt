@@ -1,5 +1,5 @@
 -- No table that commands can reach has more locks or clients than there is room for, and no client twice.
-use Rattle.std.proofs.Common.{◌≡◌, ◌≤◌, ◌<◌, ◌+◌, ◌⊎◌, inl, inr, ℕ, Bool, true, false, cond, not, nat_lt, nat_le, ◌==◌, List, [], ◌∷◌, ◌++◌, length, Option, Some, None, map, refl, sym, ap, ◌∙◌, arith, length-append}
+use Rattle.std.proofs.Common.{◌≡◌, ◌≤◌, ◌<◌, ◌+◌, ◌⊎◌, inl, inr, ℕ, Bool, true, false, cond, not, ◌==◌, List, [], ◌∷◌, ◌++◌, length, Some, map, refl, sym, ap, ◌∙◌, arith, length-append}
 use Rattle.std.specs.List.{filter, find, fold}
 use Rattle.std.proofs.lemmas.Bool.{eqb-true}
 use Rattle.std.proofs.lemmas.Bool.Decides.{nat_tests}
@@ -15,11 +15,11 @@ use Rattle.lock_index.specs.declared.record.LockRecord.{LockRecord}
 use Rattle.lock_table.specs.declared.known_client.KnownClient.{KnownClient}
 use Rattle.lock_index.specs.State.{goal_of}
 use Rattle.lock_index.specs.Locks.{is_lock, is_through, in_state, lock_in, without, put, converts_on, waits_on, conversions, waiting, queue, admits, granted, grant_from, settled, settled_all}
-use Rattle.lock_table.specs.Apply.{CommandOutcome, purged, done, Plain, Applied, is_client, kept, keeps_none, kept_after, carried_out, applied_after, applied, no_locks, table_after}
+use Rattle.lock_table.specs.Apply.{CommandOutcome, purged, done, Plain, Applied, is_client, kept, keeps_none, kept_after, carried_out, applied, no_locks, table_after}
 use Rattle.lock_index.proofs.Parts.{length_parts}
 use Rattle.lock_index.proofs.Numbered.{numbered, numbered-cons, numbered-append, numbered-filter}
 use Rattle.lock_table.proofs.Quiet.{found_numbered}
-use Rattle.lock_table.proofs.Outcomes.{either, not_full, after_enqueue, after_convert, after_release, after_cancel, after_status, after_carry}
+use Rattle.lock_table.proofs.Outcomes.{after_enqueue, after_convert, after_release, after_cancel, after_status, after_carry, after_request}
 
 -- LOCKS
 
@@ -203,17 +203,12 @@ room-carried_out t c room free = record {
   clients = few-kept c.action t.clients _ room.clients free;
 }
 
-room-after : (t : Plain) (c : Command) (found : Option KnownClient) → find (is_client c.client) t.clients ≡ found → HasRoom t → HasRoomAfter (applied_after t c found)
-unfolding HasRoomAfter
-room-after t c None is room =
-    either HasRoomAfter (nat_le CLIENTS (length t.clients)) _ _ (λ _. room) (λ free. room-carried_out t c room (inr (not_full CLIENTS (length t.clients) free)))
-room-after t c (Some k) is room =
-    either HasRoomAfter (nat_lt c.request k.request) _ _ (λ _. room)
-    (λ _. either HasRoomAfter (c.request == k.request) _ _ (λ _. room) (λ _. room-carried_out t c room (inl (found_known c.client t.clients k is))))
-
 room-applied : (t : Plain) (c : Command) → HasRoom t → HasRoom (applied t c).table
-unfolding applied HasRoomAfter
-room-applied t c room = room-after t c (find (is_client c.client) t.clients) refl room
+unfolding HasRoomAfter
+room-applied t c room =
+    after_request HasRoomAfter t c (λ reply. room)
+    (λ unknown free. room-carried_out t c room (inr free))
+    (λ k known later. room-carried_out t c room (inl (found_known c.client t.clients k known)))
 
 room_from : (commands : List Command) (t : Plain) → HasRoom t → HasRoom (fold (λ u c. (applied u c).table) t commands)
 room_from [] t room = room
