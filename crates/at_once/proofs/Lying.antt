@@ -9,13 +9,11 @@ use Rattle.torn_block.specs.Layout.{cluster_version}
 use Rattle.torn_block.specs.declared.layout.TheConstants.{HOSTS, ROW_LENGTH, HEADER_LENGTH}
 use Rattle.torn_block.specs.declared.write_steps.WriteCall.TheVariants.{CloseGate, SyncClosed, PutBody, SyncBody, OpenGate, SyncOpened}
 use Rattle.paxos_block.specs.Places.{BeatOf, VoteOf, row_place, image_length, IsWithin}
-use Rattle.paxos_block.specs.Row.{DecodedBlock}
-use Rattle.attempt.specs.Calls.{Kind, Attaching, Syncing, Reading, Putting, Opening, seventeen}
-use Rattle.attempt.specs.Answers.{Heard, Answers, on, row_in, seen_block, boot_of}
+use Rattle.attempt.specs.Calls.{Kind, Attaching, Syncing, Reading, Putting, seventeen}
+use Rattle.attempt.specs.Answers.{Heard, Answers, on, boot_of}
 use Rattle.attempt.specs.NextCall.{call_by, with_disk}
 use Rattle.attempt.specs.Setup.{Setup}
-use Rattle.attempt.specs.Votes.{IsLong, TellsVotes}
-use Rattle.attempt.proofs.Votes.{row_told as votes_told, fills}
+use Rattle.attempt.proofs.Votes.{fills}
 use Rattle.attempt.proofs.Replies.{next_is}
 use Rattle.beats.specs.Answers as beat_answers
 use Rattle.beats.specs.Status as beat
@@ -32,7 +30,7 @@ use Rattle.world_safety.specs.Tied.{Moves, IsDoing, Tied}
 use Rattle.world_safety.proofs.Moves.Beating.{beat_within}
 use Rattle.world_safety.proofs.Moves.Due.{IsBusyWith, busy, due_of}
 use Rattle.world_safety.proofs.Moves.Looking.{due_call}
-use Rattle.world_safety.proofs.Moves.Marking.{mark_due, mark_within}
+use Rattle.world_safety.proofs.Moves.Marking.{mark_due, mark_within, own_long}
 use Rattle.world_safety.proofs.Moves.Moving.{running_at}
 use Rattle.world_safety.proofs.Runs.Tracks.{moves_at, tied_at}
 use Rattle.at_once.proofs.Headless.{Lies}
@@ -157,13 +155,6 @@ look_lies slots s a fits = by (nat_lt (length a) 1)
     by false = row_lies slots s.slot fits
 
 -- THE CALL THAT IS DUE
-
-own_long : (s : mark.Setup) (a : List Heard) → s.host < HOSTS → TellsVotes cluster_version a → IsLong cluster_version (mark.own_block s a).says.inp
-own_long s a below votes = by (row_in Opening a) refl
-  where
-    by : (o : Option (List DecodedBlock)) → row_in Opening a ≡ o → IsLong cluster_version (seen_block o s.host).says.inp
-    by None is = tt
-    by (Some row) is = (votes_told cluster_version Opening a row votes is s.host below).long
 
 whole : {A : Type 0} (l : List A) → take (length l) l ≡ l
 whole [] = refl

@@ -2,7 +2,6 @@
 use Rattle.std.specs.Prelude.{if◌then◌else◌, ◌&&◌, ◌||◌, ◌*◌, not, nat_lt, nat_le, slice_get, is_some, is_none, option_and_then, option_map}
 use Rattle.std.specs.List.{range_with_len}
 use Rattle.std.proofs.Common.{ℕ, ◌≡◌, ◌==◌, Bool, true, false, List, Option, Some, None, map, length, refl, ap, ◌∙◌}
-use Rattle.std.proofs.lemmas.List.{length-map}
 use Rattle.disk.specs.Disk as device
 use Rattle.torn_block.specs.Layout.{cluster_version, area_place}
 use Rattle.torn_block.specs.declared.layout.TheConstants.{LAST_SEQUENCE, ROW_LENGTH}
@@ -13,7 +12,7 @@ use Rattle.paxos_block.specs.Row.{DecodedBlock}
 use Rattle.paxos_block.specs.Votes.{marked_in}
 use Rattle.heartbeat.specs.Beat.{counters_in, counter_of, beat_body}
 use Rattle.attempt.specs.Calls as attempt
-use Rattle.attempt.specs.Heard.{all_good, boot_of}
+use Rattle.attempt.specs.Heard.{boot_of}
 use Rattle.attempt.specs.Answers as attempt_answers
 use Rattle.attempt.specs.Answers.{row_in, seen_block}
 use Rattle.attempt.specs.Numbers.{count, first_below}
@@ -23,8 +22,8 @@ use Rattle.beats.specs.Answers.{area_in, reading_of, own_block_in}
 use Rattle.beats.specs.Status as beat
 use Rattle.marks.specs.Status as mark
 use Rattle.looks.specs.Status as look
-use Rattle.at_once.specs.Power.{later, call_later}
-use Rattle.at_once.proofs.Renumbering.{heard_later, each_later, good_later, told_at, boot_later, call_of_later, due_later, with_disk_later}
+use Rattle.at_once.specs.Power.{call_later}
+use Rattle.at_once.proofs.Renumbering.{each_later, good_later, told_at, boot_later, length_later, call_of_later, kind_later, due_later, with_disk_later}
 
 -- A BEAT
 
@@ -32,45 +31,32 @@ module _ (s : beat.Setup) (losses : ℕ → ℕ) (f : beat_answers.Answers) wher
   abbrev g : beat_answers.Answers
   g = each_later losses f
 
-  len : (d : ℕ) → length (g d) ≡ length (f d)
-  len d = length-map (f d) (heard_later (losses d))
-
-  good : (d : ℕ) → all_good (g d) ≡ all_good (f d)
-  good d = good_later (losses d) (f d)
-
   area : (d : ℕ) → area_in (g d) ≡ area_in (f d)
   area d = told_at (losses d) (f d) 2
 
   stuck : (d : ℕ) → beat.is_stuck s (g d) ≡ beat.is_stuck s (f d)
-  stuck d = λ i. (len d i == 3) && true && nat_le LAST_SEQUENCE (counter_of (own_block_in s.host (area d i)))
+  stuck d = λ i. (length_later losses f d i == 3) && true && nat_le LAST_SEQUENCE (counter_of (own_block_in s.host (area d i)))
 
   left : (d : ℕ) → beat.is_left s (g d) ≡ beat.is_left s (f d)
-  left d = λ i. good d i && not (stuck d i)
+  left d = λ i. good_later (losses d) (f d) i && not (stuck d i)
 
   visiting : beat.visited s g ≡ beat.visited s f
-  visiting = λ i. first_below s.disks (λ d. left d i && nat_lt (len d i) beat.nine_calls)
+  visiting = λ i. first_below s.disks (λ d. left d i && nat_lt (length_later losses f d i) beat.nine_calls)
 
   pub beat_status_later : beat.status s g ≡ beat.status s f
   beat_status_later =
       λ i. if nat_lt s.disks (2 * count s.disks (λ d. left d i)) then beat.due_or (visiting i) (beat.Ended (beat.Beaten (map (λ d. option_map counters_in (area d i)) (range_with_len 0 s.disks)))) else beat.Ended beat.NoMajority
 
-  booted : (d : ℕ) → boot_of (g d) ≡ later (losses d) (boot_of (f d))
-  booted d = boot_later (losses d) (f d)
-
   calling : (d : ℕ) (kind : beat.Kind) → beat.call_by s (g d) kind ≡ call_later (losses d) (beat.call_by s (f d) kind)
   calling d beat.Attaching = refl
-  calling d beat.Syncing = λ i. device.Sync (booted d i)
-  calling d beat.Reading = λ i. device.Read (booted d i) (area_place cluster_version) ROW_LENGTH
+  calling d beat.Syncing = λ i. device.Sync (boot_later (losses d) (f d) i)
+  calling d beat.Reading = λ i. device.Read (boot_later (losses d) (f d) i) (area_place cluster_version) ROW_LENGTH
   calling d (beat.Putting p call) =
-      (λ i. call_of call (record { version = cluster_version; place = place_of cluster_version (BeatOf s.host); block = own_block_in s.host (area d i); body = beat_body }) (booted d i))
+      (λ i. call_of call (record { version = cluster_version; place = place_of cluster_version (BeatOf s.host); block = own_block_in s.host (area d i); body = beat_body }) (boot_later (losses d) (f d) i))
       ∙ call_of_later (losses d) call (beat.write_on s (f d)) (boot_of (f d))
 
-  calling_so : (d : ℕ) (o : Option beat.Kind) → option_map (beat.call_by s (g d)) o ≡ option_map (call_later (losses d)) (option_map (beat.call_by s (f d)) o)
-  calling_so d None = refl
-  calling_so d (Some kind) = ap (λ (c : device.Call). Some c) (calling d kind)
-
   calls : (d : ℕ) → beat.call_on s (g d) ≡ option_map (call_later (losses d)) (beat.call_on s (f d))
-  calls d = ap (λ (n : ℕ). option_map (beat.call_by s (g d)) (slice_get attempt.seventeen n)) (len d) ∙ calling_so d (slice_get attempt.seventeen (length (f d)))
+  calls d = ap (λ (n : ℕ). option_map (beat.call_by s (g d)) (slice_get attempt.seventeen n)) (length_later losses f d) ∙ kind_later (losses d) (beat.call_by s (f d)) (beat.call_by s (g d)) (calling d) (slice_get attempt.seventeen (length (f d)))
 
   by_status : (st : beat.Status) → beat.next_in s g st ≡ due_later losses (beat.next_in s f st)
   by_status (beat.Due d) = ap (with_disk d) (calls d) ∙ with_disk_later losses d (beat.call_on s (f d))
@@ -85,12 +71,6 @@ module _ (s : mark.Setup) (losses : ℕ → ℕ) (f : attempt_answers.Answers) w
   abbrev m : attempt_answers.Answers
   m = each_later losses f
 
-  size : (d : ℕ) → length (m d) ≡ length (f d)
-  size d = length-map (f d) (heard_later (losses d))
-
-  well : (d : ℕ) → all_good (m d) ≡ all_good (f d)
-  well d = good_later (losses d) (f d)
-
   own : (d : ℕ) → mark.own_block s (m d) ≡ mark.own_block s (f d)
   own d = λ i. seen_block (told_at (losses d) (f d) 2 i) s.host
 
@@ -98,38 +78,31 @@ module _ (s : mark.Setup) (losses : ℕ → ℕ) (f : attempt_answers.Answers) w
   to_mark d = λ i. not (own d i).says.mark && mark.is_value (own d i).says.inp s.value
 
   spent : (d : ℕ) → mark.is_stuck s (m d) ≡ mark.is_stuck s (f d)
-  spent d = λ i. (size d i == mark.three_calls) && to_mark d i && nat_le LAST_SEQUENCE (own d i).sequence
+  spent d = λ i. (length_later losses f d i == mark.three_calls) && to_mark d i && nat_le LAST_SEQUENCE (own d i).sequence
 
   stays : (d : ℕ) → mark.is_left s (m d) ≡ mark.is_left s (f d)
-  stays d = λ i. well d i && not (spent d i)
+  stays d = λ i. good_later (losses d) (f d) i && not (spent d i)
 
   waiting : (d : ℕ) → mark.waits s (m d) ≡ mark.waits s (f d)
-  waiting d = λ i. stays d i && nat_lt (size d i) (if to_mark d i then mark.nine_calls else mark.three_calls)
+  waiting d = λ i. stays d i && nat_lt (length_later losses f d i) (if to_mark d i then mark.nine_calls else mark.three_calls)
 
   marked : (d : ℕ) → mark.is_marked s (m d) ≡ mark.is_marked s (f d)
-  marked d = λ i. stays d i && ((own d i).says.mark || nat_le mark.nine_calls (size d i))
+  marked d = λ i. stays d i && ((own d i).says.mark || nat_le mark.nine_calls (length_later losses f d i))
 
   pub mark_status_later : mark.status s m ≡ mark.status s f
   mark_status_later =
       λ i. if nat_lt s.disks (2 * count s.disks (λ d. stays d i)) then mark.due_or (first_below s.disks (λ d. waiting d i)) (mark.Ended (mark.Marked (count s.disks (λ d. marked d i)))) else mark.Ended mark.NoMajority
 
-  boots : (d : ℕ) → boot_of (m d) ≡ later (losses d) (boot_of (f d))
-  boots d = boot_later (losses d) (f d)
-
   making : (d : ℕ) (kind : attempt.Kind) → mark.call_by s (m d) kind ≡ call_later (losses d) (mark.call_by s (f d) kind)
   making d attempt.Attaching = refl
-  making d attempt.Syncing = λ i. device.Sync (boots d i)
-  making d attempt.Reading = λ i. device.Read (boots d i) (row_place cluster_version s.slot) ROW_LENGTH
+  making d attempt.Syncing = λ i. device.Sync (boot_later (losses d) (f d) i)
+  making d attempt.Reading = λ i. device.Read (boot_later (losses d) (f d) i) (row_place cluster_version s.slot) ROW_LENGTH
   making d (attempt.Putting p call) =
-      (λ i. call_of call (record { version = cluster_version; place = place_of cluster_version (VoteOf s.slot s.host); block = (own d i).bytes; body = body_saying cluster_version (mark.with_mark (own d i).says) }) (boots d i))
+      (λ i. call_of call (record { version = cluster_version; place = place_of cluster_version (VoteOf s.slot s.host); block = (own d i).bytes; body = body_saying cluster_version (mark.with_mark (own d i).says) }) (boot_later (losses d) (f d) i))
       ∙ call_of_later (losses d) call (mark.write_on s (f d)) (boot_of (f d))
 
-  making_so : (d : ℕ) (o : Option attempt.Kind) → option_map (mark.call_by s (m d)) o ≡ option_map (call_later (losses d)) (option_map (mark.call_by s (f d)) o)
-  making_so d None = refl
-  making_so d (Some kind) = ap (λ (c : device.Call). Some c) (making d kind)
-
   makes : (d : ℕ) → mark.call_on s (m d) ≡ option_map (call_later (losses d)) (mark.call_on s (f d))
-  makes d = ap (λ (n : ℕ). option_map (mark.call_by s (m d)) (slice_get attempt.seventeen n)) (size d) ∙ making_so d (slice_get attempt.seventeen (length (f d)))
+  makes d = ap (λ (n : ℕ). option_map (mark.call_by s (m d)) (slice_get attempt.seventeen n)) (length_later losses f d) ∙ kind_later (losses d) (mark.call_by s (f d)) (mark.call_by s (m d)) (making d) (slice_get attempt.seventeen (length (f d)))
 
   by_standing : (st : mark.Status) → mark.next_in s m st ≡ due_later losses (mark.next_in s f st)
   by_standing (mark.Due d) = ap (with_disk d) (makes d) ∙ with_disk_later losses d (mark.call_on s (f d))
@@ -144,12 +117,6 @@ module _ (s : look.Setup) (losses : ℕ → ℕ) (f : attempt_answers.Answers) w
   abbrev r : attempt_answers.Answers
   r = each_later losses f
 
-  many : (d : ℕ) → length (r d) ≡ length (f d)
-  many d = length-map (f d) (heard_later (losses d))
-
-  fine : (d : ℕ) → all_good (r d) ≡ all_good (f d)
-  fine d = good_later (losses d) (f d)
-
   row : (d : ℕ) → look.row_of (r d) ≡ look.row_of (f d)
   row d = told_at (losses d) (f d) 1
 
@@ -160,7 +127,7 @@ module _ (s : look.Setup) (losses : ℕ → ℕ) (f : attempt_answers.Answers) w
   none_shown d = λ i. is_some (row d i) && is_none (told_there d i)
 
   still_waits : (d : ℕ) → look.waits (r d) ≡ look.waits (f d)
-  still_waits d = λ i. fine d i && nat_lt (many d i) look.two_calls
+  still_waits d = λ i. good_later (losses d) (f d) i && nat_lt (length_later losses f d i) look.two_calls
 
   visits : look.visited s r ≡ look.visited s f
   visits = λ i. if still_waits s.first i then Some s.first else first_below s.disks (λ d. still_waits d i)
@@ -172,7 +139,7 @@ module _ (s : look.Setup) (losses : ℕ → ℕ) (f : attempt_answers.Answers) w
   enough = λ i. nat_lt s.disks (2 * count s.disks (λ d. none_shown d i))
 
   lacking : look.are_too_few s r ≡ look.are_too_few s f
-  lacking = λ i. nat_le s.disks (2 * count s.disks (λ d. not (fine d i)))
+  lacking = λ i. nat_le s.disks (2 * count s.disks (λ d. not (good_later (losses d) (f d) i)))
 
   asks : look.asking s r ≡ look.asking s f
   asks = λ i. if enough i then look.Ended look.Unmarked else if lacking i then look.Ended look.NoMajority else look.due_or (visits i) (look.Ended look.NoMajority)
@@ -184,16 +151,13 @@ module _ (s : look.Setup) (losses : ℕ → ℕ) (f : attempt_answers.Answers) w
   pub look_status_later : look.status s r ≡ look.status s f
   look_status_later = (λ i. look.unless_told r (marking_on i) (asks i)) ∙ unless_so (look.marked_on s f) (look.asking s f)
 
-  bootings : (d : ℕ) → boot_of (r d) ≡ later (losses d) (boot_of (f d))
-  bootings d = boot_later (losses d) (f d)
-
   asking_by : (d : ℕ) (b : Bool) → (if b then device.Attach else device.Read (boot_of (r d)) (row_place cluster_version s.slot) ROW_LENGTH) ≡ call_later (losses d) (if b then device.Attach else device.Read (boot_of (f d)) (row_place cluster_version s.slot) ROW_LENGTH)
   asking_by d true = refl
-  asking_by d false = λ i. device.Read (bootings d i) (row_place cluster_version s.slot) ROW_LENGTH
+  asking_by d false = λ i. device.Read (boot_later (losses d) (f d) i) (row_place cluster_version s.slot) ROW_LENGTH
 
   asking_call : (d : ℕ) → look.call_on s (r d) ≡ call_later (losses d) (look.call_on s (f d))
   asking_call d =
-      (λ i. if nat_lt (many d i) 1 then device.Attach else device.Read (boot_of (r d)) (row_place cluster_version s.slot) ROW_LENGTH)
+      (λ i. if nat_lt (length_later losses f d i) 1 then device.Attach else device.Read (boot_of (r d)) (row_place cluster_version s.slot) ROW_LENGTH)
       ∙ asking_by d (nat_lt (length (f d)) 1)
 
   by_look : (st : look.Status) → look.next_in s r st ≡ due_later losses (look.next_in s f st)

@@ -96,6 +96,9 @@ module _ {A : Type 0} (losses : ℕ → ℕ) where
   pub on_later : (heard : List (Answered A)) → on (all_later losses heard) ≡ each_later losses (on heard)
   on_later heard = λ i d. on_disk_later heard d i
 
+pub length_later : {A : Type 0} (losses : ℕ → ℕ) (f : Answers A) (d : ℕ) → length (each_later losses f d) ≡ length (f d)
+length_later losses f d = length-map (f d) (heard_later (losses d))
+
 -- CALLS
 
 pub call_of_later : (n : ℕ) (call : WriteCall) (w : Write128) (boot : ℕ) → call_of call w (later n boot) ≡ call_later n (call_of call w boot)
@@ -114,17 +117,16 @@ pub with_disk_later : (losses : ℕ → ℕ) (d : ℕ) (o : Option device.Call) 
 with_disk_later losses d None = refl
 with_disk_later losses d (Some call) = refl
 
+-- the call of a kind, where there is one
+pub kind_later : {K : Type 0} (n : ℕ) (before after : K → device.Call) → ((kind : K) → after kind ≡ call_later n (before kind)) → (o : Option K) → option_map after o ≡ option_map (call_later n) (option_map before o)
+kind_later n before after same None = refl
+kind_later n before after same (Some kind) = ap (λ (c : device.Call). Some c) (same kind)
+
 -- WHERE AN ATTEMPT STANDS
 
 module _ (s : Setup) (losses : ℕ → ℕ) (f : attempt.Answers) where
   abbrev g : attempt.Answers
   g = each_later losses f
-
-  len : (d : ℕ) → length (g d) ≡ length (f d)
-  len d = length-map (f d) (heard_later (losses d))
-
-  good : (d : ℕ) → all_good (g d) ≡ all_good (f d)
-  good d = good_later (losses d) (f d)
 
   row : (p : Phase) (d : ℕ) → row_in p (g d) ≡ row_in p (f d)
   row p d = told_at (losses d) (f d) (pred (goal p))
@@ -133,13 +135,13 @@ module _ (s : Setup) (losses : ℕ → ℕ) (f : attempt.Answers) where
   last d = last_later (losses d) (f d)
 
   stuck : (p : Phase) (d : ℕ) → is_stuck s p (g d) ≡ is_stuck s p (f d)
-  stuck p d = λ i. (len d i == start p) && nat_le LAST_SEQUENCE (seen_block (last d i) s.host).sequence
+  stuck p d = λ i. (length_later losses f d i == start p) && nat_le LAST_SEQUENCE (seen_block (last d i) s.host).sequence
 
   part : (p : Phase) (d : ℕ) → takes_part p (g d) ≡ takes_part p (f d)
-  part p d = λ i. good d i && nat_le (start p) (len d i)
+  part p d = λ i. good_later (losses d) (f d) i && nat_le (start p) (length_later losses f d i)
 
   waiting : (p : Phase) (d : ℕ) → waits s p (g d) ≡ waits s p (f d)
-  waiting p d = λ i. part p d i && nat_lt (len d i) (goal p) && not (stuck p d i)
+  waiting p d = λ i. part p d i && nat_lt (length_later losses f d i) (goal p) && not (stuck p d i)
 
   visiting : (p : Phase) → visited s p g ≡ visited s p f
   visiting p = λ i. first_below s.disks (λ d. waiting p d i)
@@ -195,21 +197,14 @@ module _ (s : Setup) (losses : ℕ → ℕ) (f : attempt.Answers) where
   writing : (p : Phase) (d : ℕ) → write_on s p d g ≡ write_on s p d f
   writing p d = λ i. record { version = s.version; place = place_of s.version (VoteOf s.slot s.host); block = (seen_block (last d i) s.host).bytes; body = body_saying s.version (saying p i) }
 
-  booted : (d : ℕ) → boot_of (g d) ≡ later (losses d) (boot_of (f d))
-  booted d = boot_later (losses d) (f d)
-
   calling : (d : ℕ) (kind : Kind) → call_by s d g kind ≡ call_later (losses d) (call_by s d f kind)
   calling d Attaching = refl
-  calling d Syncing = λ i. device.Sync (booted d i)
-  calling d Reading = λ i. device.Read (booted d i) (row_place s.version s.slot) (row_length s.version)
-  calling d (Putting p call) = (λ i. call_of call (writing p d i) (booted d i)) ∙ call_of_later (losses d) call (write_on s p d f) (boot_of (f d))
-
-  calling_so : (d : ℕ) (o : Option Kind) → option_map (call_by s d g) o ≡ option_map (call_later (losses d)) (option_map (call_by s d f) o)
-  calling_so d None = refl
-  calling_so d (Some kind) = ap (λ (c : device.Call). Some c) (calling d kind)
+  calling d Syncing = λ i. device.Sync (boot_later (losses d) (f d) i)
+  calling d Reading = λ i. device.Read (boot_later (losses d) (f d) i) (row_place s.version s.slot) (row_length s.version)
+  calling d (Putting p call) = (λ i. call_of call (writing p d i) (boot_later (losses d) (f d) i)) ∙ call_of_later (losses d) call (write_on s p d f) (boot_of (f d))
 
   calls : (d : ℕ) → call_on s d g ≡ option_map (call_later (losses d)) (call_on s d f)
-  calls d = ap (λ (n : ℕ). option_map (call_by s d g) (slice_get seventeen n)) (len d) ∙ calling_so d (slice_get seventeen (length (f d)))
+  calls d = ap (λ (n : ℕ). option_map (call_by s d g) (slice_get seventeen n)) (length_later losses f d) ∙ kind_later (losses d) (call_by s d f) (call_by s d g) (calling d) (slice_get seventeen (length (f d)))
 
   by_status : (st : Status) → next_in s g st ≡ due_later losses (next_in s f st)
   by_status (Due p d) = ap (with_disk d) (calls d) ∙ with_disk_later losses d (call_on s d f)

@@ -1,63 +1,41 @@
 -- What happens among the first positions of a disk happens to the disk that is cut to them.
-use Rattle.std.proofs.Common.{◌≡◌, ◌+◌, ◌-◌, ◌≤◌, ℕ, zero, suc, Bool, true, false, List, [], ◌∷◌, ◌++◌, length, take, drop, replicate, refl, sym, ap, ◌∙◌, subst, arith}
-use Rattle.std.proofs.lemmas.List.{length-replicate, length-take-le}
+use Rattle.std.proofs.Common.{◌≡◌, ◌+◌, ◌-◌, ◌≤◌, ℕ, zero, suc, Bool, true, false, List, [], ◌∷◌, ◌++◌, length, take, drop, replicate, refl, sym, ap, ◌∙◌, subst, arith, length-append}
+use Rattle.std.proofs.lemmas.List.{length-replicate, length-take, length-take-le, take-take, take-replicate, drop-take}
+use Rattle.std.proofs.Math.Seq.{take-append-add}
 use Rattle.disk.specs.declared.fault.DiskFault.TheVariants.{Reset, Failed, Gone}
 use Rattle.disk.specs.Disk.{DiskState, Call, Attach, Read, Write, Sync, Answer, Booted, Told, Done, Fault, FailureLeaves, Succeeds, Step, Crashes, put_at, written, synced}
 use Rattle.disk.specs.Filling.{filled, nth_given}
 use Rattle.disk.specs.Simulated.{crashed, fresh_disk}
 use Rattle.disk.proofs.StepLemmas.{step_keeps}
 use Rattle.disk.proofs.CrashLemmas.{length-put}
-use Rattle.disk.proofs.FillingLemmas.{filled_keeps}
+use Rattle.disk.proofs.FillingLemmas.{filled_keeps, filled_length}
 use Rattle.disk.specs.Cut.{cut, HasFirst, IsInFirst}
 
 module _ {A : Type 0} where
-  put_front : (n : ℕ) (old items : List A) (k : ℕ) → length items ≡ k → k ≤ n → n ≤ length old → take n (items ++ drop k old) ≡ items ++ drop k (take n old)
-  put_front n old [] zero is within fits = refl
-  put_front n old [] (suc k) is within fits = absurd (omega (arith, is))
-  put_front n old (x ∷ items) zero is within fits = absurd (omega (arith, is))
-  put_front zero old (x ∷ items) (suc k) is within fits = absurd (omega (arith, within))
-  put_front (suc n) [] (x ∷ items) (suc k) is within fits = absurd (omega (arith, fits))
-  put_front (suc n) (y ∷ old) (x ∷ items) (suc k) is within fits =
-      ap (λ (l : List A). x ∷ l) (put_front n old items k (omega (arith, is)) (omega (arith, within)) (omega (arith, fits)))
-
-  put_from : (n : ℕ) (old items : List A) (at k : ℕ) → at + length items ≡ k → k ≤ n → n ≤ length old → take n (take at old ++ items ++ drop k old) ≡ take at (take n old) ++ items ++ drop k (take n old)
-  put_from n old items zero k is within fits = put_front n old items k (omega (arith, is)) within fits
-  put_from n [] items (suc at) k is within fits = absurd (omega (arith, is, within, fits))
-  put_from zero (y ∷ old) items (suc at) k is within fits = absurd (omega (arith, is, within))
-  put_from (suc n) (y ∷ old) items (suc at) zero is within fits = absurd (omega (arith, is))
-  put_from (suc n) (y ∷ old) items (suc at) (suc k) is within fits =
-      ap (λ (l : List A). y ∷ l) (put_from n old items at k (omega (arith, is)) (omega (arith, within)) (omega (arith, fits)))
-
   -- a range is put into the first positions
   take_put : (n : ℕ) (old items : List A) (at : ℕ) → at + length items ≤ n → n ≤ length old → take n (put_at old at items) ≡ put_at (take n old) at items
-  take_put n old items at within fits = put_from n old items at (at + length items) refl within fits
-
-  take_less : (n m : ℕ) (old : List A) → m ≤ n → take m (take n old) ≡ take m old
-  take_less n zero old within = refl
-  take_less zero (suc m) old within = absurd (omega (arith, within))
-  take_less (suc n) (suc m) [] within = refl
-  take_less (suc n) (suc m) (y ∷ old) within = ap (λ (l : List A). y ∷ l) (take_less n m old (omega (arith, within)))
+  take_put n old items at within fits =
+      let p = take at old ++ items in
+      let m = at + length items in
+      let long : length p ≡ m = omega (arith, length-append (take at old) items, length-take-le at old (omega (arith, within, fits))) in
+      let a : n ≡ length p + (n - m) = omega (arith, long, within) in
+      let b : m + (n - m) ≡ n = omega (arith, within) in
+      ap (λ (j : ℕ). take j (p ++ drop m old)) a
+      ∙ take-append-add p (drop m old) (n - m)
+      ∙ ap (λ (l : List A). p ++ l) (sym (drop-take m (n - m) old) ∙ ap (λ (j : ℕ). drop m (take j old)) b)
+      ∙ ap (λ (l : List A). (l ++ items) ++ drop m (take n old)) (sym (take-take at n old (omega (arith, within))))
 
   take_from : (n at m : ℕ) (old : List A) → at + m ≤ n → take m (drop at (take n old)) ≡ take m (drop at old)
-  take_from n zero m old within = take_less n m old (omega (arith, within))
-  take_from zero (suc at) m old within = absurd (omega (arith, within))
-  take_from (suc n) (suc at) m [] within = refl
-  take_from (suc n) (suc at) m (y ∷ old) within = take_from n at m old (omega (arith, within))
+  take_from n at m old within =
+      let b : n ≡ at + (n - at) = omega (arith, within) in
+      ap (λ (j : ℕ). take m (drop at (take j old))) b
+      ∙ ap (take m) (drop-take at (n - at) old)
+      ∙ take-take m (n - at) (drop at old) (omega (arith, within))
 
   take_flat : (n : ℕ) (old : List A) (b : Bool) → take n (replicate (length old) b) ≡ replicate (length (take n old)) b
   take_flat zero old b = refl
   take_flat (suc n) [] b = refl
   take_flat (suc n) (y ∷ old) b = ap (λ (l : List Bool). b ∷ l) (take_flat n old b)
-
-  as_long : (n : ℕ) (old : List A) → length (take n old) ≡ n → n ≤ length old
-  as_long zero old is = omega arith
-  as_long (suc n) [] is = absurd (omega (arith, is))
-  as_long (suc n) (y ∷ old) is = omega (arith, as_long n old (omega (arith, is)))
-
-take_same : {A : Type 0} (n size : ℕ) (x : A) → n ≤ size → take n (replicate size x) ≡ replicate n x
-take_same zero size x fits = refl
-take_same (suc n) zero x fits = absurd (omega (arith, fits))
-take_same {A} (suc n) (suc size) x fits = ap (λ (l : List A). x ∷ l) (take_same n size x (omega (arith, fits)))
 
 take_filled : (given : List ℕ) (n i : ℕ) (flags : List Bool) (bytes : List ℕ) → n ≤ length flags → take n (filled given i flags bytes) ≡ filled given i (take n flags) (take n bytes)
 take_filled given zero i flags bytes fits = refl
@@ -65,13 +43,6 @@ take_filled given (suc n) i [] bytes fits = absurd (omega (arith, fits))
 take_filled given (suc n) i (flag ∷ flags) [] fits = refl
 take_filled given (suc n) i (true ∷ flags) (b ∷ bytes) fits = ap (λ (l : List ℕ). nth_given given i ∷ l) (take_filled given n (i + 1) flags bytes (omega (arith, fits)))
 take_filled given (suc n) i (false ∷ flags) (b ∷ bytes) fits = ap (λ (l : List ℕ). b ∷ l) (take_filled given n i flags bytes (omega (arith, fits)))
-
-filled_reaches : (given : List ℕ) (n i : ℕ) (flags : List Bool) (bytes : List ℕ) → n ≤ length bytes → n ≤ length flags → n ≤ length (filled given i flags bytes)
-filled_reaches given zero i flags bytes fits flagged = omega arith
-filled_reaches given (suc n) i [] bytes fits flagged = absurd (omega (arith, flagged))
-filled_reaches given (suc n) i (flag ∷ flags) [] fits flagged = absurd (omega (arith, fits))
-filled_reaches given (suc n) i (true ∷ flags) (b ∷ bytes) fits flagged = omega (arith, filled_reaches given n (i + 1) flags bytes (omega (arith, fits)) (omega (arith, flagged)))
-filled_reaches given (suc n) i (false ∷ flags) (b ∷ bytes) fits flagged = omega (arith, filled_reaches given n i flags bytes (omega (arith, fits)) (omega (arith, flagged)))
 
 state : List ℕ → List Bool → DiskState → DiskState
 state bytes unsynced disk = record { bytes = bytes; unsynced = unsynced; boot = disk.boot; gone = disk.gone }
@@ -157,15 +128,15 @@ crashes_cut n disk given has =
 pub first_stay_crashed : (n : ℕ) (disk : DiskState) (given : List ℕ) → HasFirst n disk → HasFirst n (crashed disk given)
 first_stay_crashed n disk given has =
     let flat : length (replicate (length disk.bytes) false) ≡ length disk.bytes = length-replicate (length disk.bytes) false in
-    (filled_reaches given n 0 disk.unsynced disk.bytes has.0 has.1, omega (arith, flat, has.0))
+    (omega (arith, filled_length given 0 disk.unsynced disk.bytes, has.0), omega (arith, flat, has.0))
 
 pub cut_fresh : (n size : ℕ) → n ≤ size → cut n (fresh_disk size) ≡ fresh_disk n
 unfolding fresh_disk
-cut_fresh n size fits i = record { bytes = take_same n size 0 fits i; unsynced = take_same n size false fits i; boot = 1; gone = false }
+cut_fresh n size fits i = record { bytes = take-replicate n size 0 fits i; unsynced = take-replicate n size false fits i; boot = 1; gone = false }
 
 pub first_of_fresh : (n : ℕ) (disk : DiskState) → cut n disk ≡ fresh_disk n → HasFirst n disk
 unfolding fresh_disk
 first_of_fresh n disk is =
     let bytes : length (take n disk.bytes) ≡ n = ap (λ (d : DiskState). length d.bytes) is ∙ length-replicate n 0 in
     let flags : length (take n disk.unsynced) ≡ n = ap (λ (d : DiskState). length d.unsynced) is ∙ length-replicate n false in
-    (as_long n disk.bytes bytes, as_long n disk.unsynced flags)
+    (omega (arith, bytes, length-take n disk.bytes), omega (arith, flags, length-take n disk.unsynced))

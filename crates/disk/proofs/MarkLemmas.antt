@@ -1,13 +1,13 @@
 -- Which positions are marked after a write, and after a step of the epoch.
 use Rattle.std.proofs.Common.{◌≡◌, ℕ, ◌+◌, ◌-◌, ◌*◌, ◌/◌, ◌%◌, ◌<◌, ◌≤◌, ◌==◌, min, max, Bool, true, false, cond, List, [], ◌++◌, length, get_or, set, replicate, refl, sym, ◌∙◌, ap, inl, inr, arith}
-use Rattle.std.proofs.lemmas.Bool.{cases_lt, cases_eq, ne_eqb}
-use Rattle.std.proofs.lemmas.List.{length-replicate, get_or-replicate, get_or-set_same, get_or-set_other, get_or_past, ext_get_or}
+use Rattle.std.proofs.lemmas.Bool.{cases_lt, ne_eqb}
+use Rattle.std.proofs.lemmas.List.{length-replicate, get_or-replicate, get_or_past, ext_get_or}
 use Rattle.std.proofs.lemmas.List.FromFn.{length-map-range_with_len, get_or-map-range_with_len}
 use Rattle.std.proofs.lemmas.Nat.Bits.{bit_at-zero}
 use Rattle.std.specs.Int.{bit_at}
 use Rattle.disk.specs.Disk.{put_at}
 use Rattle.disk.proofs.CrashLemmas.{length-put}
-use Rattle.disk.proofs.ListLemmas.{get_or_more}
+use Rattle.disk.proofs.ListLemmas.{get_or_more, set_each}
 use Rattle.disk.proofs.PutLemmas.{put_each}
 use Rattle.disk.specs.declared.word.Word.{Word}
 use Rattle.disk.specs.Marks.{blank, is_marked_in, is_marked, marks, all_marks}
@@ -52,15 +52,6 @@ pub record MarksPlaces (epoch from to : ℕ) (old new : Word) : Type 0 where
 abbrev pub reached : ℕ → ℕ → ℕ → ℕ
 reached at end i = min end (max at (64 * i))
 
-module _ (epoch : ℕ) (words : List Word) (i : ℕ) (word : Word) (within : i < length words) (k : ℕ) where
-  in_word : k / 64 ≡ i → is_marked epoch (set words i word) k ≡ is_marked_in epoch word (k % 64)
-  in_word e =
-      ap (λ (j : ℕ). is_marked_in epoch (get_or (set words i word) j blank) (k % 64)) e
-      ∙ ap (λ (w : Word). is_marked_in epoch w (k % 64)) (get_or-set_same words i word blank within)
-
-  in_other : (k / 64 ≡ i → ⊥) → is_marked epoch (set words i word) k ≡ is_marked epoch words k
-  in_other other = ap (λ (w : Word). is_marked_in epoch w (k % 64)) (get_or-set_other words i (k / 64) word blank other)
-
 module _ (epoch at end i from to : ℕ) (old words : List Word) (cell word : Word) (within : i < length words) (is : cell ≡ get_or words i blank) (order : at ≤ end) (first : at / 64 ≤ i) (last : 64 * i < end) (low : from ≡ at - 64 * i) (high : to ≡ min (end - 64 * i) 64) where
   was_in_word : (k : ℕ) → k / 64 ≡ i → is_marked_in epoch cell (k % 64) ≡ is_marked epoch words k
   was_in_word k e =
@@ -71,20 +62,16 @@ module _ (epoch at end i from to : ℕ) (old words : List Word) (cell word : Wor
   marks_more range places =
       record {
         inside = λ k from under.
-            elim (cases_eq (k / 64) i) [
-              | inl e ↦ in_word epoch words i word within k e ∙ places.inside (k % 64) (omega arith) (omega arith)
-              | inr other ↦
-                  (let before : k < 64 * i = elim (cases_lt k (64 * i)) [ inl l ↦ l | inr g ↦ (let e : k / 64 ≡ i = omega arith in absurd (other e)) ] in
-                  in_other epoch words i word within k other ∙ range.inside k from (omega arith))
-            ];
+            set_each words i word blank within (λ (w : Word). is_marked_in epoch w (k % 64) ≡ true) (k / 64)
+            (λ e. places.inside (k % 64) (omega arith) (omega arith))
+            (λ other. range.inside k from (let before : k < 64 * i = elim (cases_lt k (64 * i)) [ inl l ↦ l | inr g ↦ (let e : k / 64 ≡ i = omega arith in absurd (other e)) ] in omega arith));
         outside = λ k out.
-            elim (cases_eq (k / 64) i) [
-              | inl e ↦
-                  (let above : from ≤ k % 64 → to ≤ k % 64 = λ past. elim (cases_lt (k % 64) to) [ inl under ↦ absurd (out (omega arith) (omega arith)) | inr over ↦ over ] in
-                  let here : is_marked_in epoch word (k % 64) ≡ is_marked_in epoch cell (k % 64) = elim (cases_lt (k % 64) from) [ inl below ↦ places.below (k % 64) below | inr past ↦ places.above (k % 64) (above past) ] in
-                  in_word epoch words i word within k e ∙ here ∙ was_in_word k e ∙ range.outside k (λ first under. out first (omega arith)))
-              | inr other ↦ in_other epoch words i word within k other ∙ range.outside k (λ from under. out from (omega arith))
-            ];
+            set_each words i word blank within (λ (w : Word). is_marked_in epoch w (k % 64) ≡ is_marked epoch old k) (k / 64)
+            (λ e.
+            let above : from ≤ k % 64 → to ≤ k % 64 = λ past. elim (cases_lt (k % 64) to) [ inl under ↦ absurd (out (omega arith) (omega arith)) | inr over ↦ over ] in
+            let here : is_marked_in epoch word (k % 64) ≡ is_marked_in epoch cell (k % 64) = elim (cases_lt (k % 64) from) [ inl below ↦ places.below (k % 64) below | inr past ↦ places.above (k % 64) (above past) ] in
+            here ∙ was_in_word k e ∙ range.outside k (λ first under. out first (omega arith)))
+            (λ other. range.outside k (λ first under. out first (omega arith)));
       }
 
 -- A NEW EPOCH

@@ -2,7 +2,7 @@
 use Rattle.std.proofs.Common.{◌≡◌, ℕ, ◌+◌, ◌-◌, ◌*◌, ◌/◌, ◌%◌, ◌^◌, ◌<◌, ◌≤◌, Bool, false, List, Vec, Global, [], ◌++◌, length, get_or, take, drop, replicate, sym, ◌∙◌, ap, subst, inl, inr, arith, length-drop}
 use Rattle.std.specs.Prelude.{slice_range, vec_capacity}
 use Rattle.std.proofs.lemmas.Bool.{cases_lt}
-use Rattle.std.proofs.lemmas.List.{get_or-replicate, length-replicate, ext_get_or, length-take-le, get_or-take, get_or-drop, drop-drop, take-append-drop, take-append-le, take_all, drop_all, append-nil}
+use Rattle.std.proofs.lemmas.List.{get_or-replicate, length-replicate, length-take-le, drop-drop, take-append-drop, take-append-le, take_all, drop_all, append-nil}
 use Rattle.std.proofs.Math.Seq.{take-append-add}
 use Rattle.disk.specs.declared.pages.Page.{Page}
 use Rattle.disk.specs.declared.word.Word.{Word}
@@ -11,7 +11,7 @@ use Rattle.disk.specs.Filling.{filled}
 use Rattle.disk.specs.Marks.{marks, all_marks}
 use Rattle.disk.specs.Pages.{nth_page, home, seen, HaveRooms, Covers, BlankOutside}
 use Rattle.disk.proofs.FillingLemmas.{when_filled, unmarked_stays}
-use Rattle.disk.proofs.ListLemmas.{get_or_more}
+use Rattle.disk.proofs.ListLemmas.{get_or_more, run_is}
 use Rattle.disk.proofs.MarkLemmas.{none_marked, none_at_first}
 use Rattle.disk.proofs.PutLemmas.{put_each}
 use Rattle.disk.proofs.RoomLemmas.{is_given, range_kept}
@@ -74,12 +74,7 @@ blank_filled pages given bytes flags blank =
 -- a run of zeros
 pub zeros_run : (l : List ℕ) (a n : ℕ) → a + n ≤ length l → ((k : ℕ) → k < n → get_or l (a + k) 0 ≡ 0) → take n (drop a l) ≡ replicate n 0
 zeros_run l a n within zeros =
-    let long : length (take n (drop a l)) ≡ n = length-take-le n (drop a l) (omega (arith, length-drop a l)) in
-    let many : length (replicate {A = ℕ} n 0) ≡ n = length-replicate {A = ℕ} n 0 in
-    ext_get_or 0 (take n (drop a l)) (replicate n 0) (long ∙ sym many)
-    (λ k inside.
-    let under : k < n = omega arith in
-    get_or-take n (drop a l) k 0 under ∙ get_or-drop a l k 0 ∙ zeros k under ∙ sym (get_or-replicate n k 0 0 under))
+    run_is l (replicate n 0) a n 0 (length-replicate {A = ℕ} n 0) within (λ k under. zeros k under ∙ sym (get_or-replicate n k 0 0 under))
 
 pub split_take : (l : List ℕ) (a m n : ℕ) → a + m ≤ length l → take (m + n) (drop a l) ≡ take m (drop a l) ++ take n (drop (a + m) l)
 split_take l a m n within =

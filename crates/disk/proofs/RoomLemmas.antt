@@ -1,14 +1,14 @@
 -- Which pages have room, after a page got some and after its range was widened.
-use Rattle.std.proofs.Common.{◌≡◌, ℕ, ◌+◌, ◌-◌, ◌*◌, ◌/◌, ◌%◌, ◌<◌, ◌≤◌, ◌^◌, Bool, true, false, cond, List, [], length, get_or, set, replicate, refl, sym, ◌∙◌, ap, subst, inl, inr, arith, length-set}
+use Rattle.std.proofs.Common.{◌≡◌, ℕ, ◌+◌, ◌-◌, ◌*◌, ◌/◌, ◌%◌, ◌<◌, ◌≤◌, ◌^◌, Bool, true, false, cond, List, [], length, get_or, set, replicate, refl, sym, ◌∙◌, ap, inl, inr, arith, length-set}
 use Rattle.std.specs.Prelude.{nat_lt}
 use Rattle.std.specs.List.{count_by}
-use Rattle.std.proofs.lemmas.Bool.{cases_lt, cases_eq, lt-ltb}
-use Rattle.std.proofs.lemmas.List.{get_or-set_same, get_or-set_other, get_or_past}
+use Rattle.std.proofs.lemmas.Bool.{cases_lt, lt-ltb}
+use Rattle.std.proofs.lemmas.List.{get_or_past}
 use Rattle.std.proofs.lemmas.List.Folds.{sum_by-replicate}
 use Rattle.std.proofs.lemmas.List.Sums.{sum_by-set, count_by-le-length}
 use Rattle.disk.specs.declared.pages.Page.{Page}
 use Rattle.disk.specs.Pages.{unwritten, nth_page, home, has_room, seen, HaveRooms, Covers}
-use Rattle.disk.proofs.ListLemmas.{get_or_more}
+use Rattle.disk.proofs.ListLemmas.{get_or_more, set_each}
 use Rattle.disk.proofs.SeenLemmas.{seen_same, whole_room}
 
 -- COUNTS
@@ -33,14 +33,6 @@ count_none {X} p n y missing =
     sum_by-replicate f n y ∙ ap (λ (k : ℕ). n * k) is ∙ (let z : n * 0 ≡ 0 = omega arith in z)
 
 -- ROOMS
-
--- what holds of the page that was set, and of each other page as before
-set_each : (pages : List Page) (i : ℕ) (page : Page) → i < length pages → (P : Page → Type 0) (j : ℕ) → (j ≡ i → P page) → ((j ≡ i → ⊥) → P (nth_page pages j)) → P (nth_page (set pages i page) j)
-set_each pages i page within P j at_i off =
-    elim (cases_eq j i) [
-      | inl is ↦ subst (λ (k : ℕ). P (nth_page (set pages i page) k)) (sym is) (subst P (sym (get_or-set_same pages i page unwritten within)) (at_i is))
-      | inr not ↦ subst P (sym (get_or-set_other pages i j page unwritten not)) (off not)
-    ]
 
 -- a fresh disk keeps nothing
 pub rooms_fresh : (n : ℕ) → HaveRooms (replicate n unwritten) 0
@@ -140,7 +132,7 @@ module _ (pages : List Page) (n i : ℕ) (page : Page) (rooms : HaveRooms pages 
 
   pub rooms_given : HaveRooms (set pages i page) (n + 4096)
   rooms_given =
-      let each = set_each pages i page within in
+      let each = set_each pages i page unwritten within in
       record {
         own = λ a b. each (λ (p : Page). p.room ≡ (nth_page (set pages i page) b).room → 4096 * p.room < n + 4096 → a ≡ b) a
             (λ a_is. each (λ (p : Page). page.room ≡ p.room → 4096 * page.room < n + 4096 → a ≡ b) b (λ b_is same under. a_is ∙ sym b_is) (λ off same under. absurd (not_here b (sym same))))
@@ -153,7 +145,7 @@ module _ (pages : List Page) (n i : ℕ) (page : Page) (rooms : HaveRooms pages 
   -- where it had none before nothing was covered, and nothing is
   pub same_covers : (k : ℕ) → (Covers (set pages i page) k → Covers pages k) × (Covers pages k → Covers (set pages i page) k)
   same_covers k =
-      let each = set_each pages i page within in
+      let each = set_each pages i page unwritten within in
       let before : (j : ℕ) → j ≡ i → nth_page pages j ≡ unwritten = λ j is. ap (nth_page pages) is ∙ was in
       let a = each (λ (p : Page). p.from ≡ (nth_page pages (k / 4096)).from) (k / 4096) (λ is. from ∙ ap (λ (p : Page). p.from) (sym (before (k / 4096) is))) (λ off. refl) in
       let b = each (λ (p : Page). p.to ≡ (nth_page pages (k / 4096)).to) (k / 4096) (λ is. to ∙ ap (λ (p : Page). p.to) (sym (before (k / 4096) is))) (λ off. refl) in (
@@ -166,7 +158,7 @@ module _ (pages : List Page) (n i : ℕ) (page : Page) (rooms : HaveRooms pages 
   same_seen {X} blank old new same few size =
       seen_same pages (set pages i page) blank old new size (λ k inside.
       same (home (set pages i page) k)
-      ∙ set_each pages i page within (λ (p : Page). get_or old (4096 * p.room + k % 4096) blank ≡ get_or old (home pages k) blank) (k / 4096)
+      ∙ set_each pages i page unwritten within (λ (p : Page). get_or old (4096 * p.room + k % 4096) blank ≡ get_or old (home pages k) blank) (k / 4096)
       (λ is.
       let before : (nth_page pages (k / 4096)).room ≡ 2 ^ 64 - 1 = ap (λ (j : ℕ). (nth_page pages j).room) is ∙ nowhere in
       get_or_past old (4096 * page.room + k % 4096) blank (omega (arith, next, few))

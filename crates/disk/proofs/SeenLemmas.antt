@@ -1,6 +1,5 @@
 -- What a disk shows of what it keeps.
-use Rattle.std.proofs.Common.{◌≡◌, ℕ, ◌+◌, ◌-◌, ◌*◌, ◌/◌, ◌%◌, ◌<◌, ◌≤◌, Bool, false, List, length, get_or, set, take, drop, replicate, refl, sym, ◌∙◌, ap, subst, inl, inr, arith, length-drop, length-set}
-use Rattle.std.proofs.lemmas.Bool.{cases_eq}
+use Rattle.std.proofs.Common.{◌≡◌, ℕ, ◌+◌, ◌-◌, ◌*◌, ◌/◌, ◌%◌, ◌<◌, ◌≤◌, Bool, false, List, length, get_or, set, take, drop, replicate, refl, sym, ◌∙◌, ap, subst, arith, length-drop, length-set}
 use Rattle.std.proofs.lemmas.List.{length-replicate, get_or-replicate, get_or_past, get_or-set_same, get_or-set_other, ext_get_or, length-take-le, get_or-take, get_or-drop}
 use Rattle.std.proofs.lemmas.List.FromFn.{length-map-range_with_len, get_or-map-range_with_len}
 use Rattle.disk.specs.declared.pages.Page.{Page}
@@ -8,6 +7,7 @@ use Rattle.disk.specs.Disk.{put_at}
 use Rattle.disk.specs.Image.{Contents}
 use Rattle.disk.specs.Pages.{nth_page, home, seen, HaveRooms}
 use Rattle.disk.proofs.CrashLemmas.{length-put, put-inside}
+use Rattle.disk.proofs.ListLemmas.{set_each, run_is}
 use Rattle.disk.proofs.PutLemmas.{put_each}
 
 pub length-seen : {X : Type 0} (pages : List Page) (blank : X) (kept : List X) (size : ℕ) → length (seen pages blank kept size) ≡ size
@@ -100,7 +100,7 @@ module _ {X : Type 0} (pages : List Page) (blank : X) (kept items : List X) (at 
 
 -- one position alone
 pub seen_set : {X : Type 0} (pages : List Page) (blank y : X) (kept : List X) (i size : ℕ) → HaveRooms pages (length kept) → home pages i < length kept → i < size → seen pages blank (set kept (home pages i) y) size ≡ set (seen pages blank kept size) i y
-seen_set pages blank y kept i size rooms here within =
+seen_set {X} pages blank y kept i size rooms here within =
     let old = seen pages blank kept size in
     let long = length-seen pages blank kept size in
     let new = seen pages blank (set kept (home pages i) y) size in
@@ -109,19 +109,12 @@ seen_set pages blank y kept i size rooms here within =
     (λ k inside.
     let k_in : k < size = omega (arith, many) in
     let now = get_or-seen pages blank (set kept (home pages i) y) size k k_in in
-    elim (cases_eq k i) [
-      | inl is ↦
-          now
-          ∙ ap (λ (j : ℕ). get_or (set kept (home pages i) y) (home pages j) blank) is
-          ∙ get_or-set_same kept (home pages i) y blank here
-          ∙ sym (get_or-set_same old i y blank (omega (arith, long, within)))
-          ∙ ap (λ (j : ℕ). get_or (set old i y) j blank) (sym is)
-      | inr not ↦
-          now
-          ∙ get_or-set_other kept (home pages i) (home pages k) y blank (λ same. not (sym (home_own pages (length kept) i k rooms (sym same) here)))
-          ∙ sym (get_or-seen pages blank kept size k k_in)
-          ∙ sym (get_or-set_other old i k y blank not)
-    ])
+    set_each old i y blank (omega (arith, long, within)) (λ (x : X). get_or new k blank ≡ x) k
+    (λ is. now ∙ ap (λ (j : ℕ). get_or (set kept (home pages i) y) (home pages j) blank) is ∙ get_or-set_same kept (home pages i) y blank here)
+    (λ off.
+    now
+    ∙ get_or-set_other kept (home pages i) (home pages k) y blank (λ same. off (sym (home_own pages (length kept) i k rooms (sym same) here)))
+    ∙ sym (get_or-seen pages blank kept size k k_in)))
 
 -- A READ
 
@@ -130,42 +123,31 @@ pub seen_range : {X : Type 0} (pages : List Page) (blank : X) (kept : List X) (a
 seen_range pages blank kept at n size rooms one here within =
     let old = seen pages blank kept size in
     let place = home pages at in
-    let long = length-seen pages blank kept size in
     let room = (nth_page pages (at / 4096)).room in
     let all : 4096 * room + 4096 ≤ length kept = whole_room pages (length kept) (at / 4096) rooms here in
     let fit : 4096 * room + at % 4096 + n ≤ length kept = omega (arith, all) in
     let a : (at + n) - at ≡ n = omega arith in
     let b : (place + n) - place ≡ n = omega arith in
-    let one_long : length (take n (drop at old)) ≡ n = length-take-le n (drop at old) (omega (arith, length-drop at old, long)) in
-    let two_long : length (take n (drop place kept)) ≡ n = length-take-le n (drop place kept) (omega (arith, length-drop place kept, fit)) in
     ap (λ (m : ℕ). take m (drop at old)) a
-    ∙ ext_get_or blank (take n (drop at old)) (take n (drop place kept)) (one_long ∙ sym two_long)
-    (λ j inside.
-    let j_in : j < n = omega (arith, one_long) in
-    get_or-take n (drop at old) j blank j_in
-    ∙ get_or-drop at old j blank
-    ∙ get_or-seen pages blank kept size (at + j) (omega (arith, within))
+    ∙ run_is old (take n (drop place kept)) at n blank (length-take-le n (drop place kept) (omega (arith, length-drop place kept, fit))) (omega (arith, length-seen pages blank kept size, within))
+    (λ j under.
+    get_or-seen pages blank kept size (at + j) (omega (arith, within))
     ∙ ap (λ (i : ℕ). get_or kept i blank) (home_in pages at j (omega (arith, one)))
-    ∙ sym (get_or-take n (drop place kept) j blank j_in ∙ get_or-drop place kept j blank))
+    ∙ sym (get_or-take n (drop place kept) j blank under ∙ get_or-drop place kept j blank))
     ∙ ap (λ (m : ℕ). take m (drop place kept)) (sym b)
 
 -- a range of one page that has none
 pub seen_nowhere : {X : Type 0} (pages : List Page) (blank : X) (kept : List X) (at n size : ℕ) → at % 4096 + n ≤ 4096 → length kept ≤ 4096 * (nth_page pages (at / 4096)).room → at + n ≤ size → take ((at + n) - at) (drop at (seen pages blank kept size)) ≡ replicate n blank
 seen_nowhere pages blank kept at n size one past within =
     let old = seen pages blank kept size in
-    let long = length-seen pages blank kept size in
     let a : (at + n) - at ≡ n = omega arith in
-    let one_long : length (take n (drop at old)) ≡ n = length-take-le n (drop at old) (omega (arith, length-drop at old, long)) in
     ap (λ (m : ℕ). take m (drop at old)) a
-    ∙ ext_get_or blank (take n (drop at old)) (replicate n blank) (one_long ∙ sym (length-replicate n blank))
-    (λ j inside.
-    let j_in : j < n = omega (arith, one_long) in
-    get_or-take n (drop at old) j blank j_in
-    ∙ get_or-drop at old j blank
-    ∙ get_or-seen pages blank kept size (at + j) (omega (arith, within))
+    ∙ run_is old (replicate n blank) at n blank (length-replicate n blank) (omega (arith, length-seen pages blank kept size, within))
+    (λ j under.
+    get_or-seen pages blank kept size (at + j) (omega (arith, within))
     ∙ ap (λ (i : ℕ). get_or kept i blank) (home_in pages at j (omega (arith, one)))
     ∙ get_or_past kept (home pages at + j) blank (let e : length kept ≤ 4096 * (nth_page pages (at / 4096)).room + at % 4096 + j = omega (arith, past) in e)
-    ∙ sym (get_or-replicate n j blank blank j_in))
+    ∙ sym (get_or-replicate n j blank blank under))
 
 -- how long a disk is
 pub size_is : (value : Contents) (pages : List Page) (bytes : List ℕ) (marked : List Bool) (size : ℕ) → record { bytes = seen pages 0 bytes size; unsynced = seen pages false marked size } ≡ value → length value.bytes ≡ size

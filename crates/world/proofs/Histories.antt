@@ -1,5 +1,5 @@
 -- In a run what a host has under way has heard a history, and has a call to make. What an attempt ends committed with is chosen.
-use Rattle.std.specs.Prelude.{nat_lt, nat_le, is_none, is_some, not, if◌then◌else◌}
+use Rattle.std.specs.Prelude.{nat_lt, nat_le, slice_get, is_none, is_some, not, if◌then◌else◌}
 use Rattle.std.proofs.Common.{ℕ, zero, suc, ◌*◌, ◌-◌, ◌<◌, ◌≤◌, ◌≡◌, Bool, true, false, Option, Some, None, List, [], ◌∷◌, ◌++◌, length, take, refl, sym, subst, ap, ◌∙◌, arith}
 use Rattle.std.proofs.lemmas.Bool.{ltb-false, ltb-true, lt-ltb, le-ltb, lt-leb}
 use Rattle.disk.specs.Disk.{Call, Answer}
@@ -45,7 +45,7 @@ use Rattle.host.specs.declared.task.Task.{Task}
 use Rattle.host.specs.declared.task.Task.TheVariants.{Submit, Recover, Look, Beat, Mark}
 use Rattle.host.specs.Host.{Operation, Submitting, Recovering, Attempt, Marking, Looking, Doing, Attempts, Looks, Beats, Marks, Memory, Host, Running, does, says, learns, with_floor, setup_of, begins, full_answer, goes_on, is_submitted, after_learning, takes, tries_again, ended, by_status, with_heard, look_of, looks_on, takes_marked, look_by, looking_with, beat_of, beat_by, marking_of, marking_by, marking_with, starts as starts_on, hears_from, is_idle, next_doing, next_of}
 use Rattle.host.specs.Alone.{HasHeardFew}
-use Rattle.world.specs.Entry.{Filled}
+use Rattle.world.specs.Entry.{Filled, Called}
 use Rattle.world.specs.World.{world, IsRun}
 use Rattle.world.specs.Chosen.{at, Hears, IsChosenAt}
 use Rattle.world.proofs.Enduring.{On, Endures, endures, on_either, step_fits}
@@ -293,6 +293,25 @@ busy_call c log h m some run running busy = go m.doing refl busy
     go (Some doing) does_so is = has_call c log h m doing some run running does_so
 
 -- AT AN ENTRY
+
+-- an attempt hears the answer to its call with the entry
+abbrev pub hears_with : (c : Shape) (log : List Filled) (i h k : ℕ) (call : Call) (answer : Answer) (left : List ℕ) → slice_get log i ≡ Some (Called h k call answer left)
+    → (m : Memory) → (at c log i).host h ≡ Running m → (t : Attempt) → m.doing ≡ Some (Attempts t) → Hears c log i (setup_of c h m t.operation) (t.heard ++ record { disk = k; heard = heard_as answer } ∷ [])
+hears_with c log i h k call answer left entry m running t does =
+    record {
+      host = h;
+      disk = k;
+      call = call;
+      answer = answer;
+      left = left;
+      entry = entry;
+      memory = m;
+      running = running;
+      doing = t;
+      does = does;
+      is_setup = refl;
+      is_heard = refl;
+    }
 
 module _ (c : Shape) (log : List Filled) (i : ℕ) (s : Setup) (heard : List Answered) (run : IsRun c log) (hears : Hears c log i s heard) where
   -- the call was due

@@ -2,8 +2,8 @@
 use Rattle.std.specs.Prelude.{nat_lt}
 use Rattle.std.proofs.Common.{ℕ, ◌≡◌, true, Option, Some, None, List, [], length, refl, sym, subst, ap, ◌∙◌}
 use Rattle.std.proofs.lemmas.Bool.{eqb-true}
-use Rattle.disk.specs.declared.fault.DiskFault.TheVariants.{Reset, Failed, Gone}
-use Rattle.disk.specs.Disk.{DiskState, Call, Attach, Read, Write, Sync, Answer, Booted, Told, Done, Fault}
+use Rattle.disk.specs.declared.fault.DiskFault.TheVariants.{Failed}
+use Rattle.disk.specs.Disk.{DiskState, Call, Attach, Read, Write, Sync, Answer, Fault}
 use Rattle.attempt.specs.Answers.{on, heard_as}
 use Rattle.attempt.specs.Looking.{OnlyReads}
 use Rattle.looks.specs.Status.{Status, Due, Ended, Decided, Unmarked, NoMajority, status}
@@ -58,24 +58,8 @@ reads_only c h k m t call is next = histories.reads (look_of c m t.first) (on t.
 
 leaves : (old : DiskState) (call : Call) (answer : Answer) (left : List ℕ) → OnlyReads call → (called_by old call answer left).bytes ≡ old.bytes
 leaves old (Write boot at from) answer left reads = absurd reads
-leaves old Attach (Fault Failed) left reads = refl
-leaves old Attach (Fault Reset) left reads = refl
-leaves old Attach (Fault Gone) left reads = refl
-leaves old Attach (Booted boot) left reads = refl
-leaves old Attach (Told bytes) left reads = refl
-leaves old Attach Done left reads = refl
-leaves old (Read boot at len) (Fault Failed) left reads = refl
-leaves old (Read boot at len) (Fault Reset) left reads = refl
-leaves old (Read boot at len) (Fault Gone) left reads = refl
-leaves old (Read boot at len) (Booted other) left reads = refl
-leaves old (Read boot at len) (Told bytes) left reads = refl
-leaves old (Read boot at len) Done left reads = refl
-leaves old (Sync boot) (Fault Failed) left reads = refl
-leaves old (Sync boot) (Fault Reset) left reads = refl
-leaves old (Sync boot) (Fault Gone) left reads = refl
-leaves old (Sync boot) (Booted other) left reads = refl
-leaves old (Sync boot) (Told bytes) left reads = refl
-leaves old (Sync boot) Done left reads = refl
+leaves old call (Fault Failed) left reads = refl
+leaves old call answer left reads = refl
 
 module _ (c : Shape) (w : World) (h d : ℕ) (m : Memory) (t : Looking) (running : w.host h ≡ Running m) (is : m.doing ≡ Some (Looks t)) where
   -- a call of its own

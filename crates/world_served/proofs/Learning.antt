@@ -25,7 +25,7 @@ use Rattle.host.specs.declared.task.Task.TheVariants.{Submit}
 use Rattle.world.specs.Entry.{Filled, Begin, Called, is_of, host_step}
 use Rattle.world.specs.World.{World, MayFollow, IsRun}
 use Rattle.world.specs.Chosen.{at, migrated, Hears}
-use Rattle.world.proofs.Histories.{heard_then, committed}
+use Rattle.world.proofs.Histories.{heard_then, committed, hears_with}
 use Rattle.world.proofs.Runs.{each, submits_reads}
 use Rattle.world_safety.specs.Goes.{ProposesWith}
 use Rattle.world_safety.specs.Next.{next_world}
@@ -89,8 +89,7 @@ module _ (c : Shape) (log : List Filled) (run : IsRun c log) (some : 1 ≤ c.dis
 
     -- the attempt's rows rest, so with the answer it is served
     hears_it : Hears c log k s heard
-    hears_it =
-        record { host = host; disk = d; call = call; answer = answer; left = left; entry = entry; memory = m; running = running; doing = t; does = doing; is_setup = refl; is_heard = refl }
+    hears_it = hears_with c log k host d call answer left entry m running t doing
 
     history : IsHistory s heard
     history = heard_then c log k s heard run hears_it
@@ -164,20 +163,8 @@ module _ (c : Shape) (log : List Filled) (run : IsRun c log) (some : 1 ≤ c.dis
             (record {
               setup = setup_of c put.host put.memory put.doing.operation;
               heard = put.doing.heard ++ record { disk = n; heard = heard_as other_answer } ∷ [];
-              hears = record {
-                host = put.host;
-                disk = n;
-                call = other_call;
-                answer = other_answer;
-                left = bytes;
-                entry = found ∙ ap (λ (q : ℕ). Some (Called q n other_call other_answer bytes)) (eqb-true g put.host of);
-                memory = put.memory;
-                running = put.running;
-                doing = put.doing;
-                does = put.does;
-                is_setup = refl;
-                is_heard = refl;
-              };
+              hears = hears_with c log by.place put.host n other_call other_answer bytes (found ∙ ap (λ (q : ℕ). Some (Called q n other_call other_answer bytes)) (eqb-true g put.host of))
+                  put.memory put.running put.doing put.does;
               on_slot = sym put.on_slot;
               proposes = votes;
               in_ballot = refl;

@@ -1,8 +1,8 @@
 -- A look: its calls leave all disks, and what it is told it learns by one move.
 use Rattle.std.specs.Prelude.{nat_lt, map, if◌then◌else◌}
 use Rattle.std.proofs.Common.{ℕ, ◌<◌, ◌≡◌, ◌==◌, inl, Bool, true, false, cond, Option, Some, None, List, [], length, refl, sym, subst, ap, ◌∙◌}
-use Rattle.disk.specs.declared.fault.DiskFault.TheVariants.{Reset, Failed, Gone}
-use Rattle.disk.specs.Disk.{DiskState, Call, Attach, Read, Write, Sync, Answer, Booted, Told, Done, Fault}
+use Rattle.disk.specs.declared.fault.DiskFault.TheVariants.{Failed}
+use Rattle.disk.specs.Disk.{DiskState, Call, Attach, Read, Write, Sync, Answer, Fault}
 use Rattle.disk.specs.Crash.{MayLeave}
 use Rattle.torn_block.specs.Layout.{cluster_version}
 use Rattle.torn_block.specs.declared.layout.TheConstants.{HOSTS, ROW_LENGTH}
@@ -43,18 +43,8 @@ IsCalm (Sync boot) = ⊥
 pub leaves : (old : DiskState) (call : Call) (answer : Answer) (left : List ℕ) → IsCalm call → called_by old call answer left ≡ old
 leaves old (Write boot at from) answer left calm = absurd calm
 leaves old (Sync boot) answer left calm = absurd calm
-leaves old Attach (Fault Failed) left calm = refl
-leaves old Attach (Fault Reset) left calm = refl
-leaves old Attach (Fault Gone) left calm = refl
-leaves old Attach (Booted boot) left calm = refl
-leaves old Attach (Told bytes) left calm = refl
-leaves old Attach Done left calm = refl
-leaves old (Read boot at len) (Fault Failed) left calm = refl
-leaves old (Read boot at len) (Fault Reset) left calm = refl
-leaves old (Read boot at len) (Fault Gone) left calm = refl
-leaves old (Read boot at len) (Booted other) left calm = refl
-leaves old (Read boot at len) (Told bytes) left calm = refl
-leaves old (Read boot at len) Done left calm = refl
+leaves old call (Fault Failed) left calm = refl
+leaves old call answer left calm = refl
 
 call_calm : (s : look.Setup) (a : List Heard) → IsCalm (look.call_on s a)
 call_calm s a = by (nat_lt (length a) 1)

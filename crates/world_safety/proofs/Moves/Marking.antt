@@ -153,7 +153,8 @@ closing_short : (opened : Bool) → length {A = ℕ} (if opened then 0 ∷ [] el
 closing_short true = omega arith
 closing_short false = omega arith
 
-own_long : (s : mark.Setup) (a : List Heard) → s.host < HOSTS → TellsVotes cluster_version a → IsLong cluster_version (mark.own_block s a).says.inp
+-- what a host reads of its own block is as long as a command
+pub own_long : (s : mark.Setup) (a : List Heard) → s.host < HOSTS → TellsVotes cluster_version a → IsLong cluster_version (mark.own_block s a).says.inp
 own_long s a below votes = by (row_in Opening a) refl
   where
     by : (o : Option (List DecodedBlock)) → row_in Opening a ≡ o → IsLong cluster_version (seen_block o s.host).says.inp

@@ -14,6 +14,7 @@ use Rattle.slot_log.specs.Shape.{Shape}
 use Rattle.host.specs.Host.{Attempt, Doing, Attempts, Memory, Host, Stopped, Running, setup_of}
 use Rattle.world.specs.Entry.{Filled, Start, Stop, Begin, Called, Torn, Crashed, Lost, Migrated}
 use Rattle.world.specs.Chosen.{at, IsChosenAt}
+use Rattle.world.proofs.Histories.{hears_with}
 
 -- either so, or not
 abbrev pub Told : Type 0 → Type 0
@@ -100,20 +101,7 @@ module _ (c : Shape) (log : List Filled) (i : ℕ) where
       record {
         setup = setup_of c h m t.operation;
         heard = t.heard ++ record { disk = k; heard = heard_as answer } ∷ [];
-        hears = record {
-          host = h;
-          disk = k;
-          call = call;
-          answer = answer;
-          left = left;
-          entry = is;
-          memory = m;
-          running = running;
-          doing = t;
-          does = does;
-          is_setup = refl;
-          is_heard = refl;
-        };
+        hears = hears_with c log i h k call answer left is m running t does;
         on_slot = refl;
         chooses = chooses.1;
       },

@@ -27,8 +27,8 @@ use Rattle.world.specs.Entry.{Filled, Start, Stop, Begin, Called, Torn, Crashed,
 use Rattle.world.specs.World.{World, ReadsBack, MayBeGiven, MayBegin, IsRun}
 use Rattle.world.proofs.Enduring.{on_either}
 use Rattle.world.proofs.Runs.{each}
-use Rattle.world.specs.Chosen.{at, Hears}
-use Rattle.world.proofs.Histories.{committed}
+use Rattle.world.specs.Chosen.{at}
+use Rattle.world.proofs.Histories.{committed, hears_with}
 use Rattle.agreement.proofs.Slots.{pushed}
 use Rattle.world_safety.specs.Tracks.{IsChosenBefore, AreChosen, IsSubmittedBy, IsBegun, Counts, IsTrueDoing, IsTrue, IsTrueOf}
 use Rattle.world_safety.specs.Marks.{ShowsTrueMarks, TellsTrueMarks}
@@ -150,20 +150,7 @@ module _ (c : Shape) (log : List Filled) where
     commits k call answer left is m t running does value ended =
         let x : Answered = record { disk = k; heard = heard_as answer } in
         let s = setup_of c h m t.operation in
-        let hears : Hears c log i s (t.heard ++ x ∷ []) = record {
-          host = h;
-          disk = k;
-          call = call;
-          answer = answer;
-          left = left;
-          entry = is;
-          memory = m;
-          running = running;
-          doing = t;
-          does = does;
-          is_setup = refl;
-          is_heard = refl;
-        } in
+        let hears = hears_with c log i h k call answer left is m running t does in
         inl (record { place = i; before = omega arith; is = committed c log i s (t.heard ++ x ∷ []) value run hears ended })
 
     -- a look learns what it is told

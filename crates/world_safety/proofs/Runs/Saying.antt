@@ -19,6 +19,7 @@ use Rattle.host.specs.Host.{Operation, Submitting, Recovering, Attempt, Doing, A
 use Rattle.world.specs.Entry.{Filled, Start, Stop, Begin, Called, Torn, Crashed, Lost, Migrated, is_of, started, begins_on, host_step}
 use Rattle.world.specs.World.{MayBegin, IsRun}
 use Rattle.world.specs.Chosen.{at, Hears, SaysAt}
+use Rattle.world.proofs.Histories.{hears_with}
 use Rattle.world.proofs.Runs.{each}
 use Rattle.world_safety.proofs.Moves.Beside.{SaysNoneOfLog, starts_none, hears_none}
 use Rattle.world_safety.proofs.Moves.Due.{IsBusyWith, busy}
@@ -148,21 +149,7 @@ module _ (c : Shape) (log : List Filled) (i h : ℕ) (said : HostAnswer) where
 
   -- its attempt hears the answer there
   abbrev pub hears_at : (call : AtACall c log i h said) → Hears c log i (setup_of c h call.memory call.doing.operation) (heard_at call)
-  hears_at call =
-      record {
-        host = h;
-        disk = call.disk;
-        call = call.call;
-        answer = call.answer;
-        left = call.left;
-        entry = call.entry;
-        memory = call.memory;
-        running = call.running;
-        doing = call.doing;
-        does = call.does;
-        is_setup = refl;
-        is_heard = refl;
-      }
+  hears_at call = hears_with c log i h call.disk call.call call.answer call.left call.entry call.memory call.running call.doing call.does
 
   -- one of the two
   pub record Whence : Type 0 where

@@ -1,20 +1,12 @@
 use Rattle.attempt_safety.proofs.Leaving.{follows_same, by_others, by_settling, by_crashing, by_stopping, by_starting}
 use Rattle.attempt_safety.proofs.law.others_leave_it.Goals as goal
 
-pub returns-clause-same : goal.returns-clause-same
-returns-clause-same c = λ s heard old new same follows. follows_same s old new same heard follows
-
-pub returns-clause-others : goal.returns-clause-others
-returns-clause-others c = by_others
-
-pub returns-clause-settling : goal.returns-clause-settling
-returns-clause-settling c = by_settling
-
-pub returns-clause-crashing : goal.returns-clause-crashing
-returns-clause-crashing c = by_crashing
-
-pub returns-clause-stopping : goal.returns-clause-stopping
-returns-clause-stopping c = by_stopping
-
-pub returns-clause-starting : goal.returns-clause-starting
-returns-clause-starting c = by_starting
+pub returns : goal.returns
+returns c = record {
+  same = λ s heard old new same follows. follows_same s old new same heard follows;
+  others = by_others;
+  settling = by_settling;
+  crashing = by_crashing;
+  stopping = by_stopping;
+  starting = by_starting;
+}

@@ -11,38 +11,30 @@ use Rattle.fault_sweep.proofs.replay.Replay.step.Goals as goal
 kept_there : {a b : Past} {learned : Option (List Command)} (start : Past) → a ≡ b → HasKept start a learned → HasKept start b learned
 kept_there {a} {b} {learned} start same kept = subst (λ (q : Past). HasKept start q learned) same kept
 
+-- the steps that are left are passed
+module _ (c : goal.After-pass) (p : Past) where
+  abbrev here : Past
+  here = later p (replicate c.loop-done.done (Step c.args.host))
+
+  all : later here (replicate (c.args.steps - c.loop-done.done) (Step c.args.host)) ≡ later p (replicate c.args.steps (Step c.args.host))
+  all = later_steps p c.args.host c.loop-done.done (c.args.steps - c.loop-done.done) c.args.steps (omega (arith, c.loop-done-test.true))
+
 pub returns-then-is_idle-clause-happened : goal.returns-then-is_idle-clause-happened
 returns-then-is_idle-clause-happened c =
-    let h = c.args.host in
-    let k = c.loop-done.done in
-    let rest = c.args.steps - k in
-    let all : k + rest ≡ c.args.steps = omega (arith, c.loop-done-test.true) in
-    λ p is.
-    subst (λ (q : Past). IsOf q c.pass.new.self) (later_steps p h k rest c.args.steps all)
-    (c.pass.ensures.happened (later p (replicate k (Step h))) (c.loop-done.invariant.happened p is))
+    λ p is. subst (λ (q : Past). IsOf q c.pass.new.self) (all c p) (c.pass.ensures.happened (here c p) (c.loop-done.invariant.happened p is))
 
 pub returns-then-is_idle-clause-heard : goal.returns-then-is_idle-clause-heard
 returns-then-is_idle-clause-heard c =
-    let h = c.args.host in
-    let k = c.loop-done.done in
-    let rest = c.args.steps - k in
-    let all : k + rest ≡ c.args.steps = omega (arith, c.loop-done-test.true) in
     λ start p is heard.
-    let here : Past = later p (replicate k (Step h)) in
-    subst (λ (q : Past). Heard start q (is_some c.loop-done.learned)) (later_steps p h k rest c.args.steps all)
-    (heard_still start here (later here (replicate rest (Step h))) (is_some c.loop-done.learned)
-    (c.pass.ensures.quiet here (c.loop-done.invariant.happened p is)) (c.loop-done.invariant.heard start p is heard))
+    subst (λ (q : Past). Heard start q (is_some c.loop-done.learned)) (all c p)
+    (heard_still start (here c p) (later (here c p) (replicate (c.args.steps - c.loop-done.done) (Step c.args.host))) (is_some c.loop-done.learned)
+    (c.pass.ensures.quiet (here c p) (c.loop-done.invariant.happened p is)) (c.loop-done.invariant.heard start p is heard))
 
 pub returns-then-is_idle-clause-kept : goal.returns-then-is_idle-clause-kept
 returns-then-is_idle-clause-kept c =
-    let h = c.args.host in
-    let k = c.loop-done.done in
-    let rest = c.args.steps - k in
-    let all : k + rest ≡ c.args.steps = omega (arith, c.loop-done-test.true) in
     λ start p is kept.
-    let here : Past = later p (replicate k (Step h)) in
-    kept_there start (later_steps p h k rest c.args.steps all)
-    (kept_still start here (later here (replicate rest (Step h))) (replicate rest (Step h)) _ refl (c.loop-done.invariant.kept start p is kept))
+    let rest = replicate (c.args.steps - c.loop-done.done) (Step c.args.host) in
+    kept_there start (all c p) (kept_still start (here c p) (later (here c p) rest) rest _ refl (c.loop-done.invariant.kept start p is kept))
 
 -- the steps so far, and those that it makes now
 one : (p : Past) (h k m : ℕ) → later (later p (replicate k (Step h))) (replicate m (Step h)) ≡ later p (replicate (k + m) (Step h))
