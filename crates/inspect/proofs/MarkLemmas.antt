@@ -149,8 +149,6 @@ zero_seen zero a = omega arith
 zero_seen (suc n) zero = omega arith
 zero_seen (suc n) (suc a) = zero_seen n a
 
-]
-
 -- what is seen before a run says nothing of its queue
 pub none_seen : (locks : List LockRecord) (start queue end : ℕ) (edges : List Bool) (seen : List ℕ) → start ≤ queue → queue ≤ end → ((a : ℕ) → slice_index_or seen a 0 ≤ start) → IsSeen locks queue end edges seen
 none_seen locks start queue end edges seen from to before = record {

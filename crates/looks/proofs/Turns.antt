@@ -66,8 +66,6 @@ at_inside first disks (suc n) f l = elim (cases_lt n first) [
   | inr high ↦ (let at = at_high first n high in omega arith)
 ]
 
-]
-
 -- behind the first, the disks below the one that is asked had their turns
 pub lower_before : (first n e : ℕ) → e < disk_at first (suc n) → turn_of first e < suc n
 lower_before first n e l = elim (cases_lt n first) [

@@ -10,8 +10,6 @@ use Rattle.session.specs.declared.claim.Then.TheVariants.{AskAgain, End}
 use Rattle.session.specs.declared.learned.Learned.{Learned}
 use Rattle.session.specs.declared.outcome.Outcome.TheVariants.{Held, NotHeld, Given, InDoubt, Failed}
 
-}
-
 -- a step that leads to something submits nothing
 not_submitting : (step : Step) (then : Then) (command : Command) → then_of step ≡ Some then → step ≡ Submitting command → ⊥
 not_submitting step then command leads submits = let none : None ≡ Some then = sym (ap then_of submits) ∙ leads in absurd (cc)
