@@ -4,6 +4,7 @@ use Rattle.hex.specs.Hex.{encode_lower}
 use Rattle.lock_modes.specs.declared.mode.Mode.{Mode}
 use Rattle.lock_modes.specs.declared.mode.Mode.TheVariants.{Null, ConcurrentRead, ConcurrentWrite, ProtectedRead, ProtectedWrite, Exclusive}
 use Rattle.lock_index.specs.declared.record.LockRecord.{LockRecord}
+use Rattle.lock_command.specs.declared.value.TheConstants.{LOCK_VALUE_LENGTH}
 use Rattle.lock_command.specs.declared.state.LockState.{LockState}
 use Rattle.lock_command.specs.declared.state.LockState.TheVariants.{Granted, Converting, Waiting}
 use Rattle.lock_command.specs.declared.reply.LockValue.{LockValue}
@@ -45,7 +46,7 @@ value_text value = encode_lower value.bytes ++ (if value.valid then [] else code
 
 -- zeros that are valid, which every name has with its first lock
 abbrev pub is_zeros : LockValue → Bool
-is_zeros value = value.valid && bytes_eq value.bytes (replicate 16 0)
+is_zeros value = value.valid && bytes_eq value.bytes (replicate LOCK_VALUE_LENGTH 0)
 
 -- nothing is said of these
 abbrev pub value_words : LockValue → List ℕ

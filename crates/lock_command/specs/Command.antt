@@ -12,6 +12,7 @@ use Rattle.lock_command.specs.declared.state.LockState.TheVariants as state
 use Rattle.lock_command.specs.declared.reply.Answer.{Answer}
 use Rattle.lock_command.specs.declared.reply.Answer.TheVariants as answer
 use Rattle.lock_command.specs.declared.reply.LockValue.{LockValue}
+use Rattle.lock_command.specs.declared.value.TheConstants.{LOCK_VALUE_LENGTH}
 use Rattle.lock_command.specs.Name.{IsName, padded}
 use Rattle.lock_command.specs.Refusals.{refusal_number}
 
@@ -40,7 +41,7 @@ flags_of no_queue value = (if no_queue then 1 else 0) + (if is_some value then 2
 
 -- the bytes of a value, or zeros where none is given
 abbrev pub value_bytes : Option (List ℕ) → List ℕ
-value_bytes None = replicate 16 0
+value_bytes None = replicate LOCK_VALUE_LENGTH 0
 value_bytes (Some bytes) = bytes
 
 -- WHAT IS CARRIED OVER
@@ -83,7 +84,7 @@ told_flags None = 0
 told_flags (Some value) = if value.valid then 2 else 6
 
 abbrev pub told_bytes : Option LockValue → List ℕ
-told_bytes None = replicate 16 0
+told_bytes None = replicate LOCK_VALUE_LENGTH 0
 told_bytes (Some value) = value.bytes
 
 -- what each kind of command puts there
@@ -131,15 +132,15 @@ is_submittable command = not (is_quiet command.action) && not (is_carried comman
 abbrev pub IsLock : ℕ → Type 0
 IsLock lock = (1 ≤ lock) × (lock < 2 ^ 16)
 
--- a given value has 16 bytes
+-- a given value has as many bytes as each lock value
 abbrev pub IsValue : Option (List ℕ) → Type 0
 IsValue None = ⊤
-IsValue (Some bytes) = length bytes ≡ 16
+IsValue (Some bytes) = length bytes ≡ LOCK_VALUE_LENGTH
 
 -- so does a value that is told
 abbrev pub IsTold : Option LockValue → Type 0
 IsTold None = ⊤
-IsTold (Some value) = length value.bytes ≡ 16
+IsTold (Some value) = length value.bytes ≡ LOCK_VALUE_LENGTH
 
 -- the count of an answer has its two bytes
 abbrev pub FitsAnswer : Answer → Type 0

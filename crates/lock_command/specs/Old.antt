@@ -4,6 +4,7 @@ use Rattle.lock_command.specs.declared.command.Command.{Command}
 use Rattle.lock_command.specs.declared.command.Action.{Action}
 use Rattle.lock_command.specs.declared.command.Action.TheVariants as action
 use Rattle.lock_command.specs.declared.old.TheConstants.{OLD_HOSTS}
+use Rattle.lock_command.specs.declared.value.TheConstants.{LOCK_VALUE_LENGTH}
 use Rattle.lock_command.specs.declared.old.OldCommand.{OldCommand}
 use Rattle.lock_command.specs.declared.old.OldAction.{OldAction}
 use Rattle.lock_command.specs.declared.old.OldAction.TheVariants.{Enqueue, Convert, Release, Cancel, Status, Purge}
@@ -23,7 +24,7 @@ as_today c = record { host = c.host; client = c.client; request = c.request; act
 
 -- the bytes are its old spelling: with zeros for a value behind them, they are the spelling of today
 abbrev pub IsOldSpelling : OldCommand → List ℕ → Type 0
-IsOldSpelling c bytes = bytes ++ replicate 16 0 ≡ spelling (as_today c)
+IsOldSpelling c bytes = bytes ++ replicate LOCK_VALUE_LENGTH 0 ≡ spelling (as_today c)
 
 -- the host that is purged is one of the eight
 abbrev pub PurgesOld : OldAction → Type 0

@@ -12,6 +12,9 @@ use Rattle.lock_command.specs.declared.state.LockState.TheVariants as state
 use Rattle.lock_command.specs.declared.reply.Answer.{Answer}
 use Rattle.lock_command.specs.declared.reply.Answer.TheVariants as answer
 use Rattle.lock_command.specs.declared.reply.LockValue.{LockValue}
+use Rattle.lock_command.specs.declared.name.TheConstants.LockName.{LONGEST}
+use Rattle.lock_command.specs.declared.value.TheConstants.{LOCK_VALUE_LENGTH}
+use Rattle.lock_command.specs.declared.spelling.TheConstants.{PURGED_AT, ANSWER_AT, NAME_AT, VALUE_AT}
 use Rattle.lock_command.specs.Name.{is_name}
 use Rattle.lock_command.specs.Command.{spelling}
 use Rattle.lock_command.specs.Refusals.{refusal_of}
@@ -53,21 +56,21 @@ mode_of n =
 abbrev pub name_of : List ℕ → Option (List ℕ)
 name_of bytes = passed (is_name bytes) bytes
 
--- the name, as many bytes from byte 17 on as byte 5 says
+-- the name, as many bytes as byte 5 says
 unfoldable pub name_at : List ℕ → Option (List ℕ)
-name_at bytes = let n = slice_index bytes 5 in if nat_le n 15 then name_of (take n (drop 17 bytes)) else None
+name_at bytes = let n = slice_index bytes 5 in if nat_le n LONGEST then name_of (take n (drop NAME_AT bytes)) else None
 
 -- whether byte 4 asks for no queue
 abbrev pub no_queue_at : List ℕ → Bool
 no_queue_at bytes = let flags = slice_index bytes 4 in flags == 1 || flags == 3
 
--- 16 bytes
+-- as many bytes as a lock value has
 abbrev pub value_of : List ℕ → Option (List ℕ)
-value_of bytes = passed (length bytes == 16) bytes
+value_of bytes = passed (length bytes == LOCK_VALUE_LENGTH) bytes
 
--- the value in bytes 32 to 47, where byte 4 says that one is given
+-- the value in the last bytes, where byte 4 says that one is given
 unfoldable pub value_at : List ℕ → Option (List ℕ)
-value_at bytes = if nat_le 2 (slice_index bytes 4) then value_of (take 16 (drop 32 bytes)) else None
+value_at bytes = if nat_le 2 (slice_index bytes 4) then value_of (take LOCK_VALUE_LENGTH (drop VALUE_AT bytes)) else None
 
 -- what an enqueue asks, and a convert, and any kind
 unfoldable pub enqueue_at : List ℕ → Option Action
@@ -96,20 +99,20 @@ state_of n mode =
     else if n == 7 then Some (state.Converting mode Exclusive)
     else None
 
--- the state that bytes 16 and 3 tell
+-- the state by its number and by byte 3
 unfoldable pub state_at : List ℕ → Option LockState
 state_at bytes = do
   mode ← mode_of (slice_index bytes 3)
-  state_of (slice_index bytes 16) mode
+  state_of (slice_index bytes ANSWER_AT) mode
 
 -- the count in bytes 6 and 7
 unfoldable pub count_at : List ℕ → ℕ
 count_at bytes = big_number 2 (drop 6 bytes)
 
--- the answer that byte 16 tells: numbers below 8 are states
+-- the answer by its number: those below 8 are states
 unfoldable pub answer_at : List ℕ → Option Answer
 answer_at bytes =
-    let n = slice_index bytes 16 in
+    let n = slice_index bytes ANSWER_AT in
     if n == 8 then Some answer.Granted
     else if n == 9 then Some answer.Queued
     else if n == 10 then Some answer.Released
@@ -118,10 +121,10 @@ answer_at bytes =
     else if nat_lt n 8 then (do s ← state_at bytes; Some (answer.State s))
     else (do why ← refusal_of n; Some (answer.Refused why))
 
--- the value in bytes 32 to 47
+-- the value in the last bytes
 unfoldable pub told_of : List ℕ → Bool → Option LockValue
 told_of bytes valid = do
-  given ← value_of (take 16 (drop 32 bytes))
+  given ← value_of (take LOCK_VALUE_LENGTH (drop VALUE_AT bytes))
   Some (record { bytes = given; valid = valid })
 
 -- where byte 4 says that one is told
@@ -153,8 +156,8 @@ action_at bytes =
     else if kind == 3 then (do lock ← lock_at bytes; Some (Release lock (value_at bytes)))
     else if kind == 4 then (do lock ← lock_at bytes; Some (Cancel lock))
     else if kind == 5 then (do lock ← lock_at bytes; Some (Status lock))
-    else if kind == 6 then (do host ← host_of (slice_index bytes 16); Some (Purge host))
-    else if kind == 7 then (do host ← host_of (slice_index bytes 16); Some (QuietPurge host))
+    else if kind == 6 then (do host ← host_of (slice_index bytes PURGED_AT); Some (Purge host))
+    else if kind == 7 then (do host ← host_of (slice_index bytes PURGED_AT); Some (QuietPurge host))
     else if kind == 8 then carried_lock_at bytes
     else if kind == 9 then carried_client_at bytes
     else None

@@ -14,9 +14,11 @@ mod value;
 pub use command::{Action, Command};
 pub use name::LockName;
 pub use number::{ClientNumber, HOSTS, HostNumber, LockNumber, RequestNumber};
-pub use old::{OLD_HOSTS, OldAction, OldCommand, OldValue, decode_old, upgrade};
+pub use old::{
+    OLD_COMMAND_LENGTH, OLD_HOSTS, OldAction, OldCommand, OldValue, decode_old, upgrade,
+};
 pub use reading::decode;
 pub use reply::{Answer, LockValue, Refusal, Reply, is_same_reply};
-pub use spelling::Value;
+pub use spelling::{COMMAND_LENGTH, Value};
 pub use state::LockState;
-pub use value::ValueBytes;
+pub use value::{LOCK_VALUE_LENGTH, ValueBytes};

@@ -1,6 +1,7 @@
 ghost use Rattle.std.specs.Prelude.{◌≡◌, ◌≤◌, length, IsTrue};
 ghost use Rattle.std.specs.List.{list_all};
 ghost use Rattle.std.specs.Option.{SomeIff};
+ghost use Rattle.lock_command.specs.declared.name.TheConstants.LockName.{LONGEST};
 ghost use Rattle.lock_command.specs.Name.{is_name, is_name_byte, IsName};
 
 use std::marker::Model;
@@ -51,7 +52,7 @@ impl LockName {
     pub fn as_bytes(&self) -> &[u8]
         ensures value { result.now ≡ self.now }
         ensures name { IsName self.now }
-        ensures few { length result.now ≤ 15 }
+        ensures few { length result.now ≤ LONGEST }
     {
         &self.bytes[..self.len as usize]
     }
@@ -74,7 +75,7 @@ impl PartialEq for LockName {
 /// Whether the bytes are 1 to 15, each printable and no space.
 fn is_name(bytes: &[u8]) -> bool
     ensures value { result ≡ is_name bytes.now }
-    ensures few { IsTrue result → length bytes.now ≤ 15 }
+    ensures few { IsTrue result → length bytes.now ≤ LONGEST }
 {
     let len = bytes.len();
     1 <= len && len <= LockName::LONGEST && is_printable(bytes)

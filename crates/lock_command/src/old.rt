@@ -1,18 +1,22 @@
 ghost use Rattle.std.specs.Prelude.{◌≡◌, ◌↔◌, ◌<◌, ◌++◌, replicate, IfSome, IsTrue, Some};
+ghost use Rattle.lock_command.specs.declared.value.TheConstants.{LOCK_VALUE_LENGTH};
 ghost use Rattle.lock_command.specs.Old.{same_action, as_today, IsOldSpelling, PurgesOld, IsOld, upgraded_action, upgraded};
 
 use crate::command::{Action, Command};
 use crate::name::LockName;
 use crate::number::{ClientNumber, HostNumber, LockNumber, RequestNumber};
 use crate::reading::decode;
-use crate::spelling::Value;
+use crate::spelling::{COMMAND_LENGTH, VALUE_AT, Value};
 use lock_modes::Mode;
 
 /// The most hosts that a cluster of the first layout has.
 pub const OLD_HOSTS: u8 = 8;
 
+/// How many bytes a command of the first layout has: those of today without the value.
+pub const OLD_COMMAND_LENGTH: usize = VALUE_AT;
+
 /// The bytes of a command of the first layout.
-pub type OldValue = [u8; 32];
+pub type OldValue = [u8; OLD_COMMAND_LENGTH];
 
 /// A command of the first layout, which has no lock values and eight hosts.
 #[derive(Clone, Copy, Debug)]
@@ -102,10 +106,10 @@ fn old_of(command: &Command) -> Option<OldCommand>
 
 /// The bytes, and zeros for a value behind them.
 fn without_value(value: &OldValue) -> Value
-    ensures { result ≡ value.now ++ replicate 16 0 }
+    ensures { result ≡ value.now ++ replicate LOCK_VALUE_LENGTH 0 }
 {
-    let mut today = [0; 48];
-    today[..32].copy_from_slice(value);
+    let mut today = [0; COMMAND_LENGTH];
+    today[..OLD_COMMAND_LENGTH].copy_from_slice(value);
     today
 }
 

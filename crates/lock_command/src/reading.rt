@@ -6,9 +6,9 @@ use crate::command::{Action, Command};
 use crate::name::LockName;
 use crate::number::{ClientNumber, HostNumber, LockNumber, RequestNumber};
 use crate::reply::{Answer, LockValue, Refusal, Reply};
-use crate::spelling::Value;
+use crate::spelling::{ANSWER_AT, NAME_AT, PURGED_AT, VALUE_AT, Value};
 use crate::state::LockState;
-use crate::value::ValueBytes;
+use crate::value::{LOCK_VALUE_LENGTH, ValueBytes};
 use byteorder::{BigEndian, ByteOrder};
 use lock_modes::Mode;
 
@@ -55,7 +55,7 @@ fn name_at(value: &Value) -> Option<LockName>
     if len > LockName::LONGEST {
         return None;
     }
-    LockName::new(&value[17..17 + len])
+    LockName::new(&value[NAME_AT..NAME_AT + len])
 }
 
 fn no_queue_at(value: &Value) -> bool
@@ -71,8 +71,8 @@ fn value_at(value: &Value) -> Option<ValueBytes>
     if value[4] < 2 {
         return None;
     }
-    let mut given = [0; 16];
-    given.copy_from_slice(&value[32..48]);
+    let mut given = [0; LOCK_VALUE_LENGTH];
+    given.copy_from_slice(&value[VALUE_AT..]);
     Some(ValueBytes::new(given))
 }
 
@@ -122,7 +122,7 @@ fn state_of(number: u8, mode: Mode) -> Option<LockState>
 fn state_at(value: &Value) -> Option<LockState>
     ensures { result ≡ state_at value.now }
 {
-    state_of(value[16], mode_of(value[3])?)
+    state_of(value[ANSWER_AT], mode_of(value[3])?)
 }
 
 #[tactic(auto, unfolding(crate::specs::Reading::count_at))]
@@ -136,7 +136,7 @@ fn count_at(value: &Value) -> u16
 fn answer_at(value: &Value) -> Option<Answer>
     ensures { result ≡ answer_at value.now }
 {
-    match value[16] {
+    match value[ANSWER_AT] {
         8 => Some(Answer::Granted),
         9 => Some(Answer::Queued),
         10 => Some(Answer::Released),
@@ -156,8 +156,8 @@ fn answer_at(value: &Value) -> Option<Answer>
 fn told_of(value: &Value, valid: bool) -> Option<LockValue>
     ensures { result ≡ told_of value.now valid }
 {
-    let mut bytes = [0; 16];
-    bytes.copy_from_slice(&value[32..48]);
+    let mut bytes = [0; LOCK_VALUE_LENGTH];
+    bytes.copy_from_slice(&value[VALUE_AT..]);
     Some(LockValue { bytes, valid })
 }
 
@@ -207,8 +207,8 @@ fn action_at(value: &Value) -> Option<Action>
         }),
         4 => Some(Action::Cancel(lock_at(value)?)),
         5 => Some(Action::Status(lock_at(value)?)),
-        6 => Some(Action::Purge(host_of(value[16])?)),
-        7 => Some(Action::QuietPurge(host_of(value[16])?)),
+        6 => Some(Action::Purge(host_of(value[PURGED_AT])?)),
+        7 => Some(Action::QuietPurge(host_of(value[PURGED_AT])?)),
         8 => carried_lock_at(value),
         9 => carried_client_at(value),
         _ => None,

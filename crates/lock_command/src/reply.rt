@@ -2,6 +2,7 @@ ghost use Rattle.std.specs.Prelude.{◌≡◌, ◌↔◌, IsTrue};
 ghost use Rattle.lock_command.specs.Refusals.{refusal_number, refusal_name, refusal_of};
 
 use crate::state::LockState;
+use crate::value::LOCK_VALUE_LENGTH;
 
 /// Why a command changed no lock and no queue.
 #[derive(Clone, Copy, Debug, PartialEq, Eq)]
@@ -96,14 +97,14 @@ pub enum Answer {
 /// The value of a name that has locks. It becomes invalid when a lock of the name that holds PW or EX is purged.
 #[derive(Clone, Copy, Debug, PartialEq, Eq)]
 pub struct LockValue {
-    pub bytes: [u8; 16],
+    pub bytes: [u8; LOCK_VALUE_LENGTH],
     pub valid: bool,
 }
 
 impl LockValue {
     /// The value that a name begins with at its first lock: zeros, valid.
     pub const ZEROS: LockValue = LockValue {
-        bytes: [0; 16],
+        bytes: [0; LOCK_VALUE_LENGTH],
         valid: true,
     };
 }

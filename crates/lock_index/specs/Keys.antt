@@ -1,5 +1,6 @@
 -- What locks are printed by, as one number, which rises as they are printed.
 use Rattle.std.specs.Prelude.{◌≡◌, ◌≤◌, ◌<◌, ℕ, zero, suc, ◌+◌, ◌*◌, List, slice_index}
+use Rattle.lock_command.specs.declared.name.TheConstants.LockName.{LONGEST}
 use Rattle.lock_command.specs.Name.{IsName}
 use Rattle.lock_index.specs.declared.record.LockRecord.{LockRecord}
 use Rattle.lock_index.specs.Printed.{rank_of, number_among}
@@ -12,7 +13,7 @@ spelled (suc n) bytes = spelled n bytes * 128 + slice_index bytes n
 
 -- the number of a name, a rank and a lock number
 abbrev pub key_of : List ℕ → ℕ → ℕ → ℕ
-key_of name rank number = (spelled 15 name * 4 + rank) * 65536 + number
+key_of name rank number = (spelled LONGEST name * 4 + rank) * 65536 + number
 
 -- the number of what a lock is printed by
 abbrev pub lock_key : LockRecord → ℕ

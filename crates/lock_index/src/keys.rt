@@ -1,4 +1,5 @@
 ghost use Rattle.std.specs.Prelude.{◌≡◌, ◌+◌, ◌*◌, ◌/◌, ◌<◌, ◌^◌, IsTrue, slice_index};
+ghost use Rattle.lock_command.specs.declared.name.TheConstants.LockName.{LONGEST};
 ghost use Rattle.lock_command.specs.Name.{IsName};
 ghost use Rattle.lock_index.specs.Keys.{spelled, key_of};
 
@@ -16,6 +17,7 @@ pub struct SpelledName {
 
 impl Model for SpelledName {
     ghost use Rattle.std.specs.Prelude.{List, ℕ, ◌≡◌, ◌<◌, ◌^◌};
+    ghost use Rattle.lock_command.specs.declared.name.TheConstants.LockName.{LONGEST};
     ghost use Rattle.lock_command.specs.Name.{IsName};
     ghost use Rattle.lock_index.specs.Keys.{spelled};
 
@@ -23,7 +25,7 @@ impl Model for SpelledName {
 
     ghost view = { λ s. s.name };
 
-    ghost invariant = { λ s. (s.number ≡ spelled 15 s.name) × (s.number < 2 ^ 107) × IsName s.name };
+    ghost invariant = { λ s. (s.number ≡ spelled LONGEST s.name) × (s.number < 2 ^ 107) × IsName s.name };
 }
 
 impl SpelledName {
@@ -47,7 +49,7 @@ impl SpelledName {
     /// The name of a lock with this sort key, which begins with the name's number.
     pub fn of_key(name: LockName, key: u128) -> Self
         requires named { IsName name }
-        requires key { key / 2 ^ 18 ≡ spelled 15 name }
+        requires key { key / 2 ^ 18 ≡ spelled LONGEST name }
         ensures { result ≡ name }
     {
         SpelledName {
@@ -85,9 +87,9 @@ impl SpelledName {
     }
 }
 
-/// The first 15 bytes as the digits of one number to base 128, padded with zeros at the end.
+/// The bytes as the digits of one number to base 128: as many as the longest name has, with zeros behind them.
 fn spelled(bytes: &[u8]) -> u128
-    ensures spelled { result ≡ spelled 15 bytes.now }
+    ensures spelled { result ≡ spelled LONGEST bytes.now }
     ensures small { result < 2 ^ 107 }
 {
     let mut key: u128 = 0;

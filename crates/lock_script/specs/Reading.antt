@@ -5,6 +5,7 @@ use Rattle.std.specs.List.{list_all}
 use Rattle.std.specs.Str.Parse.{digits_value}
 use Rattle.lock_modes.specs.declared.mode.Mode.{Mode}
 use Rattle.lock_modes.specs.declared.mode.Mode.TheVariants.{Null, ConcurrentRead, ConcurrentWrite, ProtectedRead, ProtectedWrite, Exclusive}
+use Rattle.lock_command.specs.declared.value.TheConstants.{LOCK_VALUE_LENGTH}
 use Rattle.lock_command.specs.declared.number.TheConstants.{HOSTS}
 use Rattle.lock_command.specs.declared.command.Command.{Command}
 use Rattle.lock_command.specs.declared.command.Action.{Action}
@@ -92,11 +93,11 @@ given_of word = do
   bytes ← hex_bytes word
   passed (nat_le 1 (length bytes) && nat_le (length bytes) 64) bytes
 
--- 16 bytes
+-- as many bytes as a lock value has
 unfoldable pub value_of : List ℕ → Option (List ℕ)
 value_of word = do
   bytes ← hex_bytes word
-  passed (length bytes == 16) bytes
+  passed (length bytes == LOCK_VALUE_LENGTH) bytes
 
 -- COMMANDS
 

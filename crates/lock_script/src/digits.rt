@@ -2,7 +2,7 @@ ghost use Rattle.std.specs.Prelude.{◌≡◌, ◌<◌, IfOk, IfSome};
 ghost use Rattle.lock_script.specs.Reading.{digit_of, byte_of, given_of, value_of};
 
 use crate::fault_bytes::FaultBytes;
-use lock_command::ValueBytes;
+use lock_command::{LOCK_VALUE_LENGTH, ValueBytes};
 use std::alloc::{AllocError, Global};
 
 /// The most bytes that a word gives.
@@ -31,15 +31,15 @@ pub fn given_of(alloc: Global, word: &[u8]) -> Result<Option<FaultBytes>, AllocE
     }
 }
 
-/// The value that the word spells, if it has 32 digits.
+/// The value that the word spells, if it has two digits for each of its bytes.
 pub fn value_of(word: &[u8]) -> Option<ValueBytes>
     ensures { result ≡ value_of word.now }
 {
-    if word.len() != 32 {
+    if word.len() != 2 * LOCK_VALUE_LENGTH {
         return None;
     }
-    let mut bytes = [0; 16];
-    for at in 0..16 {
+    let mut bytes = [0; LOCK_VALUE_LENGTH];
+    for at in 0..LOCK_VALUE_LENGTH {
         let byte = byte_of(word[2 * at], word[2 * at + 1])?;
         bytes[at] = byte;
     }

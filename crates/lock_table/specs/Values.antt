@@ -4,6 +4,7 @@ use Rattle.std.specs.List.{list_any}
 use Rattle.lock_modes.specs.declared.mode.Mode.{Mode}
 use Rattle.lock_modes.specs.Mode.{downward}
 use Rattle.lock_command.specs.Name.{same_name}
+use Rattle.lock_command.specs.declared.value.TheConstants.{LOCK_VALUE_LENGTH}
 use Rattle.lock_command.specs.declared.command.Action.{Action}
 use Rattle.lock_command.specs.declared.command.Action.TheVariants.{Enqueue, Convert, Release, Cancel, Status, Purge, QuietPurge, CarryLock, CarryClient}
 use Rattle.lock_index.specs.declared.record.LockRecord.{LockRecord}
@@ -21,7 +22,7 @@ Values = List ℕ → LockValue
 
 -- zeros that are valid: the value of a name without locks, and with its first lock
 abbrev pub zeros : LockValue
-zeros = record { bytes = replicate 16 0; valid = true }
+zeros = record { bytes = replicate LOCK_VALUE_LENGTH 0; valid = true }
 
 -- the bytes stay, but nothing tells that the last writer was done
 abbrev pub invalid : LockValue → LockValue
