@@ -5,7 +5,7 @@ ghost use Rattle.lock_table.specs.Picture.{IsPictureOf};
 ghost use Rattle.session.specs.Orders.{order_of};
 ghost use Rattle.dlm_c.specs.Asking.{BeginsGoalOr, KeepsLeft, KeepsNew, Stops, SubmitsOrder};
 ghost use Rattle.dlm_c.specs.Claims.{HearsAlone, HearsOfSigns, HearsOn, HearsRight, ShowsClaim, told_order};
-ghost use Rattle.dlm_c.specs.Handles.{InClaim, InHandle, InKept};
+ghost use Rattle.dlm_c.specs.Handles.{InHandle, InKept};
 ghost use Rattle.c_host.specs.Numbers.{done, no_memory};
 ghost use Rattle.c_host.specs.declared.open_host.OpenHost.{OpenHost};
 
@@ -98,7 +98,7 @@ pub extern "C" fn dlm_c_begin(
     goal: u32,
     value: &ValueNumbers,
 ) -> i32
-    ensures { InClaim (λ old new. BeginsGoalOr asker.now goal value.now.bytes old new result)
+    ensures { InHandle (λ old new. BeginsGoalOr asker.now goal value.now.bytes old new result)
         handle.old.held.value handle.new.held.value result }
 {
     let Some(mut claim) = handle.take(alloc) else {
@@ -166,7 +166,7 @@ fn stop(claim: &mut Claim, told: bool)
 /// Tells what is to be done next.
 #[unsafe(no_mangle)]
 pub extern "C" fn dlm_c_order(alloc: Global, handle: &mut ClaimHandle, into: &mut DueOrder) -> i32
-    ensures { InClaim (λ old new. (new ≡ old) × (result ≡ done) × (into.new ≡ told_order (order_of old.step old.pace.outrun)))
+    ensures { InHandle (λ old new. (new ≡ old) × (result ≡ done) × (into.new ≡ told_order (order_of old.step old.pace.outrun)))
         handle.old.held.value handle.new.held.value result }
 {
     let Some(claim) = handle.take(alloc) else {
@@ -184,7 +184,7 @@ pub extern "C" fn dlm_c_submit_order(
     handle: &mut ClaimHandle,
     host: &mut Handle,
 ) -> i32
-    ensures submits { InClaim (λ old new. (new ≡ old)
+    ensures submits { InHandle (λ old new. (new ≡ old)
         × InHandle (λ before after. SubmitsOrder old before after result) host.old.held.value host.new.held.value result)
         handle.old.held.value handle.new.held.value result }
     ensures none { handle.old.held.value ≡ None → host.new.held.value ≡ host.old.held.value }
@@ -238,7 +238,7 @@ pub extern "C" fn dlm_c_hear(
     left_over: bool,
 ) -> i32
     ensures heard { (opened : OpenHost) → host.old.held.value ≡ Some opened →
-        InClaim (λ old new. (result ≡ done) × HearsRight event opened new × HearsOfSigns event old new × HearsOn event opened old new)
+        InHandle (λ old new. (result ≡ done) × HearsRight event opened new × HearsOfSigns event old new × HearsOn event opened old new)
         handle.old.held.value handle.new.held.value result }
     ensures same { host.new.held.value ≡ host.old.held.value }
 {
@@ -339,7 +339,7 @@ pub extern "C" fn dlm_c_hear_alone(
     event: u32,
     status: i32,
 ) -> i32
-    ensures { InClaim (λ old new. (result ≡ done) × HearsAlone event status old new) handle.old.held.value handle.new.held.value result }
+    ensures { InHandle (λ old new. (result ≡ done) × HearsAlone event status old new) handle.old.held.value handle.new.held.value result }
 {
     let Some(mut claim) = handle.take(alloc) else {
         return CLOSED;
@@ -378,7 +378,7 @@ pub struct ClaimView {
 /// Shows the claim.
 #[unsafe(no_mangle)]
 pub extern "C" fn dlm_c_show(alloc: Global, handle: &mut ClaimHandle, into: &mut ClaimView) -> i32
-    ensures { InClaim (λ old new. (new ≡ old) × (result ≡ done) × ShowsClaim into.new old) handle.old.held.value handle.new.held.value result }
+    ensures { InHandle (λ old new. (new ≡ old) × (result ≡ done) × ShowsClaim into.new old) handle.old.held.value handle.new.held.value result }
 {
     let Some(claim) = handle.take(alloc) else {
         return CLOSED;

@@ -3,7 +3,7 @@ ghost use Rattle.std.specs.Prelude.{◌≡◌, ◌⊎◌, ◌+◌, ◌-◌, ◌^
 ghost use Rattle.lock_command.specs.declared.command.Command.{Command};
 ghost use Rattle.cleanup.specs.declared.whose.Kind.{Kind};
 ghost use Rattle.dlm_c.specs.Cleanups.{HasPassedAll, IsCleanupOf, IsNoCleanup, IsNoPurging, IsPurged, IsPurgingOf, LacksRequest, PurgesNext, SettlesOrNot, ShowsNext, SubmitsPurgeOrNot, TellsNextLeft, TellsNextPurge, TellsSign, kind_number, passed};
-ghost use Rattle.dlm_c.specs.Handles.{InClaim, InHandle};
+ghost use Rattle.dlm_c.specs.Handles.{InHandle};
 
 use crate::claim_handle::ClaimHandle;
 use crate::due_order::status_of;
@@ -141,7 +141,7 @@ pub extern "C" fn dlm_c_settle_left(
     handle: &mut ClaimHandle,
     numbers: &mut CleanupNumbers,
 ) -> i32
-    ensures settles { InClaim (λ old new. (new ≡ old) × SettlesOrNot old numbers.old numbers.new result) handle.old.held.value handle.new.held.value result }
+    ensures settles { InHandle (λ old new. (new ≡ old) × SettlesOrNot old numbers.old numbers.new result) handle.old.held.value handle.new.held.value result }
     ensures none { handle.old.held.value ≡ None → numbers.new ≡ numbers.old }
 {
     let Some(claim) = handle.take(alloc) else {
