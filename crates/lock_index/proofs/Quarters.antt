@@ -12,10 +12,6 @@ pub record IsCounted {X : Type 0} (p : X → Bool) (xs : List X) (place at : ℕ
   pub reached : place ≤ at
   pub behind : place < at → AllWithin (λ x. p x ≡ false) xs place (length xs)
 
-module _ {X : Type 0} (p : X → Bool) (xs : List X) (from size : ℕ) (narrowed : IsNarrowed p xs from size) where
-  module _ (place at : ℕ) (counted : IsCounted p xs place at) (on : at ≡ from + size) where
-    )
-
 module _ {X : Type 0} (p : X → Bool) (xs : List X) (cut : IsPartitionedBy p xs) where
   -- where one passes, all in front of it do
   pub passes_before : (at : ℕ) (x : X) → x ≡ get_or xs at x → at < length xs → p x ≡ true → (next : ℕ) → next ≤ at + 1 → AllWithin (λ x. p x ≡ true) xs 0 next
