@@ -1,31 +1,14 @@
 -- What a host knows is what its learner knows, once each value that it offers is judged by its spelling.
-use Rattle.std.proofs.Common.{◌≡◌, ◌≤◌, ◌-◌, ◌*◌, ◌&&◌, ℕ, Bool, true, false, zero, suc, List, [], ◌∷◌, ◌++◌, ◌<◌, get_or, length, map, Option, Some, None, refl, sym, ◌∙◌, ap, ap₂, not, subst, arith, length-append, if◌then◌else◌}
-use Rattle.std.specs.Prelude.{bytes_eq, is_none, is_some, nat_lt, nat_le, slice_get, take}
-use Rattle.beats.specs.Notes as beat_notes
-use Rattle.marks.specs.Notes as mark_notes
-use Rattle.marks.specs.declared.end.End as mark_end
-use Rattle.marks.specs.declared.end.End.TheVariants as mark_ends
-use Rattle.marks.specs.Kept as mark_kept
-use Rattle.marks.specs.Status as mark
-use Rattle.looks.specs.declared.notes.Notes as look_notes
-use Rattle.looks.specs.declared.end.End as look_end
-use Rattle.looks.specs.declared.end.End.TheVariants as look_ends
-use Rattle.looks.specs.Kept as look_kept
-use Rattle.looks.specs.Status as look
+use Rattle.std.proofs.Common.{◌≡◌, ◌-◌, ◌*◌, ◌&&◌, ℕ, Bool, true, false, zero, suc, List, [], ◌∷◌, ◌++◌, length, map, Option, Some, None, refl, sym, ◌∙◌, ap, subst, if◌then◌else◌}
+use Rattle.std.specs.Prelude.{bytes_eq, is_none, is_some, nat_lt, nat_le, take}
 use Rattle.std.specs.Option.{option_map}
 use Rattle.std.proofs.lemmas.List.{length-map, map-append, append-nil}
-use Rattle.std.proofs.lemmas.Bool.{and_parts, lt-ltb, le-ltb}
+use Rattle.std.proofs.lemmas.Bool.{and_parts}
 use Rattle.std.proofs.lemmas.Slice.Eq.{bytes_eq-Decides}
 use Rattle.torn_block.specs.Layout.{cluster_version}
 use Rattle.attempt.specs.Answers.{Answered, Answers, Heard, on, heard_as}
 use Rattle.attempt.specs.NextCall.{next_call}
-use Rattle.heartbeat.specs.Suggesting.{Readings}
-use Rattle.beats.specs.Answers as beat_answers
 use Rattle.beats.specs.Calls.{device_answer}
-use Rattle.beats.specs.Kept as beat_kept
-use Rattle.beats.specs.Status as beat
-use Rattle.beats.specs.declared.end.End as code_end
-use Rattle.beats.specs.declared.end.End.TheVariants as code_ends
 use Rattle.phases.specs.Calls.{heard_of}
 use Rattle.phases.specs.declared.heard.Heard as code_heard
 use Rattle.phases.specs.declared.heard.Heard.TheVariants as code_answer
@@ -52,13 +35,13 @@ use Rattle.slot_log.specs.declared.outcome.LogOutcome.TheVariants as outcome
 use Rattle.slot_log.specs.declared.outcome.Refusal.TheVariants as refusal
 use Rattle.host.specs.declared.answer.HostAnswer.{HostAnswer}
 use Rattle.host.specs.declared.answer.HostAnswer.TheVariants.{Ack, Recovered, Looked, Beaten, Marked, Refused}
-use Rattle.host.specs.Alone.{IsAnsweredAlone, HasHeardFew}
+use Rattle.host.specs.Alone.{IsAnsweredAlone}
 use Rattle.host.specs.Host as hosts
 use Rattle.host.specs.Host.{Memory, Attempt, Doing, Attempts, Looks, Beats, Marks, Operation, Submitting, Recovering, input_of, setup_of, says, does, begins, goes_on, full_answer, learns, takes, after_learning, is_submitted, with_floor, by_status, hears, with_heard, reply_after, hears_from, beat_of, beat_by, suggested, next_in, next_doing, reads, looks_on, Marking, marking_of, marking_by, marking_with, starts_marking, spelled, Looking, look_of, look_by, looking_with, takes_marked}
 use Rattle.host.specs.declared.host_core.HostCore.TheInside.{Inside}
 use Rattle.host.specs.declared.beside.Beside.{Beside}
 use Rattle.host.specs.declared.beside.Beside.TheVariants as beside
-use Rattle.host.specs.Kept.{Kept, LeadsTo, operation_of, outcome_in, attempt_of, attempt_in, values_with, values_of, answer_of, option_list, IsOperating, IsDoing, LooksAlone, BeatsAlone, MarksAlone, IsAlone, due_by, due_call, is_nothing, is_looking, is_beating, is_marking, is_idle}
+use Rattle.host.specs.Kept.{Kept, LeadsTo, operation_of, outcome_in, attempt_of, attempt_in, values_with, values_of, answer_of, option_list, IsOperating, IsDoing, is_nothing, is_idle}
 
 -- ANSWERS
 

@@ -1,6 +1,6 @@
 -- What a host has under way beside its learner, or by it, goes on and ends as the host's definition says; and how a task begins.
-use Rattle.std.proofs.Common.{◌≡◌, ◌≤◌, ◌-◌, ◌*◌, ◌&&◌, ℕ, Bool, true, false, zero, suc, List, [], ◌∷◌, ◌++◌, ◌<◌, get_or, length, map, Option, Some, None, refl, sym, ◌∙◌, ap, ap₂, not, subst, arith, length-append, if◌then◌else◌}
-use Rattle.std.specs.Prelude.{bytes_eq, is_none, is_some, nat_lt, nat_le, slice_get, take}
+use Rattle.std.proofs.Common.{◌≡◌, ◌≤◌, ◌*◌, ◌&&◌, ℕ, Bool, true, false, zero, suc, List, [], ◌∷◌, ◌++◌, ◌<◌, get_or, length, map, Option, Some, None, refl, sym, ◌∙◌, ap, subst, arith, length-append, if◌then◌else◌}
+use Rattle.std.specs.Prelude.{is_none, slice_get, take}
 use Rattle.beats.specs.Notes as beat_notes
 use Rattle.marks.specs.Notes as mark_notes
 use Rattle.marks.specs.declared.end.End as mark_end
@@ -13,12 +13,10 @@ use Rattle.looks.specs.declared.end.End.TheVariants as look_ends
 use Rattle.looks.specs.Kept as look_kept
 use Rattle.looks.specs.Status as look
 use Rattle.std.specs.Option.{option_map}
-use Rattle.std.proofs.lemmas.List.{length-map, map-append, append-nil}
-use Rattle.std.proofs.lemmas.Bool.{and_parts, lt-ltb, le-ltb}
-use Rattle.std.proofs.lemmas.Slice.Eq.{bytes_eq-Decides}
+use Rattle.std.proofs.lemmas.List.{length-map}
+use Rattle.std.proofs.lemmas.Bool.{lt-ltb, le-ltb}
 use Rattle.torn_block.specs.Layout.{cluster_version}
-use Rattle.attempt.specs.Answers.{Answered, Answers, Heard, on, heard_as}
-use Rattle.attempt.specs.NextCall.{next_call}
+use Rattle.attempt.specs.Answers.{Answered, Heard, on}
 use Rattle.heartbeat.specs.Suggesting.{Readings}
 use Rattle.beats.specs.Answers as beat_answers
 use Rattle.beats.specs.Calls.{device_answer}
@@ -28,19 +26,11 @@ use Rattle.beats.specs.declared.end.End as code_end
 use Rattle.beats.specs.declared.end.End.TheVariants as code_ends
 use Rattle.phases.specs.Calls.{heard_of}
 use Rattle.phases.specs.declared.heard.Heard as code_heard
-use Rattle.phases.specs.declared.heard.Heard.TheVariants as code_answer
-use Rattle.attempt.specs.Calls.{Opening}
 use Rattle.disk.specs.Disk as device
-use Rattle.attempt.specs.Numbers.{count, found, first_below}
-use Rattle.attempt.specs.Setup.{Setup}
-use Rattle.attempt.specs.Status as attempt
-use Rattle.attempt.specs.Status.{Status, Due, Ended, next_or, status, taken}
-use Rattle.attempt.specs.Visits.{waits, visited, is_left_at, are_enough}
+use Rattle.attempt.specs.Numbers.{count}
 use Rattle.lock_command.specs.declared.command.Command.{Command}
 use Rattle.lock_command.specs.Command.{spelling}
-use Rattle.lock_command.specs.Reading.{decoded, checked, command_at}
-use Rattle.lock_command.specs.declared.reply.Reply.{Reply}
-use Rattle.phases.specs.Notes.{Notes}
+use Rattle.lock_command.specs.Reading.{decoded}
 use Rattle.slot_log.specs.Shape.{Shape}
 use Rattle.slot_log.specs.Alone as log_alone
 use Rattle.slot_log.specs.Kept as learners
@@ -48,17 +38,15 @@ use Rattle.slot_log.specs.Kept.{AreDoing, is_idle_with, LogTask}
 use Rattle.slot_log.specs.Learning as log
 use Rattle.slot_log.specs.Learning.{offered_by, offered_in}
 use Rattle.slot_log.specs.declared.outcome.LogOutcome.{LogOutcome}
-use Rattle.slot_log.specs.declared.outcome.LogOutcome.TheVariants as outcome
 use Rattle.slot_log.specs.declared.outcome.Refusal.TheVariants as refusal
 use Rattle.host.specs.declared.answer.HostAnswer.{HostAnswer}
-use Rattle.host.specs.declared.answer.HostAnswer.TheVariants.{Ack, Recovered, Looked, Beaten, Marked, Refused}
+use Rattle.host.specs.declared.answer.HostAnswer.TheVariants.{Looked, Beaten, Marked, Refused}
 use Rattle.host.specs.Alone.{IsAnsweredAlone, HasHeardFew}
-use Rattle.host.specs.Host as hosts
-use Rattle.host.specs.Host.{Memory, Attempt, Doing, Attempts, Looks, Beats, Marks, Operation, Submitting, Recovering, input_of, setup_of, says, does, begins, goes_on, full_answer, learns, takes, after_learning, is_submitted, with_floor, by_status, hears, with_heard, reply_after, hears_from, hears_look, hears_marking, beat_of, beat_by, suggested, next_in, next_doing, reads, looks_on, Marking, marking_of, marking_by, marking_with, starts_marking, spelled, Looking, look_of, look_by, looking_with, takes_marked}
+use Rattle.host.specs.Host.{Memory, Attempt, Doing, Attempts, Looks, Beats, Marks, says, does, learns, takes, hears, hears_from, hears_look, hears_marking, beat_of, beat_by, suggested, next_in, next_doing, reads, looks_on, Marking, marking_of, marking_by, marking_with, starts_marking, spelled, Looking, look_of, look_by, looking_with, takes_marked}
 use Rattle.host.specs.declared.host_core.HostCore.TheInside.{Inside}
 use Rattle.host.specs.declared.beside.Beside.{Beside}
 use Rattle.host.specs.declared.beside.Beside.TheVariants as beside
-use Rattle.host.specs.Kept.{Kept, LeadsTo, operation_of, outcome_in, attempt_of, attempt_in, values_with, values_of, answer_of, option_list, IsOperating, IsDoing, LooksAlone, BeatsAlone, MarksAlone, IsAlone, due_by, due_call, is_nothing, is_looking, is_beating, is_marking, is_idle}
+use Rattle.host.specs.Kept.{Kept, LeadsTo, attempt_in, values_with, values_of, IsDoing, BeatsAlone, IsAlone, due_by, due_call, is_nothing, is_idle}
 use Rattle.host.proofs.Hosts.{values_of-learns, busy_doing, operating-hears, operating_alone, alone, and_true, heard_same, idles, idle_doing, kept_in, learner_still}
 
 -- WHAT IS BESIDE THE LEARNER GOES ON

@@ -1,5 +1,5 @@
 -- How many answers an attempt, a beat, a marking and a look hear, and how an attempt is answered whose host is left alone.
-use Rattle.std.specs.Prelude.{◌<◌, ◌*◌, ℕ, [], ◌∷◌, ◌++◌, length, Option, Some, None}
+use Rattle.std.specs.Prelude.{◌<◌, ◌*◌, ℕ, [], ◌∷◌, ◌++◌, length, Option, Some}
 use Rattle.attempt.specs.Answers.{Answered}
 use Rattle.slot_log.specs.Alone.{IsAnsweredIn}
 use Rattle.slot_log.specs.Shape.{Shape}
