@@ -1,9 +1,10 @@
 -- Two hosts that work in turn do so at once, so what they acknowledge goes by one log.
-use Rattle.std.specs.Prelude.{slice_get, take, filter, replicate, Result, Ok, Err, IfOk}
+use Rattle.std.specs.Prelude.{slice_get, filter, replicate, Result, Ok, Err, IfOk}
 use Rattle.std.proofs.Common.{ℕ, zero, suc, ◌≤◌, arith, ◌≡◌, ◌≢◌, ◌==◌, Bool, true, false, true≢false, cond, Option, Some, None, List, [], ◌∷◌, ◌++◌, length, refl, sym, subst, ap, ◌∙◌, inl, inr, append-nil}
 use Rattle.std.proofs.lemmas.Bool.{cases_Bool, eqb-true, eq-eqb}
 use Rattle.std.proofs.lemmas.List.{length-replicate}
 use Rattle.std.proofs.lemmas.List.Elements.{filter-append}
+use Rattle.std.proofs.Math.Seq.{take-length}
 use Rattle.disk.specs.Disk.{DiskState}
 use Rattle.disk.specs.Simulated.{SimState, fresh_disk}
 use Rattle.torn_block.specs.Layout.{cluster_version}
@@ -35,10 +36,6 @@ module _ {A : Type 0} (test : A → Bool) where
 
   first_goes : (x : A) (xs : List A) → test x ≡ false → filter test (x ∷ xs) ≡ filter test xs
   first_goes x xs is = ap (λ (b : Bool). cond b (x ∷ filter test xs) (filter test xs)) is
-
-whole : {A : Type 0} (l : List A) → take (length l) l ≡ l
-whole [] = refl
-whole {A} (x ∷ l) = ap (λ (r : List A). x ∷ r) (whole l)
 
 -- a host's turn, entry by entry
 abbrev turn : ℕ → Operation → ℕ → List Made → List Filled
@@ -192,10 +189,10 @@ module _ (c : Shape) (g h : ℕ) (first second : Operation) (tries more : ℕ) (
   }
 
   one_come : HasCome c log (length log) g left.core
-  one_come = subst (HasDone c g left.core) (sym (ap (of_host g) (whole log) ∙ of_one g (eq-eqb g g refl))) one_done
+  one_come = subst (HasDone c g left.core) (sym (ap (of_host g) (take-length log) ∙ of_one g (eq-eqb g g refl))) one_done
 
   two_come : HasCome c log (length log) h new.core
-  two_come = subst (HasDone c h new.core) (sym (ap (of_host h) (whole log) ∙ of_two h (eq-eqb h h refl))) two_done
+  two_come = subst (HasDone c h new.core) (sym (ap (of_host h) (take-length log) ∙ of_two h (eq-eqb h h refl))) two_done
 
   agree : NoTwoAtOneSlot left.core new.core
   agree x y slot reply answer ack acked =

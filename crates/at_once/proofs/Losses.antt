@@ -2,6 +2,7 @@
 use Rattle.std.specs.Prelude.{◌^◌, take, slice_get, IsTrue}
 use Rattle.std.proofs.Common.{ℕ, zero, suc, ◌+◌, ◌<◌, ◌≤◌, ◌≡◌, ◌==◌, Bool, true, false, true≢false, cond, Some, List, [], ◌∷◌, length, refl, sym, subst, ap, ◌∙◌, inl, inr, arith}
 use Rattle.std.proofs.lemmas.Bool.{cases_Bool, eqb-true}
+use Rattle.std.proofs.Math.Seq.{take-length}
 use Rattle.disk.specs.declared.fault.DiskFault.TheVariants.{Reset, Failed, Gone}
 use Rattle.disk.specs.Disk.{DiskState, Call, Attach, Read, Write, Sync, Answer, Booted, Told, Done, Fault, IsUnder, Step, Crashes, FailureLeaves, success_of, done_by, lost}
 use Rattle.disk.specs.Disk as device
@@ -245,10 +246,6 @@ module _ (c : Shape) (h : ℕ) where
 
 -- THE LIST
 
-all_of : {A : Type 0} (xs : List A) → take (length xs) xs ≡ xs
-all_of [] = refl
-all_of {A} (x ∷ xs) = ap (λ (l : List A). x ∷ l) (all_of xs)
-
 as_long : (losses : ℕ → ℕ) (es : List Filled) → length (renumbered_from losses es) ≡ length es
 as_long losses [] = refl
 as_long losses (e ∷ es) = ap (λ (n : ℕ). suc n) (as_long (losses_with losses e) es)
@@ -265,8 +262,8 @@ deeds_later losses (e ∷ es) are = (deed_later losses e are.0, deeds_later (los
 crashes_from : (c : Shape) (begun : List Filled) (images : ℕ → DiskState) (log : List Filled) → IsOverLossesFrom c begun images log → IsAtOnceFrom c begun images (renumbered log)
 crashes_from c begun images log s = record {
   hosts = λ h.
-      let all : take (length log) (renumbered log) ≡ renumbered log = ap (λ (n : ℕ). take n (renumbered log)) (sym (as_long (λ k. 0) log)) ∙ all_of (renumbered log) in
-      let mine : Does c h Stopped (of_host h (take (length log) log)) = subst (λ (l : List Filled). Does c h Stopped (of_host h l)) (sym (all_of log)) (s.hosts h) in
+      let all : take (length log) (renumbered log) ≡ renumbered log = ap (λ (n : ℕ). take n (renumbered log)) (sym (as_long (λ k. 0) log)) ∙ take-length (renumbered log) in
+      let mine : Does c h Stopped (of_host h (take (length log) log)) = subst (λ (l : List Filled). Does c h Stopped (of_host h l)) (sym (take-length log)) (s.hosts h) in
       subst (λ (l : List Filled). Does c h Stopped (of_host h l)) all (renumbers c h (length log) (λ k. 0) Stopped log (λ i k left is. s.dark i k h left is) mine).does;
   deeds = deeds_later (λ k. 0) log s.deeds;
   held = s.held;

@@ -1,8 +1,9 @@
 -- In a run each call that is due reads and writes behind the header, and before the end of the last slot.
-use Rattle.std.specs.Prelude.{take, slice_get, nat_lt, if◌then◌else◌}
+use Rattle.std.specs.Prelude.{slice_get, nat_lt, if◌then◌else◌}
 use Rattle.std.specs.Option.{option_map}
-use Rattle.std.proofs.Common.{ℕ, ◌+◌, ◌<◌, ◌≤◌, ◌≡◌, ◌==◌, Bool, true, false, true≢false, Option, Some, None, List, [], ◌∷◌, length, refl, sym, subst, ap, ◌∙◌, inl, inr, arith}
+use Rattle.std.proofs.Common.{ℕ, ◌+◌, ◌<◌, ◌≤◌, ◌≡◌, ◌==◌, Bool, true, false, true≢false, Option, Some, None, List, [], length, refl, sym, subst, ap, ◌∙◌, inl, inr, arith}
 use Rattle.std.proofs.lemmas.Bool.{cases_Bool, eqb-true, eq-eqb}
+use Rattle.std.proofs.Math.Seq.{take-length}
 use Rattle.disk.specs.declared.fault.DiskFault.TheVariants.{Reset, Failed, Gone}
 use Rattle.disk.specs.Disk.{DiskState, Call, Attach, Read, Write, Sync, Answer, Fault, Step, IsUnder}
 use Rattle.torn_block.specs.Layout.{cluster_version}
@@ -156,10 +157,6 @@ look_lies slots s a fits = by (nat_lt (length a) 1)
 
 -- THE CALL THAT IS DUE
 
-whole : {A : Type 0} (l : List A) → take (length l) l ≡ l
-whole [] = refl
-whole {A} (x ∷ l) = ap (λ (r : List A). x ∷ r) (whole l)
-
 module _ (c : Shape) (log : List Filled) (run : IsRun c log) (h k : ℕ) (call : Call) (next : next_of c h ((world c log).host h) ≡ Some (k, call)) where
   abbrev w : World
   w = world c log
@@ -168,7 +165,7 @@ module _ (c : Shape) (log : List Filled) (run : IsRun c log) (h k : ℕ) (call :
   ms = moves_at c log run (length log)
 
   tied : Tied c w ms
-  tied = subst (λ (l : List Filled). Tied c (world c l) ms) (whole log) (tied_at c log run (length log))
+  tied = subst (λ (l : List Filled). Tied c (world c l) ms) (take-length log) (tied_at c log run (length log))
 
   -- whatever is under way
   by : (doing : Doing) → IsBusyWith c h k call (w.host h) doing → Lies c.slots call

@@ -4,6 +4,7 @@ use Rattle.std.specs.Prelude.{nat_lt}
 use Rattle.std.proofs.lemmas.Bool.{ltb-true, ltb-false}
 use Rattle.std.proofs.lemmas.List.{length-take}
 use Rattle.std.proofs.lemmas.Option.{slice_get-get_or}
+use Rattle.std.proofs.Math.Seq.{take-length}
 use Rattle.torn_block.specs.declared.layout.TheConstants.{HOSTS}
 use Rattle.lock_command.specs.declared.command.Command.{Command}
 use Rattle.lock_command.specs.declared.reply.Reply.{Reply}
@@ -31,10 +32,6 @@ take_next : (l : List Filled) (i : ℕ) (x : Filled) → slice_get l i ≡ Some 
 take_next [] i x is = absurd (cc)
 take_next (y ∷ l) zero x is = let same : y ≡ x = cc in ap (λ z. z ∷ []) same
 take_next (y ∷ l) (suc i) x is = ap (λ z. y ∷ z) (take_next l i x is)
-
-take_whole : (l : List Filled) → take (length l) l ≡ l
-take_whole [] = refl
-take_whole (x ∷ l) = ap (λ z. x ∷ z) (take_whole l)
 
 -- EACH RECEIPT STANDS AT ITS PLACE
 
@@ -124,14 +121,14 @@ module _ (c : Shape) (log : List Filled) (own : Own) (part : own.entries ≡ of_
   -- all receipts of a host stand in the log at their places
   pub has_receipts : HasReceipts c log own
   has_receipts k r is =
-      let same : own_at c log own.number (length log) ≡ own = ap (λ (l : List Filled). own_of own.number (of_host own.number l)) (take_whole log) ∙ ap (own_of own.number) (sym part) in
+      let same : own_at c log own.number (length log) ≡ own = ap (λ (l : List Filled). own_of own.number (of_host own.number l)) (take-length log) ∙ ap (own_of own.number) (sym part) in
       let all : HaveAll c log own.number (receipts_of c own) = subst (λ (o : Own). HaveAll c log own.number (receipts_of c o)) same (all_at c log own.number (length log) (omega arith)) in
       each c log own.number (receipts_of c own) k r all is
 
   -- and go by its commands
   pub goes_by : (commands : List Command) → IsSafe c log commands → GoesBy c commands own
   goes_by commands safe =
-      let there : (at c log (length log)).host own.number ≡ host_in c own = ap (λ (l : List Filled). (world c l).host own.number) (take_whole log) ∙ host_is c log own part in
+      let there : (at c log (length log)).host own.number ≡ host_in c own = ap (λ (l : List Filled). (world c l).host own.number) (take-length log) ∙ host_is c log own part in
       record {
         prefix = subst (λ (s : Host). IsPrefix (learned_of s) commands) there (safe.prefix (length log) own.number);
         placed = λ k r is. safe.acknowledged r.place own.number r.slot r.command r.reply (has_receipts k r is).acknowledged;

@@ -9,15 +9,6 @@ pub length-spread : (given : List ℕ) (i n : ℕ) → length (spread given i n)
 length-spread given i zero = refl
 length-spread given i (suc n) = omega (arith, length-spread given (i + 1) n)
 
-pub spread_more : (given : List ℕ) (i n : ℕ) → spread given i (n + 1) ≡ spread given i n ++ nth_given given (i + n) ∷ []
-spread_more given i zero = let e : i ≡ i + 0 = omega arith in ap (λ (k : ℕ). nth_given given k ∷ []) e
-spread_more given i (suc n) =
-    let shift : suc n + 1 ≡ suc (n + 1) = omega arith in
-    let e : (i + 1) + n ≡ i + suc n = omega arith in
-    ap (spread given i) shift
-    ∙ ap (λ (l : List ℕ). nth_given given i ∷ l) (spread_more given (i + 1) n)
-    ∙ ap (λ (k : ℕ). nth_given given i ∷ (spread given (i + 1) n ++ nth_given given k ∷ [])) e
-
 pub put_more : (old xs : List ℕ) (at y : ℕ) → at + length xs < length old → set (put_at old at xs) (at + length xs) y ≡ put_at old at (xs ++ y ∷ [])
 put_more old xs at y within =
     let p = take at old ++ xs in

@@ -3,6 +3,7 @@ use Rattle.std.specs.Prelude.{◌*◌, ◌||◌, replicate}
 use Rattle.std.specs.List.{list_any}
 use Rattle.std.proofs.Common.{ℕ, ◌+◌, ◌-◌, ◌≡◌, Bool, true, false, Option, Some, List, [], ◌∷◌, ◌++◌, length, refl, sym, ap, ◌∙◌, subst, append-nil, append_assoc}
 use Rattle.std.proofs.lemmas.List.{append_cancel_left}
+use Rattle.std.proofs.lemmas.List.Elements.{All-nil}
 use Rattle.std.proofs.lemmas.List.Folds.{list_any-append}
 use Rattle.torn_block.specs.declared.layout.TheConstants.{HOSTS}
 use Rattle.slot_log.specs.Shape.{Shape}
@@ -10,14 +11,33 @@ use Rattle.host.specs.declared.answer.HostAnswer.{HostAnswer}
 use Rattle.host.specs.declared.answer.HostAnswer.TheVariants.{Ack, Recovered, Looked, Beaten, Marked, Refused}
 use Rattle.host.specs.declared.task.Task.TheVariants.{Recover}
 use Rattle.world.specs.Happens.{Event, Start, Stop, Begin, Step, Line, answers_from}
-use Rattle.world.specs.Opening.{run_of}
+use Rattle.world.specs.Opening.{Opening, CanBegin, run_of}
+use Rattle.simulator.specs.declared.answer.Answer.{Answer}
 use Rattle.simulator.specs.declared.simulated_cluster.Said.{Said}
 use Rattle.simulator.specs.Events.{lines_of}
+use Rattle.simulator.specs.Kept.{Kept, LeadsTo}
 use Rattle.simulator.specs.Past.{Past, answers_of}
 use Rattle.simulator.proofs.Several.{steps_more}
-use Rattle.fault_sweep.specs.Replayed.{later, Heard, Played, IsOf, GoesOn}
+use Rattle.fault_sweep.specs.Replayed.{later, Heard, IsListed, Lists, Played, IsOf, IsPlayed, GoesOn}
 use Rattle.fault_sweep.specs.Sweeping.{is_recovery, recovery, recovers, recovered_behind, one_if, stops}
 use Rattle.fault_sweep.proofs.Following.{answered_since}
+
+-- AT FIRST
+
+-- nothing has happened yet
+pub begins_so : (opening : Opening) (cluster : Kept) (report : List Answer) → CanBegin opening → cluster.shape ≡ opening.shape → LeadsTo (run_of opening []) cluster → report ≡ [] → IsPlayed (record { cluster = cluster; place = 0; report = report })
+begins_so opening cluster report can own leads none =
+    let p : Past = record { opening = opening; events = [] } in
+    record {
+      past = p;
+      is = record {
+        can = can;
+        own = own;
+        leads = leads;
+        many = refl;
+        lists = subst (λ (l : List Answer). Lists p l) (sym none) (record { lines = refl; pictures = All-nil (IsListed p) });
+      };
+    }
 
 -- ONE AFTER THE OTHER
 

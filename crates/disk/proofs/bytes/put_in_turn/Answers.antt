@@ -3,7 +3,7 @@ use Rattle.std.proofs.Math.Nat.{mod-add-mod}
 use Rattle.std.proofs.lemmas.Nat.{mod_below}
 use Rattle.disk.specs.Disk.{put_at}
 use Rattle.disk.specs.Filling.{spread, nth_given}
-use Rattle.disk.proofs.FillingLemmas.{length-spread, spread_more, put_more}
+use Rattle.disk.proofs.FillingLemmas.{length-spread, spread_split, put_more}
 use Rattle.disk.proofs.bytes.put_in_turn.Goals as goal
 
 pub bounds-given-turn : goal.bounds-given-turn
@@ -36,5 +36,5 @@ loop-i-preserved c =
           ∙ ap (λ (l : List ℕ). set l (at + i) (nth_given given (first + i))) c.loop-i.invariant.so_far
           ∙ ap (λ (k : ℕ). set (put_at old at xs) (at + k) (nth_given given (first + i))) n
           ∙ put_more old xs at (nth_given given (first + i)) (omega (arith, n))
-          ∙ ap (put_at old at) (sym (spread_more given first i));
+          ∙ ap (put_at old at) (sym (spread_split given first i 1));
     }
