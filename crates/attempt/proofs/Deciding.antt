@@ -1,6 +1,6 @@
 -- What is decided is the input of a marked block in a row of the opening.
 use Rattle.std.specs.Prelude.{if◌then◌else◌}
-use Rattle.std.proofs.Common.{ℕ, zero, suc, ◌<◌, ◌≤◌, ◌≡◌, ◌⊎◌, inl, inr, Bool, true, false, Option, Some, None, List, refl, ap, ◌∙◌, arith}
+use Rattle.std.proofs.Common.{ℕ, zero, suc, ◌<◌, ◌≤◌, ◌≡◌, ◌⊎◌, inl, inr, Bool, true, false, Option, Some, None, List, refl, arith}
 use Rattle.torn_block.specs.Layout.{hosts_in}
 use Rattle.paxos_block.specs.Saying.{Said}
 use Rattle.paxos_block.specs.Row.{DecodedBlock}

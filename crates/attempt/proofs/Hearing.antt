@@ -1,7 +1,7 @@
 -- Histories of any machine by their last answer: of an attempt, a beat or a marking.
 use Rattle.std.proofs.Common.{ℕ, ◌≡◌, Option, Some, None, List, [], ◌∷◌, ◌++◌, sym, subst, append-nil, append_assoc}
 use Rattle.disk.specs.Disk as device
-use Rattle.attempt.specs.Heard.{Heard, Answered, Answers, heard_by, on, Fits, IsAnswerTo, GoesOnWith, IsHistoryBy}
+use Rattle.attempt.specs.Heard.{Answered, Answers, heard_by, on, Fits, IsAnswerTo, GoesOnWith, IsHistoryBy}
 use Rattle.attempt.specs.NextCall.{with_disk}
 
 -- BY THE LAST ANSWER

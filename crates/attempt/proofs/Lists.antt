@@ -6,7 +6,7 @@ use Rattle.std.proofs.lemmas.Bool.{and_right, eqb-true, eqb-false, cases_lt}
 use Rattle.paxos_block.specs.Row.{DecodedBlock}
 use Rattle.attempt.specs.Calls.{Phase, Opening, One, Two, goal}
 use Rattle.attempt.specs.Heard as hearing
-use Rattle.attempt.specs.Answers.{Heard, Booted, Done, Told, Fault, is_bad, all_good, told, row_in, later_row, last_row, boot_of}
+use Rattle.attempt.specs.Answers.{Heard, Booted, is_bad, all_good, told, row_in, later_row, last_row, boot_of}
 
 -- what holds in both cases of a comparison holds of it
 pub by_eq : (P : Bool → Type 0) (i k : ℕ) → (i ≡ k → P true) → (i ≢ k → P false) → P (i == k)

@@ -1,6 +1,6 @@
 -- An attempt with the last ballot as its floor has none to take, and so ends with its opening.
 use Rattle.std.specs.Prelude.{slice_get, option_map, if◌then◌else◌}
-use Rattle.std.proofs.Common.{ℕ, zero, suc, ◌*◌, ◌<◌, ◌≤◌, ◌≡◌, Bool, true, false, Option, Some, None, List, length, max, refl, sym, subst, ap, ◌∙◌, arith}
+use Rattle.std.proofs.Common.{ℕ, zero, suc, ◌*◌, ◌<◌, ◌≤◌, ◌≡◌, Bool, true, false, Option, Some, None, List, length, refl, sym, subst, ap, ◌∙◌, arith}
 use Rattle.std.proofs.lemmas.Bool.{lt-ltb}
 use Rattle.disk.specs.Disk as device
 use Rattle.paxos_block.specs.declared.ballot.TheConstants.{LAST_BALLOT}
@@ -10,13 +10,13 @@ use Rattle.attempt.specs.Answers.{Answered, Answers, on}
 use Rattle.attempt.specs.Setup.{Setup}
 use Rattle.attempt.specs.History.{IsHistory}
 use Rattle.attempt.specs.Looking.{OnlyReads, EndsTheOpening}
-use Rattle.attempt.specs.NextCall.{call_by, call_on, with_disk, next_in, next_call}
+use Rattle.attempt.specs.NextCall.{call_by, with_disk, next_in, next_call}
 use Rattle.attempt.specs.Proposal.{ballot, highest, decided}
 use Rattle.attempt.specs.Standing.{IsIn, HasBallot}
-use Rattle.attempt.specs.Status.{Status, Due, Ended, End, Committed, Decided, Empty, Outrun, NoMajority, BallotsSpent, next_or, promising, balloting, unless_decided, status, taken, taken_by, if_open, is_opened}
+use Rattle.attempt.specs.Status.{Status, Due, Ended, End, Decided, NoMajority, BallotsSpent, next_or, promising, balloting, unless_decided, status, taken, taken_by, if_open, is_opened}
 use Rattle.attempt.specs.Visits.{waits, visited, is_left, are_enough}
 use Rattle.attempt.proofs.Firsts.{IsFirst}
-use Rattle.attempt.proofs.Histories.{IsReached, history_reached, visit, all_counted}
+use Rattle.attempt.proofs.Histories.{history_reached, visit, all_counted}
 use Rattle.attempt.proofs.Statuses.{due_is}
 use Rattle.attempt.proofs.Totals.{total_bound}
 use Rattle.attempt.proofs.Visitors.{waiting_is}

@@ -1,17 +1,17 @@
 -- What an answer to the call that is due tells.
 use Rattle.std.specs.Prelude.{slice_get, option_map}
-use Rattle.std.proofs.Common.{true≢false, ℕ, ◌≡◌, true, false, Option, Some, None, List, [], ◌∷◌, ◌++◌, length, refl, sym, subst, ap, ◌∙◌, append-nil, append_assoc}
+use Rattle.std.proofs.Common.{true≢false, ℕ, ◌≡◌, true, false, Option, Some, None, List, length, refl, sym, subst, ap, ◌∙◌}
 use Rattle.disk.specs.Disk as device
 use Rattle.torn_block.specs.declared.write_steps.WriteCall.{WriteCall}
 use Rattle.torn_block.specs.declared.write_steps.WriteCall.TheVariants.{CloseGate, SyncClosed, PutBody, SyncBody, OpenGate, SyncOpened}
 use Rattle.torn_block.specs.Stage.{Write128, call_of}
 use Rattle.paxos_block.specs.Row.{DecodedBlock}
 use Rattle.attempt.specs.Calls.{Phase, Kind, seventeen}
-use Rattle.attempt.specs.Answers.{Heard, Booted, Done, Told, Fault, Answered, Answers, on, is_bad, told}
+use Rattle.attempt.specs.Answers.{Heard, Booted, Done, Told, Fault, Answered, Answers, is_bad, told}
 use Rattle.attempt.specs.Setup.{Setup}
 use Rattle.attempt.specs.NextCall.{call_by, with_disk, next_in, next_call}
 use Rattle.attempt.specs.Status.{Status, Due, Ended, status}
-use Rattle.attempt.specs.History.{Fits, IsAnswerTo, IsHistoryFrom, IsHistory}
+use Rattle.attempt.specs.History.{Fits, IsAnswerTo}
 
 -- AN ANSWER
 

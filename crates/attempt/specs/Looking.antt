@@ -1,7 +1,6 @@
 -- What an attempt does that has no ballot to take.
-use Rattle.std.specs.Prelude.{ℕ}
 use Rattle.disk.specs.Disk as device
-use Rattle.attempt.specs.Status.{End, Committed, Decided, Empty, Outrun, NoMajority, BallotsSpent}
+use Rattle.attempt.specs.Status.{End, Decided, NoMajority, BallotsSpent}
 
 -- the call changes no byte of its disk
 abbrev pub OnlyReads : device.Call → Type 0

@@ -1,6 +1,5 @@
 -- Which pages have room, after a page got some and after its range was widened.
 use Rattle.std.proofs.Common.{◌≡◌, ℕ, ◌+◌, ◌-◌, ◌*◌, ◌/◌, ◌%◌, ◌<◌, ◌≤◌, ◌^◌, Bool, true, false, cond, List, [], length, get_or, set, replicate, refl, sym, ◌∙◌, ap, inl, inr, arith, length-set}
-use Rattle.std.specs.Prelude.{nat_lt}
 use Rattle.std.specs.List.{count_by}
 use Rattle.std.proofs.lemmas.Bool.{cases_lt, lt-ltb}
 use Rattle.std.proofs.lemmas.List.{get_or_past}

@@ -1,5 +1,5 @@
 -- Marks of pairs, as one is set.
-use Rattle.std.proofs.Common.{◌≡◌, ◌≢◌, ◌<◌, ◌≤◌, ◌==◌, ◌&&◌, ◌||◌, nat_lt, ◌+◌, ◌-◌, ◌*◌, ℕ, Bool, true, false, not, List, length, slice_index_or, slice_set, slice_get, Some, refl, sym, ap, ◌∙◌, subst, arith, rules, nat_eq, inl, inr, ◌⊎◌, [], ◌∷◌, ◌++◌, zero, suc, replicate, true≢false}
+use Rattle.std.proofs.Common.{◌≡◌, ◌≢◌, ◌<◌, ◌≤◌, ◌==◌, ◌&&◌, ◌||◌, nat_lt, ◌+◌, ◌*◌, ℕ, Bool, true, false, not, List, length, slice_index_or, slice_set, slice_get, Some, refl, sym, ap, ◌∙◌, subst, arith, rules, nat_eq, inl, inr, ◌⊎◌, [], ◌∷◌, ◌++◌, zero, suc, replicate, true≢false}
 use Rattle.std.proofs.lemmas.List.{get_or-set_same, get_or-set_other, get_or_append_left, length-append}
 use Rattle.std.proofs.Math.Seq.{get_or-append_seam}
 use Rattle.std.proofs.lemmas.Option.{get_or_from_slice_get, slice_get_read}

@@ -17,8 +17,7 @@ use Rattle.paxos_block.specs.Saying.{zeros, number_at}
 use Rattle.paxos_block.proofs.SayingLemmas.{zero_tells, zero_since, length-number}
 use Rattle.paxos_block.specs.Places.{image_length}
 use Rattle.paxos_block.specs.Headers.{IsHeader, short_bytes, short_at, header_end, header_saying, IsRight, header_in, is_header, is_right}
-use Rattle.torn_block.specs.Layout.{Version, hosts_in, copy_length, block_length, body_length, row_length, value_length, padding, number_of, area_place}
-use Rattle.torn_block.proofs.LayoutLaws.{long_copy, long_value, some_hosts, few_hosts, blocks_follow, row_holds, rows_follow}
+use Rattle.torn_block.specs.Layout.{Version, number_of}
 
 pub is_header_tells : (header : Header) → is_header header ≡ true → IsHeader header
 is_header_tells header t =

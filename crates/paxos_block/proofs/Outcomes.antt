@@ -6,8 +6,7 @@ use Rattle.disk.proofs.CrashLemmas.{may_leave_now, may_leave_synced}
 use Rattle.disk.proofs.StepLemmas.{step_keeps}
 use Rattle.torn_block.specs.Place.{block_in}
 use Rattle.torn_block.specs.Register.{IsAtRest}
-use Rattle.torn_block.specs.Layout.{Version, hosts_in, copy_length, block_length, body_length, row_length, value_length, padding, number_of, area_place}
-use Rattle.torn_block.proofs.LayoutLaws.{long_copy, long_value, some_hosts, few_hosts, blocks_follow, row_holds, rows_follow}
+use Rattle.torn_block.specs.Layout.{Version}
 
 -- whatever a crash may make of the block on the new disk, it may on the old one
 abbrev pub Outcomes : (v : Version) → DiskState → ℕ → DiskState → Type 0

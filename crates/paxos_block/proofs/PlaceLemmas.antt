@@ -18,13 +18,13 @@ use Rattle.torn_block.proofs.RegisterLaws.{ranges, stands_elsewhere}
 use Rattle.std.specs.Prelude.{slice_index_or}
 use Rattle.std.specs.List.{HoldsAt}
 use Rattle.paxos_block.specs.declared.row.Row.{Row}
-use Rattle.paxos_block.specs.Row.{IsRow, says_of, DecodedBlock, seen_in, seen_at, decoded_row}
+use Rattle.paxos_block.specs.Row.{IsRow, DecodedBlock, seen_in, seen_at, decoded_row}
 use Rattle.paxos_block.proofs.Outcomes.{Outcomes}
 use Rattle.paxos_block.proofs.RowLemmas.{said_sees}
 use Rattle.torn_block.specs.Damage.{block_of}
 use Rattle.paxos_block.specs.Places.{CellReads, SeenReads, Spot, BeatOf, VoteOf, place_of, row_place, image_length, IsSpot, IsImage, IsWithin, Holds, row_of, area_of}
-use Rattle.torn_block.specs.Layout.{Version, hosts_in, copy_length, block_length, body_length, row_length, value_length, padding, number_of, area_place}
-use Rattle.torn_block.proofs.LayoutLaws.{long_copy, long_value, some_hosts, few_hosts, blocks_follow, row_holds, rows_follow}
+use Rattle.torn_block.specs.Layout.{Version, hosts_in, block_length, row_length, area_place}
+use Rattle.torn_block.proofs.LayoutLaws.{blocks_follow, row_holds, rows_follow}
 
 abbrev Apart : Version → Spot → Spot → Type 0
 Apart v a b = (place_of v a + block_length v ≤ place_of v b) ⊎ (place_of v b + block_length v ≤ place_of v a)

@@ -8,13 +8,12 @@ use Rattle.std.proofs.lemmas.List.{get_or_past}
 use Rattle.torn_block.specs.declared.layout.TheConstants.{LAST_SEQUENCE, HOSTS_ROOM}
 use Rattle.torn_block.specs.Block.{next_number}
 use Rattle.paxos_block.specs.declared.ballot.TheConstants.{LAST_BALLOT}
-use Rattle.paxos_block.specs.Saying.{Said, said_as, IsVoteOf, MaySay}
+use Rattle.paxos_block.specs.Saying.{Said, IsVoteOf, MaySay}
 use Rattle.paxos_block.specs.Ballot.{owner_of, IsBallotOf}
 use Rattle.paxos_block.specs.Row.{IsSaid, DecodedBlock, number_or_zero, blank, blank_seen}
 use Rattle.paxos_block.specs.Votes.{says_in, ballot_above, greatest, later_of, latest_below, marked, marked_below}
 use Rattle.std.specs.Option.{option_map, option_or}
-use Rattle.torn_block.specs.Layout.{Version, Version1, Version2, hosts_in, copy_length, block_length, body_length, row_length, value_length, padding, number_of, area_place}
-use Rattle.torn_block.proofs.LayoutLaws.{long_copy, long_value, some_hosts, few_hosts, blocks_follow, row_holds, rows_follow}
+use Rattle.torn_block.specs.Layout.{Version, Version1, Version2, hosts_in}
 
 -- THE LEAST BALLOT ABOVE A NUMBER
 

@@ -17,11 +17,11 @@ use Rattle.torn_block.proofs.PlaceLaws.{offset_fits, length-copy_in, length-tail
 use Rattle.torn_block.specs.Stage.{Write128, MayBe, IsWritten, Copies, IsDue, IsDone, IsPlaced, Stands, gate_of, closing, new_tail, call_of, next_call}
 use Rattle.torn_block.proofs.StageLaws.{done_leads_on}
 use Rattle.torn_block.specs.declared.block.TheConstants.{OPEN_GATE}
-use Rattle.paxos_block.specs.Saying.{Said, said_as}
+use Rattle.paxos_block.specs.Saying.{Said}
 use Rattle.paxos_block.specs.Row.{copy_saying, IsSound}
 use Rattle.paxos_block.specs.Places.{IsSoundAt, IsWriteOf}
-use Rattle.torn_block.specs.Layout.{Version, hosts_in, copy_length, block_length, body_length, row_length, value_length, padding, number_of, area_place}
-use Rattle.torn_block.proofs.LayoutLaws.{long_copy, long_value, some_hosts, few_hosts, blocks_follow, row_holds, rows_follow}
+use Rattle.torn_block.specs.Layout.{Version, copy_length, block_length, body_length}
+use Rattle.torn_block.proofs.LayoutLaws.{long_copy}
 
 -- ---- the copy that a write keeps is the current one, where it is open
 

@@ -1,8 +1,8 @@
 -- What bears an outcome out.
-use Rattle.std.proofs.Common.{◌≡◌, ◌∙◌, ℕ, None, Some, ap, inl, inr, subst, sym}
+use Rattle.std.proofs.Common.{◌≡◌, ◌∙◌, ℕ, None, Some, ap, inr, subst, sym}
 use Rattle.lock_command.specs.declared.command.Command.{Command}
 use Rattle.session.specs.declared.claim.Step.TheVariants.{Submitting}
-use Rattle.session.specs.Outcomes.{GivesBack, IsBorneOut, IsUnheard, IsWithoutOrGiven, then_of}
+use Rattle.session.specs.Outcomes.{GivesBack, IsBorneOut, IsWithoutOrGiven, then_of}
 use Rattle.session.specs.declared.claim.Claim.{Claim}
 use Rattle.session.specs.declared.claim.Step.{Step}
 use Rattle.session.specs.declared.claim.Then.{Then}

@@ -14,7 +14,7 @@ use Rattle.torn_block.specs.Block.{is_open, sequence_of, choice, value_at, value
 use Rattle.torn_block.specs.Place.{block_in, copy_in, offset_of}
 use Rattle.torn_block.proofs.PlaceLaws.{block_elsewhere, get_or-copy_in}
 use Rattle.torn_block.specs.Register.{Value, Register, Reads, at_rest, Settles, StandsFor, IsAtRest, LiesOn, IsOutside, LeavesBlock}
-use Rattle.torn_block.specs.Layout.{Version, copy_length}
+use Rattle.torn_block.specs.Layout.{Version}
 use Rattle.torn_block.proofs.LayoutLaws.{long_copy}
 
 settles_kept : (confirmed : Value) (writing : Option Value) (value : Value) → value ≡ confirmed → Settles (record { confirmed = confirmed; writing = writing }) (at_rest value)

@@ -1,5 +1,5 @@
 -- Of the headline. The two layouts of an image, and their lengths.
-use Rattle.std.specs.Prelude.{◌*◌, ◌-◌, ◌+◌, ℕ}
+use Rattle.std.specs.Prelude.{◌*◌, ◌-◌, ℕ}
 use Rattle.torn_block.specs.declared.layout.TheConstants.{HEADER_LENGTH}
 
 -- the number of a layout, in each header and each copy

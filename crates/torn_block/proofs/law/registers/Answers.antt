@@ -1,7 +1,6 @@
-use Rattle.std.proofs.Common.{sym, subst}
 use Rattle.torn_block.specs.Place.{block_in}
 use Rattle.torn_block.specs.Block.{value_of}
-use Rattle.torn_block.specs.Register.{Value, Reads, at_rest}
+use Rattle.torn_block.specs.Register.{at_rest}
 use Rattle.torn_block.proofs.RegisterLaws.{settles, stands_elsewhere, rests_elsewhere, rests_crashed, stands_at_rest, reads_crashed, after_sync, known_synced, fresh_rests}
 use Rattle.torn_block.proofs.StageLaws.{read_settles}
 use Rattle.torn_block.proofs.law.registers.Goals as goal

@@ -1,8 +1,7 @@
-use Rattle.std.proofs.Common.{rules, ◌≡◌, ◌∙◌, ◌+◌, ◌<◌, ℕ, List, sym, ap, arith, max, get_or}
+use Rattle.std.proofs.Common.{◌≡◌, ◌∙◌, ◌<◌, ℕ, sym, ap, arith, max, get_or}
 use Rattle.torn_block.specs.declared.layout.TheConstants.{HOSTS_ROOM}
-use Rattle.paxos_block.specs.Saying.{Said, said_as}
-use Rattle.paxos_block.specs.Row.{DecodedBlock, seen_at}
-use Rattle.paxos_block.specs.Votes.{says_in, greatest, latest_below, later_of}
+use Rattle.paxos_block.specs.Saying.{Said}
+use Rattle.paxos_block.specs.Votes.{says_in, greatest}
 use Rattle.paxos_block.proofs.VoteLemmas.{greatest_next, max_is, greatest_rest, says_rest}
 use Rattle.torn_block.specs.Layout.{hosts_in}
 use Rattle.torn_block.proofs.LayoutLaws.{few_hosts}

@@ -1,6 +1,5 @@
 use Rattle.std.proofs.Common.{◌≡◌, ℕ, List}
 use Rattle.torn_block.specs.Layout.{Version}
-use Rattle.paxos_block.specs.Saying.{said_as}
 use Rattle.paxos_block.specs.Row.{DecodedBlock, AreSeenAs}
 use Rattle.paxos_block.specs.Votes.{greatest, says_in}
 use Rattle.paxos_block.proofs.row.Row.greatest_mbal.Given as goal

@@ -1,9 +1,9 @@
-use Rattle.std.proofs.Common.{rules, ◌≡◌, ◌∙◌, ◌+◌, ◌<◌, ℕ, List, Bool, true, false, refl, sym, ap, arith, max, get_or}
+use Rattle.std.proofs.Common.{◌≡◌, ◌∙◌, ◌<◌, ℕ, List, Bool, true, false, refl, sym, ap, arith, max, get_or}
 use Rattle.std.specs.Prelude.{◌==◌, if◌then◌else◌}
 use Rattle.torn_block.specs.declared.layout.TheConstants.{HOSTS_ROOM}
-use Rattle.paxos_block.specs.Saying.{Said, said_as}
+use Rattle.paxos_block.specs.Saying.{Said}
 use Rattle.paxos_block.specs.Row.{DecodedBlock, blank}
-use Rattle.paxos_block.specs.Votes.{says_in, greatest, latest_below, later_of}
+use Rattle.paxos_block.specs.Votes.{says_in, greatest}
 use Rattle.paxos_block.proofs.VoteLemmas.{max_is, other_mbal, others_own, others_other, greatest_rest, says_rest}
 use Rattle.torn_block.specs.Layout.{hosts_in}
 use Rattle.torn_block.proofs.LayoutLaws.{few_hosts}

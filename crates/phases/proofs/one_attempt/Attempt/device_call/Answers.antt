@@ -1,7 +1,4 @@
-use Rattle.std.proofs.Common.{◌≡◌, ◌*◌, ◌+◌, ◌≤◌, ◌∙◌, ℕ, subst, ap, arith}
-use Rattle.torn_block.specs.Layout.{copy_length, block_length, row_length}
-use Rattle.torn_block.proofs.LayoutLaws.{row_holds}
-use Rattle.paxos_block.specs.Places.{row_place}
+use Rattle.std.proofs.Common.{◌∙◌, subst, ap}
 use Rattle.phases.specs.Notes.{Notes}
 use Rattle.phases.specs.Steps.{IsDueIn}
 use Rattle.phases.proofs.Calling.{within_more, block_within}

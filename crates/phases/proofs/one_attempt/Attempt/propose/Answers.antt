@@ -1,4 +1,4 @@
-use Rattle.std.proofs.Common.{◌≡◌, ◌∙◌, List, ℕ, Option, sym, ap}
+use Rattle.std.proofs.Common.{◌∙◌, sym, ap}
 use Rattle.std.specs.Option.{option_map}
 use Rattle.paxos_block.proofs.VoteLemmas.{or_mapped}
 use Rattle.phases.specs.declared.phase.Phase.TheVariants as phase
