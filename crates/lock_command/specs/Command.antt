@@ -87,15 +87,19 @@ abbrev pub told_bytes : Option LockValue → List ℕ
 told_bytes None = replicate LOCK_VALUE_LENGTH 0
 told_bytes (Some value) = value.bytes
 
+-- a command that says only which lock it is about, or which host is purged
+abbrev pub bare_fields : ℕ → ℕ → ℕ → Fields
+bare_fields kind lock purged = record { kind = kind; mode = 0; flags = 0; lock = lock; purged = purged; name = []; value = value_bytes None }
+
 -- what each kind of command puts there
 abbrev pub fields_of : Action → Fields
 fields_of (Enqueue lock name mode no_queue) = record { kind = 1; mode = mode_number mode; flags = flags_of no_queue None; lock = lock; purged = 0; name = name; value = value_bytes None }
 fields_of (Convert lock mode no_queue value) = record { kind = 2; mode = mode_number mode; flags = flags_of no_queue value; lock = lock; purged = 0; name = []; value = value_bytes value }
 fields_of (Release lock value) = record { kind = 3; mode = 0; flags = flags_of false value; lock = lock; purged = 0; name = []; value = value_bytes value }
-fields_of (Cancel lock) = record { kind = 4; mode = 0; flags = 0; lock = lock; purged = 0; name = []; value = value_bytes None }
-fields_of (Status lock) = record { kind = 5; mode = 0; flags = 0; lock = lock; purged = 0; name = []; value = value_bytes None }
-fields_of (Purge host) = record { kind = 6; mode = 0; flags = 0; lock = 0; purged = host; name = []; value = value_bytes None }
-fields_of (QuietPurge host) = record { kind = 7; mode = 0; flags = 0; lock = 0; purged = host; name = []; value = value_bytes None }
+fields_of (Cancel lock) = bare_fields 4 lock 0
+fields_of (Status lock) = bare_fields 5 lock 0
+fields_of (Purge host) = bare_fields 6 0 host
+fields_of (QuietPurge host) = bare_fields 7 0 host
 fields_of (CarryLock lock name s value) = record { kind = 8; mode = mode_number (first_mode s); flags = told_flags (Some value); lock = lock; purged = state_number s; name = name; value = value.bytes }
 fields_of (CarryClient reply) = record { kind = 9; mode = mode_told reply.answer; flags = told_flags reply.value; lock = count_told reply.answer; purged = answer_number reply.answer; name = []; value = told_bytes reply.value }
 
