@@ -23,37 +23,20 @@ lifted x = record { table = again x.table; reply = with_zeros x.answer }
 
 -- ONE COMMAND
 
-same_done : (locks : List LockRecord) (host client : ℕ) (action : OldAction) → done locks host client (upgraded_action action) ≡ done locks host client (same_action action)
-same_done locks host client (Enqueue lock name mode no_queue) = refl
-same_done locks host client (Convert lock mode no_queue) = refl
-same_done locks host client (Release lock) = refl
-same_done locks host client (Cancel lock) = refl
-same_done locks host client (Status lock) = refl
-same_done locks host client (Purge host') = refl
+-- the action of today does the same to the locks, gives no value, is told what it did and is kept of its client
+record IsAlike (locks : List LockRecord) (host client : ℕ) (action : OldAction) : Type 0 where
+  does : done locks host client (upgraded_action action) ≡ done locks host client (same_action action)
+  gives : gives_nothing (upgraded_action action) ≡ true
+  told : (r : Reply) → told_again (upgraded_action action) r ≡ r
+  is_kept : keeps_none (upgraded_action action) ≡ false
 
-stores_nothing : (action : OldAction) → gives_nothing (upgraded_action action) ≡ true
-stores_nothing (Enqueue lock name mode no_queue) = refl
-stores_nothing (Convert lock mode no_queue) = refl
-stores_nothing (Release lock) = refl
-stores_nothing (Cancel lock) = refl
-stores_nothing (Status lock) = refl
-stores_nothing (Purge host) = refl
-
-told_upgraded : (action : OldAction) (r : Reply) → told_again (upgraded_action action) r ≡ r
-told_upgraded (Enqueue lock name mode no_queue) r = refl
-told_upgraded (Convert lock mode no_queue) r = refl
-told_upgraded (Release lock) r = refl
-told_upgraded (Cancel lock) r = refl
-told_upgraded (Status lock) r = refl
-told_upgraded (Purge host) r = refl
-
-keeps_upgraded : (action : OldAction) → keeps_none (upgraded_action action) ≡ false
-keeps_upgraded (Enqueue lock name mode no_queue) = refl
-keeps_upgraded (Convert lock mode no_queue) = refl
-keeps_upgraded (Release lock) = refl
-keeps_upgraded (Cancel lock) = refl
-keeps_upgraded (Status lock) = refl
-keeps_upgraded (Purge host) = refl
+alike : (locks : List LockRecord) (host client : ℕ) (action : OldAction) → IsAlike locks host client action
+alike locks host client (Enqueue lock name mode no_queue) = record { does = refl; gives = refl; told = λ r. refl; is_kept = refl }
+alike locks host client (Convert lock mode no_queue) = record { does = refl; gives = refl; told = λ r. refl; is_kept = refl }
+alike locks host client (Release lock) = record { does = refl; gives = refl; told = λ r. refl; is_kept = refl }
+alike locks host client (Cancel lock) = record { does = refl; gives = refl; told = λ r. refl; is_kept = refl }
+alike locks host client (Status lock) = record { does = refl; gives = refl; told = λ r. refl; is_kept = refl }
+alike locks host client (Purge gone) = record { does = refl; gives = refl; told = λ r. refl; is_kept = refl }
 
 filter_again : (client : ℕ) (clients : List OldClient) → filter (λ k. not (is_client client k)) (map known_again clients) ≡ map known_again (filter (λ k. not (is_old_client client k)) clients)
 filter_again client [] = refl
@@ -79,18 +62,19 @@ find_again client (k ∷ clients) =
 carried_again : (t : OldTable) (c : OldCommand) → carried_out (again t) (upgraded c) ≡ lifted (old_carried_out t c)
 carried_again t c =
     let action = upgraded_action c.action in
-    let same = same_done t.locks c.host c.client c.action in
+    let is = alike t.locks c.host c.client c.action in
+    let same = is.does in
     let outcome = done t.locks c.host c.client action in
-    let values : values_after (value_in []) t.locks outcome.locks action outcome.answer ≡ value_in [] = sym (nothing_after t.locks outcome.locks action outcome.answer (stores_nothing c.action)) in
+    let values : values_after (value_in []) t.locks outcome.locks action outcome.answer ≡ value_in [] = sym (nothing_after t.locks outcome.locks action outcome.answer is.gives) in
     let asked : asked_value (values_after (value_in []) t.locks outcome.locks action outcome.answer) t.locks action ≡ zeros =
     ap (λ v. asked_value v t.locks action) values ∙ sym (asked_zeros t.locks action) in
     let reply : replied (values_after (value_in []) t.locks outcome.locks action outcome.answer) t.locks action outcome.answer ≡ with_zeros (old_carried_out t c).answer =
-    told_upgraded c.action _ ∙ (λ i. record { answer = (same i).answer; value = returned (same i).answer (asked i) }) in
+    is.told _ ∙ (λ i. record { answer = (same i).answer; value = returned (same i).answer (asked i) }) in
     let last : OldClient = record { client = c.client; request = c.request; answer = (old_carried_out t c).answer } in
     let others = filter (λ k. not (is_old_client c.client k)) t.clients in
     let clients : kept_after action (map known_again t.clients) (record { client = c.client; request = c.request; reply = replied (values_after (value_in []) t.locks outcome.locks action outcome.answer) t.locks action outcome.answer })
     ≡ map known_again (others ++ last ∷ []) =
-    ap (λ b. cond b (map known_again t.clients) (kept (map known_again t.clients) (record { client = c.client; request = c.request; reply = replied (values_after (value_in []) t.locks outcome.locks action outcome.answer) t.locks action outcome.answer }))) (keeps_upgraded c.action)
+    ap (λ b. cond b (map known_again t.clients) (kept (map known_again t.clients) (record { client = c.client; request = c.request; reply = replied (values_after (value_in []) t.locks outcome.locks action outcome.answer) t.locks action outcome.answer }))) is.is_kept
     ∙ ap (λ (r : Reply). filter (λ k. not (is_client c.client k)) (map known_again t.clients) ++ record { client = c.client; request = c.request; reply = r } ∷ []) reply
     ∙ ap (λ l. l ++ known_again last ∷ []) (filter_again c.client t.clients)
     ∙ sym (map-append known_again others (last ∷ [])) in
