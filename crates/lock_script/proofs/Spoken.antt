@@ -1,5 +1,5 @@
 -- Words are read as a line exactly where they spell it.
-use Rattle.std.proofs.Common.{◌≡◌, ◌<◌, ◌-◌, ◌∙◌, inl, inr, ℕ, List, [], ◌∷◌, Option, Some, arith, refl, sym, ap, subst}
+use Rattle.std.proofs.Common.{◌≡◌, ◌<◌, ◌≤◌, ◌-◌, ◌∙◌, inl, inr, ℕ, List, [], ◌∷◌, Option, Some, arith, refl, sym, ap, subst}
 use Rattle.std.specs.Prelude.{codes, decimal}
 use Rattle.torn_block.specs.declared.layout.TheConstants.{DISKS, SLOTS}
 use Rattle.slot_log.specs.Shape.{Shape}
@@ -14,7 +14,7 @@ use Rattle.lock_script.specs.declared.show.View.TheVariants.{Queues, Blocking}
 use Rattle.lock_script.specs.declared.line.Line.TheVariants.{Cluster, Log, Once, Steps, Show}
 use Rattle.lock_script.specs.Words.{first_word, words_behind, last_word}
 use Rattle.lock_script.specs.Reading.{number_in, host_of, disk_of, slot_of, tries_of, times_of, given_of, command_at, cluster_at, log_at, submit_at, recover_at, mark_at, step_at, tear_at, fail_at, crash_at, plain_at, show_at, said_at, line_at}
-use Rattle.lock_script.specs.Spelling.{hex_word, command_words, view_word, line_words, IsTries, FitsSubmitted, FitsEvent, FitsFirst, FitsBehind}
+use Rattle.lock_script.specs.Spelling.{hex_word, command_words, view_word, line_words, AreGiven, IsTries, FitsSubmitted, FitsEvent, FitsFirst, FitsBehind}
 use Rattle.lock_script.proofs.Readings.{bound, picked, one_read}
 use Rattle.lock_script.proofs.Numbers.{number_in-found, number_in-only}
 use Rattle.lock_script.proofs.Givens.{given_of-found, given_of-only}
@@ -85,35 +85,29 @@ recover_found kind words line named h =
     let host : r.a < HOSTS = omega (arith, d.high) in
     subst (Spells (kind ∷ words)) r.made (record { words_are = is; fits = (host, (s.low, s.high)) })
 
+-- a number from 0 on, and given bytes
+given_found : (most : ℕ) (make : ℕ → List ℕ → Line) (kind name : List ℕ) (words : List (List ℕ)) (line : Line) → kind ≡ name
+    → ((first_word words >>= number_in 0 most) >>= λ x. (last_word (words_behind words) >>= given_of) >>= λ y. Some (make x y)) ≡ Some line
+    → ((a : ℕ) (given : List ℕ) → line_words (make a given) ≡ name ∷ decimal a ∷ hex_word given ∷ [])
+    → ((a : ℕ) (given : List ℕ) → a ≤ most → AreGiven given → FitsLine (make a given)) → Spells (kind ∷ words) line
+given_found most make kind name words line named h spelled fits =
+    let r = two_read (number_in 0 most) given_of make words line h in
+    let d = number_in-found 0 most r.first r.a r.reads in
+    let s = given_of-found r.second r.b r.then_reads in
+    let is : kind ∷ words ≡ name ∷ decimal r.a ∷ hex_word r.b ∷ [] = cc (named, r.words_are, d.spelled, s.spelled) in
+    subst (Spells (kind ∷ words)) r.made (record { words_are = is ∙ sym (spelled r.a r.b); fits = fits r.a r.b d.high s.fits })
+
 tear_found : (kind : List ℕ) (words : List (List ℕ)) (line : Line) → kind ≡ codes "tear" → tear_at words ≡ Some line → Spells (kind ∷ words) line
 unfolding tear_at
-tear_found kind words line named h =
-    let r = two_read host_of given_of (λ x y. Once (Tear x y)) words line h in
-    let d = number_in-found 0 (HOSTS - 1) r.first r.a r.reads in
-    let s = given_of-found r.second r.b r.then_reads in
-    let is : kind ∷ words ≡ codes "tear" ∷ decimal r.a ∷ hex_word r.b ∷ [] = cc (named, r.words_are, d.spelled, s.spelled) in
-    let host : r.a < HOSTS = omega (arith, d.high) in
-    subst (Spells (kind ∷ words)) r.made (record { words_are = is; fits = (host, s.fits) })
+tear_found kind words line named h = given_found (HOSTS - 1) (λ x y. Once (Tear x y)) kind (codes "tear") words line named h (λ a given. refl) (λ a given few are. (omega (arith, few), are))
 
 fail_found : (kind : List ℕ) (words : List (List ℕ)) (line : Line) → kind ≡ codes "fail" → fail_at words ≡ Some line → Spells (kind ∷ words) line
 unfolding fail_at
-fail_found kind words line named h =
-    let r = two_read host_of given_of (λ x y. Once (FailCall x y)) words line h in
-    let d = number_in-found 0 (HOSTS - 1) r.first r.a r.reads in
-    let s = given_of-found r.second r.b r.then_reads in
-    let is : kind ∷ words ≡ codes "fail" ∷ decimal r.a ∷ hex_word r.b ∷ [] = cc (named, r.words_are, d.spelled, s.spelled) in
-    let host : r.a < HOSTS = omega (arith, d.high) in
-    subst (Spells (kind ∷ words)) r.made (record { words_are = is; fits = (host, s.fits) })
+fail_found kind words line named h = given_found (HOSTS - 1) (λ x y. Once (FailCall x y)) kind (codes "fail") words line named h (λ a given. refl) (λ a given few are. (omega (arith, few), are))
 
 crash_found : (kind : List ℕ) (words : List (List ℕ)) (line : Line) → kind ≡ codes "crash" → crash_at words ≡ Some line → Spells (kind ∷ words) line
 unfolding crash_at
-crash_found kind words line named h =
-    let r = two_read disk_of given_of (λ x y. Once (DiskCrash x y)) words line h in
-    let d = number_in-found 0 6 r.first r.a r.reads in
-    let s = given_of-found r.second r.b r.then_reads in
-    let is : kind ∷ words ≡ codes "crash" ∷ decimal r.a ∷ hex_word r.b ∷ [] = cc (named, r.words_are, d.spelled, s.spelled) in
-    let disk : r.a < 7 = omega (arith, d.high) in
-    subst (Spells (kind ∷ words)) r.made (record { words_are = is; fits = (disk, s.fits) })
+crash_found kind words line named h = given_found (DISKS - 1) (λ x y. Once (DiskCrash x y)) kind (codes "crash") words line named h (λ a given. refl) (λ a given few are. (omega (arith, few), are))
 
 step_found : (kind : List ℕ) (words : List (List ℕ)) (line : Line) → kind ≡ codes "step" → step_at words ≡ Some line → Spells (kind ∷ words) line
 unfolding step_at
