@@ -28,7 +28,7 @@ pub use header::{image_header, length_in_header};
 pub use host_lock::{LockFault, TryLock, lock_host, lock_path};
 pub use image::{Access, first_bytes, image_path, open_cut_to_header};
 pub use image_fault::{image_fault_name, image_fault_number};
-pub use operation::drive;
+pub use operation::{answer_among, drive};
 pub use patience::submit_patiently;
 pub use recover_and_mark::MarkedLog;
 pub use set::{ImageSet, SetFault, set_of};

@@ -3,9 +3,9 @@ ghost use Rattle.migration.specs.Kept.{setup_by};
 ghost use Rattle.folder_migration.specs.Moving.{AreLarge, HasMoved, AllWell};
 
 use disk::Disk;
+use dlm_images::answer_among;
 use lock_command::Value;
 use migration::{End, Migrator};
-use phases::answer_of;
 use slot_log::Config;
 use torn_block::{ClusterLayout, DISKS, ROW_LENGTH, SLOTS};
 
@@ -31,11 +31,7 @@ pub fn move_log<D: Disk>(config: Config, cluster: u64, log: Vec<Value>, disks: &
             return end;
         }
         let need = migrator.call();
-        let heard = answer_of::<ClusterLayout, _>(
-            &mut disks[usize::from(need.disk)],
-            &need.call,
-            &mut row,
-        );
+        let heard = answer_among::<ClusterLayout, D>(disks, &need, &mut row);
         migrator.hear(&heard);
     }
     unreachable!()

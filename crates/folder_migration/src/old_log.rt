@@ -9,8 +9,8 @@ ghost use Rattle.folder_migration.specs.Recovery.{AreLarge, HasEnded, MakesOne, 
 
 use crate::fault::MoveFault;
 use disk::Disk;
+use dlm_images::answer_among;
 use lock_command::{OldValue, Value, decode_old, upgrade};
-use phases::answer_of;
 use slot_log::{Config, Learner, LogOutcome};
 use std::alloc::Global;
 use torn_block::{DISKS, Layout, Layout1, SLOTS};
@@ -82,7 +82,7 @@ fn call<D: Disk>(learner: &mut Learner<Layout1>, disks: &mut [D], row: &mut [u8;
     ensures large { AreLarge D.device learner.old.shape.slots disks.new }
 {
     let need = learner.call();
-    let heard = answer_of::<Layout1, _>(&mut disks[usize::from(need.disk)], &need.call, row);
+    let heard = answer_among::<Layout1, D>(disks, &need, row);
     learner.hear(&heard);
 }
 

@@ -1,6 +1,4 @@
-use Rattle.std.proofs.Common.{◌≡◌, ◌≤◌, ◌<◌, ℕ, length, slice_get, slice_set, get_or, Some, ap, arith, sym, ◌∙◌, subst, refl}
-use Rattle.std.proofs.lemmas.Option.{slice_get-get_or}
-use Rattle.std.proofs.lemmas.List.{length-set}
+use Rattle.std.proofs.Common.{◌≤◌, ◌<◌, ℕ, arith, sym, ◌∙◌, subst, refl}
 use Rattle.disk.specs.Disk as device
 use Rattle.torn_block.specs.Layout.{cluster_version}
 use Rattle.paxos_block.specs.Places.{image_length}
@@ -14,7 +12,7 @@ use Rattle.host.proofs.Hosts.{heard_same}
 use Rattle.dlm_images.specs.Operations.{Made, Standing}
 use Rattle.phases.specs.Calls.{IsWithin, call_of_need}
 use Rattle.host.specs.Kept.{LeadsTo, due_call}
-use Rattle.dlm_images.proofs.Driving.{driven_at_first, driven_more, driven_out, within_more, set_keeps}
+use Rattle.dlm_images.proofs.Driving.{driven_at_first, driven_more, driven_out, within_more}
 use Rattle.dlm_images.proofs.operation.drive.Goals as goal
 
 pub loop-made-init : goal.loop-made-init
@@ -24,58 +22,41 @@ loop-made-init g c = record {
   large = c.requires.large;
 }
 
-pub answer_of-heard-requires : goal.answer_of-heard-requires
-answer_of-heard-requires g c =
-    let same : c.loop-made.host.learner.shape ≡ c.args.host.now.learner.shape = c.loop-made.invariant.driven.leads.learner.shape in
-    let shape = c.args.host.now.learner.shape in
-    let lies : IsWithin cluster_version (image_length cluster_version shape.slots) c.call-need.result.call = subst (λ (s : Shape). IsWithin cluster_version (image_length cluster_version s.slots) c.call-need.result.call) same c.call-need.ensures.range in
-    let there : c.call-need.result.disk < shape.disks = subst (λ (s : Shape). c.call-need.result.disk < s.disks) same c.call-need.ensures.disk in
-    let few : c.from.result < length c.loop-made.disks = omega (arith, there, c.from.ensures, c.requires.as_many, c.loop-made.invariant.as_many) in
-    let large = c.loop-made.invariant.large c.from.result _ (slice_get-get_or c.loop-made.disks c.from.result c.index-disks-from.result few) in
-    within_more (image_length cluster_version shape.slots) _ c.call-need.result.call large lies
+pub answer_among-heard-requires-clause-there : goal.answer_among-heard-requires-clause-there
+answer_among-heard-requires-clause-there g c =
+    let there = subst (λ (s : Shape). c.call-need.result.disk < s.disks) c.loop-made.invariant.driven.leads.learner.shape c.call-need.ensures.disk in
+    omega (arith, there, c.requires.as_many, c.loop-made.invariant.as_many)
+
+pub answer_among-heard-requires-clause-range : goal.answer_among-heard-requires-clause-range
+answer_among-heard-requires-clause-range g c = λ k d is.
+    let slots = c.args.host.now.learner.shape.slots in
+    let lies = subst (λ (s : Shape). IsWithin cluster_version (image_length cluster_version s.slots) c.call-need.result.call) c.loop-made.invariant.driven.leads.learner.shape c.call-need.ensures.range in
+    within_more (image_length cluster_version slots) _ c.call-need.result.call (c.loop-made.invariant.large k d is) lies
 
 pub loop-made-preserved : goal.loop-made-preserved
 loop-made-preserved g c = record {
   driven =
       let few : c.args.host.now.learner.shape.disks ≤ 7 = omega (arith, c.requires.few.0, c.requires.as_many) in
       let due = call_of_need cluster_version c.call-need.result in
-      let y : Made = record { disk = due.0; call = due.1; answer = device_answer c.answer_of-heard.result } in
-      let shape = c.args.host.now.learner.shape in
-      let same : c.loop-made.host.learner.shape ≡ shape = c.loop-made.invariant.driven.leads.learner.shape in
-      let there : c.call-need.result.disk < shape.disks = subst (λ (s : Shape). c.call-need.result.disk < s.disks) same c.call-need.ensures.disk in
-      let within : c.from.result < length c.loop-made.disks = omega (arith, there, c.from.ensures, c.requires.as_many, c.loop-made.invariant.as_many) in
+      let y : Made = record { disk = due.0; call = due.1; answer = device_answer c.answer_among-heard.result } in
       let old : Standing g.row.D.Denot = record { core = c.args.host.now; disks = c.args.disks.now } in
       let now : Standing g.row.D.Denot = record { core = c.loop-made.host; disks = c.loop-made.disks } in
-      let new : Standing g.row.D.Denot = record { core = c.hear.new.self; disks = slice_set c.loop-made.disks c.from.result c.answer_of-heard.new.disk } in
-      driven_more g.D.Disk.gives shape old now new y c.loop-made._made few
+      let new : Standing g.row.D.Denot = record { core = c.hear.new.self; disks = c.answer_among-heard.new.disks } in
+      driven_more g.D.Disk.gives c.args.host.now.learner.shape old now new y c.loop-made._made few
       (record {
-        gave = record {
-          before = get_or c.loop-made.disks c.from.result c.index-disks-from.result;
-          after = c.answer_of-heard.new.disk;
-          is = subst (λ (k : ℕ). slice_get c.loop-made.disks k ≡ Some (get_or c.loop-made.disks c.from.result c.index-disks-from.result)) c.from.ensures (slice_get-get_or c.loop-made.disks c.from.result c.index-disks-from.result within);
-          gave = c.answer_of-heard.ensures.gave;
-          others = ap (λ (k : ℕ). slice_set c.loop-made.disks k c.answer_of-heard.new.disk) c.from.ensures;
-        };
-        due = λ s h m leads. record { next = c.call-need.ensures.next s h m leads; fits = subst (Fits due.1) (heard_same c.answer_of-heard.result) c.answer_of-heard.ensures.fits };
-        leads = λ s h m leads. subst (λ (p : ℕ × device.Call). LeadsTo s h (hears_from s h m m.doing p.0 (device_answer c.answer_of-heard.result)) c.hear.new.self) (sym c.call-need.ensures.due) (c.hear.ensures.leads s h m leads);
+        gave = c.answer_among-heard.ensures.gave;
+        due = λ s h m leads. record { next = c.call-need.ensures.next s h m leads; fits = subst (Fits due.1) (heard_same c.answer_among-heard.result) c.answer_among-heard.ensures.fits };
+        leads = λ s h m leads. subst (λ (p : ℕ × device.Call). LeadsTo s h (hears_from s h m m.doing p.0 (device_answer c.answer_among-heard.result)) c.hear.new.self) (sym c.call-need.ensures.due) (c.hear.ensures.leads s h m leads);
         busy = λ s h m leads. sym (c.idle.ensures.known s h m leads) ∙ c.if-idle.false;
         alone = λ s h m leads.
-            subst (λ (p : ℕ × device.Call). IsAnsweredAlone s h m m.doing (record { disk = p.0; heard = heard_as (device_answer c.answer_of-heard.result) })) (sym c.call-need.ensures.due)
-            (subst (λ (y : Heard). IsAnsweredAlone s h m m.doing (record { disk = (due_call c.loop-made.host).0; heard = y })) (heard_same c.answer_of-heard.result)
+            subst (λ (p : ℕ × device.Call). IsAnsweredAlone s h m m.doing (record { disk = p.0; heard = heard_as (device_answer c.answer_among-heard.result) })) (sym c.call-need.ensures.due)
+            (subst (λ (y : Heard). IsAnsweredAlone s h m m.doing (record { disk = (due_call c.loop-made.host).0; heard = y })) (heard_same c.answer_among-heard.result)
             (c.hear.ensures.alone s h m leads));
         few = λ s h m leads. c.hear.ensures.few s h m leads;
       })
       c.loop-made.invariant.driven;
-  as_many = length-set c.loop-made.disks c.from.result _ ∙ c.loop-made.invariant.as_many;
-  large =
-      let shape = c.args.host.now.learner.shape in
-      let same : c.loop-made.host.learner.shape ≡ shape = c.loop-made.invariant.driven.leads.learner.shape in
-      let there : c.call-need.result.disk < shape.disks = subst (λ (s : Shape). c.call-need.result.disk < s.disks) same c.call-need.ensures.disk in
-      let few : c.from.result < length c.loop-made.disks = omega (arith, there, c.from.ensures, c.requires.as_many, c.loop-made.invariant.as_many) in
-      let large = c.loop-made.invariant.large c.from.result _ (slice_get-get_or c.loop-made.disks c.from.result c.index-disks-from.result few) in
-      set_keeps (λ d. image_length cluster_version shape.slots ≤ (g.D.Disk.device d).size) c.loop-made.disks c.from.result c.answer_of-heard.new.disk
-      (subst (λ (e : device.Device). image_length cluster_version shape.slots ≤ e.size) (sym c.answer_of-heard.ensures.device) large)
-      c.loop-made.invariant.large;
+  as_many = c.answer_among-heard.auto.disks ∙ c.loop-made.invariant.as_many;
+  large = c.answer_among-heard.ensures.large _ c.loop-made.invariant.large;
 }
 
 pub returns-clause-ended : goal.returns-clause-ended

@@ -1,14 +1,11 @@
-use Rattle.std.proofs.Common.{◌≡◌, ◌≤◌, ◌<◌, ℕ, Some, get_or, length, slice_get, slice_set, ap, arith, refl, sym, ◌∙◌, subst}
-use Rattle.std.proofs.lemmas.Option.{slice_get-get_or}
-use Rattle.std.proofs.lemmas.List.{length-set}
-use Rattle.disk.specs.Disk as device
+use Rattle.std.proofs.Common.{◌≡◌, ◌≤◌, ◌<◌, Some, ap, arith, refl, ◌∙◌, subst}
 use Rattle.torn_block.specs.Layout.{cluster_version}
 use Rattle.paxos_block.specs.Places.{image_length}
 use Rattle.phases.specs.Calls.{IsWithin, call_of_need, device_answer}
 use Rattle.migration.specs.Image.{Setup}
 use Rattle.migration.specs.Fits.{HasRoom}
 use Rattle.migration.specs.Kept.{setup_by, setup_of}
-use Rattle.dlm_images.proofs.Driving.{set_keeps, within_more}
+use Rattle.dlm_images.proofs.Driving.{within_more}
 use Rattle.folder_migration.proofs.Calling.{moved, moves_first, moves_more, ends_well, all_made}
 use Rattle.folder_migration.proofs.moving.move_log.Goals as goal
 
@@ -33,37 +30,24 @@ returns-in-Some-clause-well g c = λ done. ends_well (setup_by c.args.config c.a
 pub returns-in-Some-clause-calls : goal.returns-in-Some-clause-calls
 returns-in-Some-clause-calls g c = λ done is. all_made (setup_by c.args.config c.args.cluster c.args.log.items) done.answers done.history (done.ended ∙ ap Some is)
 
-pub answer_of-heard-requires : goal.answer_of-heard-requires
-answer_of-heard-requires g c =
-    let of = c.loop-made.invariant.moving.leads.of in
-    let lies : IsWithin cluster_version (image_length cluster_version c.args.config.slots) c.call-need.result.call = subst (λ (s : Setup). IsWithin cluster_version (image_length cluster_version s.slots) c.call-need.result.call) of c.call-need.ensures.range in
-    let there : c.call-need.result.disk < c.args.config.disks = subst (λ (s : Setup). c.call-need.result.disk < s.disks) of c.call-need.ensures.disk in
-    let few : c.from.result < length c.loop-made.disks = omega (arith, there, c.from.ensures, c.requires.as_many, c.loop-made.invariant.as_many) in
-    let large = c.loop-made.invariant.large c.from.result _ (slice_get-get_or c.loop-made.disks c.from.result c.index-disks-from.result few) in
-    within_more (image_length cluster_version c.args.config.slots) _ c.call-need.result.call large lies
+pub answer_among-heard-requires-clause-there : goal.answer_among-heard-requires-clause-there
+answer_among-heard-requires-clause-there g c =
+    let there = subst (λ (s : Setup). c.call-need.result.disk < s.disks) c.loop-made.invariant.moving.leads.of c.call-need.ensures.disk in
+    omega (arith, there, c.requires.as_many, c.loop-made.invariant.as_many)
+
+pub answer_among-heard-requires-clause-range : goal.answer_among-heard-requires-clause-range
+answer_among-heard-requires-clause-range g c = λ k d is.
+    let lies = subst (λ (s : Setup). IsWithin cluster_version (image_length cluster_version s.slots) c.call-need.result.call) c.loop-made.invariant.moving.leads.of c.call-need.ensures.range in
+    within_more (image_length cluster_version c.args.config.slots) _ c.call-need.result.call (c.loop-made.invariant.large k d is) lies
 
 pub loop-made-preserved : goal.loop-made-preserved
 loop-made-preserved g c =
     let s = setup_by c.args.config c.args.cluster c.args.log.items in
-    let of = c.loop-made.invariant.moving.leads.of in
-    let there : c.call-need.result.disk < c.args.config.disks = subst (λ (s : Setup). c.call-need.result.disk < s.disks) of c.call-need.ensures.disk in
-    let within : c.from.result < length c.loop-made.disks = omega (arith, there, c.from.ensures, c.requires.as_many, c.loop-made.invariant.as_many) in
     let due = call_of_need cluster_version c.call-need.result in record {
-      moving = moves_more g.D.Disk.gives s c.args.disks.now c.loop-made.disks (slice_set c.loop-made.disks c.from.result c.answer_of-heard.new.disk) c.loop-made.migrator c.hear.new.self c.loop-made._made
-          (record { disk = due.0; call = due.1; answer = device_answer c.answer_of-heard.result })
-          (λ answers leads. c.call-need.ensures.next s answers leads)
-          (record {
-            before = get_or c.loop-made.disks c.from.result c.index-disks-from.result;
-            after = c.answer_of-heard.new.disk;
-            is = subst (λ (k : ℕ). slice_get c.loop-made.disks k ≡ Some (get_or c.loop-made.disks c.from.result c.index-disks-from.result)) c.from.ensures (slice_get-get_or c.loop-made.disks c.from.result c.index-disks-from.result within);
-            gave = c.answer_of-heard.ensures.gave;
-            others = ap (λ (k : ℕ). slice_set c.loop-made.disks k c.answer_of-heard.new.disk) c.from.ensures;
-          })
+      moving = moves_more g.D.Disk.gives s c.args.disks.now c.loop-made.disks c.answer_among-heard.new.disks c.loop-made.migrator c.hear.new.self c.loop-made._made
+          (record { disk = due.0; call = due.1; answer = device_answer c.answer_among-heard.result })
+          (λ answers leads. c.call-need.ensures.next s answers leads) c.answer_among-heard.ensures.gave
           (λ answers leads. c.hear.ensures.leads s answers leads) (λ answers leads. c.hear.ensures.bound s answers leads) c.loop-made.invariant.moving;
-      as_many = length-set c.loop-made.disks c.from.result _ ∙ c.loop-made.invariant.as_many;
-      large =
-          let large = c.loop-made.invariant.large c.from.result _ (slice_get-get_or c.loop-made.disks c.from.result c.index-disks-from.result within) in
-          set_keeps (λ d. image_length cluster_version c.args.config.slots ≤ (g.D.Disk.device d).size) c.loop-made.disks c.from.result c.answer_of-heard.new.disk
-          (subst (λ (e : device.Device). image_length cluster_version c.args.config.slots ≤ e.size) (sym c.answer_of-heard.ensures.device) large)
-          c.loop-made.invariant.large;
+      as_many = c.answer_among-heard.auto.disks ∙ c.loop-made.invariant.as_many;
+      large = c.answer_among-heard.ensures.large _ c.loop-made.invariant.large;
     }
