@@ -103,12 +103,8 @@ fn stopped_before_each_call(rt: HostRuntime) -> Result<(), Fail> {
     for made in 0..CALLS + 1 {
         let mut events = steps(alloc, made)?;
         crash_all(alloc, &mut events)?;
-        let disks = run(alloc, &events)?;
-        assert_eq!(rt;
-            open_gates(&rt, alloc, disks)?,
-            gates_opened(made),
-            "{made} calls"
-        );
+        let open = open_gates(&rt, alloc, run(alloc, &events)?)?;
+        assert_eq!(rt; open, gates_opened(made), "{made} calls");
     }
     Ok(())
 }
@@ -123,12 +119,8 @@ fn stopped_within_each_write(rt: HostRuntime) -> Result<(), Fail> {
         })?;
         step_on(&mut events, CALLS)?;
         crash_all(alloc, &mut events)?;
-        let disks = run(alloc, &events)?;
-        assert_eq!(rt;
-            open_gates(&rt, alloc, disks)?,
-            gates_opened(made + 1),
-            "{made} calls"
-        );
+        let open = open_gates(&rt, alloc, run(alloc, &events)?)?;
+        assert_eq!(rt; open, gates_opened(made + 1), "{made} calls");
     }
     Ok(())
 }
@@ -143,12 +135,8 @@ fn each_call_fails(rt: HostRuntime) -> Result<(), Fail> {
             given: [0].to_vec(alloc)?,
         })?;
         step_on(&mut events, CALLS)?;
-        let disks = run(alloc, &events)?;
-        assert_eq!(rt;
-            open_gates(&rt, alloc, disks)?,
-            gates_opened(made),
-            "{made} calls"
-        );
+        let open = open_gates(&rt, alloc, run(alloc, &events)?)?;
+        assert_eq!(rt; open, gates_opened(made), "{made} calls");
     }
     Ok(())
 }
