@@ -1,4 +1,4 @@
-use Rattle.std.proofs.Common.{◌≡◌, ◌≤◌, ◌<◌, Some, ap, arith, refl, ◌∙◌, subst}
+use Rattle.std.proofs.Common.{◌<◌, Some, ap, arith, refl, ◌∙◌, subst}
 use Rattle.torn_block.specs.Layout.{cluster_version}
 use Rattle.paxos_block.specs.Places.{image_length}
 use Rattle.phases.specs.Calls.{IsWithin, call_of_need, device_answer}

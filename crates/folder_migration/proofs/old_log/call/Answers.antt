@@ -1,4 +1,4 @@
-use Rattle.std.proofs.Common.{◌≡◌, ◌≤◌, subst}
+use Rattle.std.proofs.Common.{subst}
 use Rattle.torn_block.specs.Layout.{Version1}
 use Rattle.attempt.specs.Heard.{Fits}
 use Rattle.phases.specs.Calls.{device_answer, call_of_need}
