@@ -7,6 +7,7 @@ use Rattle.lock_table.specs.Apply.{table_after}
 use Rattle.lock_table.specs.Picture.{IsPictureOf, Shown}
 use Rattle.inspect.specs.Text.{queues_text}
 use Rattle.c_host.specs.declared.open_host.OpenHost.{OpenHost}
+use Rattle.c_host.specs.declared.view.TheConstants.{NAME_ROOM}
 use Rattle.c_host.specs.declared.view.HostView.{HostView}
 use Rattle.c_host.specs.declared.view.LockView.{LockView}
 use Rattle.c_host.specs.declared.view.ClientView.{ClientView}
@@ -28,7 +29,7 @@ pub record ShowsLock (view : LockView) (r : LockRecord) : Type 0 where
   pub host : view.host ≡ r.host
   pub held : view.held ≡ held_number r.state
   pub wanted : view.wanted ≡ wanted_number r.state
-  pub name : view.name ≡ r.name ++ replicate (16 - length r.name) 0
+  pub name : view.name ≡ r.name ++ replicate (NAME_ROOM - length r.name) 0
 
 -- The view shows this client, its last request, and the reply to it.
 pub record ShowsClient (view : ClientView) (k : KnownClient) : Type 0 where

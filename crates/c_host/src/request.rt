@@ -8,7 +8,8 @@ ghost use Rattle.lock_command.specs.declared.number.TheConstants.{HOSTS};
 
 use crate::mode_number::mode_of;
 use lock_command::{
-    Action, ClientNumber, Command, HostNumber, LockName, LockNumber, RequestNumber, ValueBytes,
+    Action, ClientNumber, Command, HostNumber, LOCK_VALUE_LENGTH, LockName, LockNumber,
+    RequestNumber, ValueBytes,
 };
 
 /// What a client asks, as C hands it over. A field that the action does not read may have any value.
@@ -28,7 +29,7 @@ pub struct Request {
     /// 1 where a convert or a release gives a value, else 0.
     pub gives: u32,
     pub unused: u32,
-    pub value: [u8; 16],
+    pub value: [u8; LOCK_VALUE_LENGTH],
 }
 
 impl Request {

@@ -4,7 +4,11 @@ ghost use Rattle.c_host.specs.Views.{ShowsLock, ShowsClient};
 
 use crate::answer::{reply_number, status_of};
 use crate::mode_number::modes_of;
+use lock_command::{LOCK_VALUE_LENGTH, LockName};
 use lock_table::{KnownClient, LockRecord, LockValue};
+
+/// The bytes of the longest name, and a zero behind it.
+pub const NAME_ROOM: usize = LockName::LONGEST + 1;
 
 /// A host, as C is shown it.
 #[repr(C)]
@@ -31,7 +35,7 @@ pub struct LockView {
     pub held: i32,
     pub wanted: i32,
     /// The bytes of the name, zeros behind them.
-    pub name: [u8; 16],
+    pub name: [u8; NAME_ROOM],
 }
 
 impl LockView {
@@ -40,7 +44,7 @@ impl LockView {
     {
         let (held, wanted) = modes_of(lock.state);
         let bytes = lock.name.as_bytes();
-        let mut name = [0; 16];
+        let mut name = [0; NAME_ROOM];
         name[..bytes.len()].copy_from_slice(bytes);
         LockView {
             lock: u32::from(lock.lock.get()),
@@ -83,7 +87,7 @@ impl ClientView {
 #[repr(C)]
 #[derive(Clone, Copy, Drop)]
 pub struct ValueView {
-    pub bytes: [u8; 16],
+    pub bytes: [u8; LOCK_VALUE_LENGTH],
     /// 1 where it is valid, else 0.
     pub flags: u32,
 }

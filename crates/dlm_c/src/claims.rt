@@ -15,7 +15,7 @@ use crate::due_order::{DueOrder, failure_of};
 use crate::handle::Handle;
 use c_host::{BAD_ARGUMENT, BUSY, CLOSED, Fault, NOTHING_DUE, OpenHost, lock_of, mode_of};
 use host::HostAnswer;
-use lock_command::{LockName, ValueBytes};
+use lock_command::{LOCK_VALUE_LENGTH, LockName, ValueBytes};
 use lock_table::Picture;
 use session::{Claim, Failure, Learned, Order, Standing, Why};
 use std::alloc::Global;
@@ -113,7 +113,7 @@ pub extern "C" fn dlm_c_begin(
 #[repr(C)]
 #[derive(Clone, Copy, Drop)]
 pub struct ValueNumbers {
-    pub bytes: [u8; 16],
+    pub bytes: [u8; LOCK_VALUE_LENGTH],
 }
 
 fn begin(claim: &mut Claim, asker: &AskerNumbers, goal: u32, value: &ValueNumbers) -> i32
