@@ -482,10 +482,11 @@ else
     left_out "manual pages: there is no groff"
 fi
 
-# How much C no proof covers: the lines that are neither blank nor comment.
+# How much C no proof covers: the lines that are neither blank nor comment. Two pages say it in round figures, so that a line more changes none of them.
 lines=0
 for part in midgegalena mg_session device; do lines=$((lines + $(awk -f "$here/tests/lines.awk" "$here/src/$part.c"))); done
-tried "lines of C in capi/README.md" grep -q "\b$lines lines of C" "$top/capi/README.md"
+printf -v round '%d,%03d' $(((lines + 50) / 100 / 10)) $(((lines + 50) / 100 % 10 * 100))
+for page in README.md capi/README.md; do tried "lines of C in $page" grep -q "some $round lines of C" "$top/$page"; done
 
 # Memory.
 if command -v valgrind > /dev/null; then
