@@ -7,6 +7,7 @@ MG_LOCK and DLM are the programs, WORK an empty folder. Prints what was wrong, a
 import fcntl
 import json
 import os
+import shlex
 import shutil
 import signal
 import subprocess
@@ -212,8 +213,11 @@ print(refused)
 def only_looks():
     folder()
     submit(0, "enqueue 1 1 1 EX db")
-    holder = begin(1, "other")
-    expect(until(lambda: len(told()["locks"]) == 2), "one holds")
+    # The lock is shown before its command is marked on each disk. Once mg-lock runs its own command, it writes no more.
+    runs = os.path.join(work, "runs")
+    holder = begin(1, "other", f"touch {shlex.quote(runs)}; exec sleep 1000")
+    expect(until(lambda: os.path.exists(runs)), "one holds")
+    expect(len(told()["locks"]) == 2, "both locks are shown")
     before = facts()
     # Of a thread of this process the children that are being started would have the file, too.
     taker = subprocess.Popen([sys.executable, "-c", TAKES, os.path.join(images, "host0.lock")], stdin=subprocess.PIPE, stdout=subprocess.PIPE, text=True)
