@@ -9,7 +9,7 @@ use Rattle.attempt.specs.Calls.{Phase, Opening, One, Two, goal, Kind, Attaching,
 use Rattle.attempt.specs.Answers.{Answered, Answers, on}
 use Rattle.attempt.specs.Setup.{Setup}
 use Rattle.attempt.specs.History.{IsHistory}
-use Rattle.attempt.specs.Looking.{OnlyReads, EndsTheOpening}
+use Rattle.attempt.specs.Looking.{LeavesBytes, EndsTheOpening}
 use Rattle.attempt.specs.NextCall.{call_by, with_disk, next_in, next_call}
 use Rattle.attempt.specs.Proposal.{ballot, highest, decided}
 use Rattle.attempt.specs.Standing.{IsIn, HasBallot}
@@ -89,18 +89,18 @@ module _ (s : Setup) (f : Answers) (high : LAST_BALLOT ≤ s.floor) where
   takes_none = open_none (decided s f) _ (taken_none (visited s Opening f) (are_enough s (is_opened f)))
 
   -- its calls are the first three of a disk
-  quiet : (d : ℕ) (kind : Kind) → IsQuiet kind → OnlyReads (call_by s d f kind)
+  quiet : (d : ℕ) (kind : Kind) → IsQuiet kind → LeavesBytes (call_by s d f kind)
   quiet d Attaching is = tt
   quiet d Syncing is = tt
   quiet d Reading is = tt
   quiet d (Putting p call) is = absurd is
 
-  reads_on : (d e : ℕ) (call : device.Call) → length (f d) < 3 → (o : Option Kind) → slice_get seventeen (length (f d)) ≡ o → with_disk d (option_map (call_by s d f) o) ≡ Some (e, call) → OnlyReads call
+  reads_on : (d e : ℕ) (call : device.Call) → length (f d) < 3 → (o : Option Kind) → slice_get seventeen (length (f d)) ≡ o → with_disk d (option_map (call_by s d f) o) ≡ Some (e, call) → LeavesBytes call
   reads_on d e call short None at is = absurd (cc)
   reads_on d e call short (Some kind) at is =
-      subst OnlyReads (same_call d e (call_by s d f kind) call is) (quiet d kind (early (length (f d)) kind short at))
+      subst LeavesBytes (same_call d e (call_by s d f kind) call is) (quiet d kind (early (length (f d)) kind short at))
 
-  reads_in : (e : ℕ) (call : device.Call) (st : Status) → status s f ≡ st → next_in s f st ≡ Some (e, call) → OnlyReads call
+  reads_in : (e : ℕ) (call : device.Call) (st : Status) → status s f ≡ st → next_in s f st ≡ Some (e, call) → LeavesBytes call
   reads_in e call (Due p d) due is =
       let at = due_is s f p d due in
       let first : IsFirst s.disks (λ e. waits s p (f e)) d = visit s p d f at in
@@ -109,7 +109,7 @@ module _ (s : Setup) (f : Answers) (high : LAST_BALLOT ≤ s.floor) where
       reads_on d e call short (slice_get seventeen (length (f d))) refl is
   reads_in e call (Ended end) due is = absurd (cc)
 
-  pub reads : (d : ℕ) (call : device.Call) → next_call s f ≡ Some (d, call) → OnlyReads call
+  pub reads : (d : ℕ) (call : device.Call) → next_call s f ≡ Some (d, call) → LeavesBytes call
   reads d call is = reads_in d call (status s f) refl is
 
 -- at most three a disk

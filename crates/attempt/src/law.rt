@@ -8,7 +8,7 @@ ghost use Rattle.attempt.specs.Answers.{Answered, Answers, on};
 ghost use Rattle.attempt.specs.Setup.{Setup};
 ghost use Rattle.attempt.specs.Status.{Due, Ended, End, Committed, Decided, Empty, NoMajority, status, taken};
 ghost use Rattle.attempt.specs.History.{IsHistory};
-ghost use Rattle.attempt.specs.Looking.{OnlyReads, EndsTheOpening};
+ghost use Rattle.attempt.specs.Looking.{LeavesBytes, EndsTheOpening};
 ghost use Rattle.attempt.specs.NextCall.{next_call};
 ghost use Rattle.attempt.specs.Prepared.{Proposes, IsPrepared, IsAccepted, IsProposal, HasNoInput, IsMarkSeen, AreVotes};
 ghost use Rattle.attempt.specs.Laws.{AllAnswerWell, MostAnswerWell, OthersRest, IsServed, CanEnd};
@@ -75,7 +75,7 @@ pub fn without_a_ballot()
     ensures opening { (s : Setup) (f : Answers) (p : Phase) (d : ℕ) → LAST_BALLOT ≤ s.floor →
         status s f ≡ Due p d → p ≡ Opening }
     ensures reads { (s : Setup) (f : Answers) (d : ℕ) (call : Call) → LAST_BALLOT ≤ s.floor →
-        next_call s f ≡ Some (d, call) → OnlyReads call }
+        next_call s f ≡ Some (d, call) → LeavesBytes call }
     ensures three { (s : Setup) (heard : List Answered) → LAST_BALLOT ≤ s.floor →
         IsHistory s heard → length heard ≤ 3 * s.disks }
     ensures ends { (s : Setup) (f : Answers) (end : End) → LAST_BALLOT ≤ s.floor →

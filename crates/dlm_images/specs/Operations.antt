@@ -42,7 +42,7 @@ abbrev pub AreDue : Shape → ℕ → Memory → List Made → Type 0
 AreDue c h m [] = Unit {0}
 AreDue c h m (x ∷ xs) = IsDue c h m x × AreDue c h (after_call c h m x) xs
 
--- none of them writes
+-- none of them writes or syncs
 abbrev pub AreReads : List Made → Type 0
 AreReads [] = Unit {0}
 AreReads (x ∷ xs) = OnlyReads x.call × AreReads xs

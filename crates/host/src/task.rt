@@ -7,9 +7,9 @@ pub enum Task {
     Submit { command: Command, tries: u8 },
     /// To learn all that is in the log. Up to `tries` attempts may be outrun, the last of which ends the task.
     Recover { tries: u8 },
-    /// To learn the commands that marks tell, slot by slot, up to the first slot of which none does. Each slot's row is read first on the
-    /// disk that told the last command, and the first slot's on disk 0. A look syncs and writes nothing, and outruns nobody; but what was
-    /// acknowledged and not marked is not found.
+    /// To learn the commands that marks tell, slot by slot, up to the first slot of which more than half of the disks show a sound row without
+    /// a mark. Each slot's row is read first on the disk that told the last command, and the first slot's on disk 0. A look syncs and writes
+    /// nothing, and outruns nobody; but what was acknowledged and not marked is not found.
     Look,
     /// To beat: this host's heartbeat blocks get their next sequence numbers, and the counters of all hosts are read.
     Beat,

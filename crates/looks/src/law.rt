@@ -27,7 +27,7 @@ pub fn two_calls_a_disk()
         ≡ Ended (Decided s.first value) }
 {}
 
-/// No call of a look changes a byte of its disk.
+/// No call of a look writes or syncs: it attaches, or reads.
 pub fn only_attaches_and_reads()
     ensures { (s : Setup) (f : Answers) (d : ℕ) (call : Call) →
         next_call s f ≡ Some (d, call) → OnlyReads call }

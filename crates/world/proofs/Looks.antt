@@ -56,8 +56,9 @@ reads_only c h k m t call is next = histories.reads (look_of c m t.first) (on t.
 
 -- WHAT IT LEAVES
 
-leaves : (old : DiskState) (call : Call) (answer : Answer) (left : List ℕ) → OnlyReads call → (called_by old call answer left).bytes ≡ old.bytes
+leaves : (old : DiskState) (call : Call) (answer : Answer) (left : List ℕ) → OnlyReads call → called_by old call answer left ≡ old
 leaves old (Write boot at from) answer left reads = absurd reads
+leaves old (Sync boot) answer left reads = absurd reads
 leaves old call (Fault Failed) left reads = refl
 leaves old call answer left reads = refl
 
@@ -74,12 +75,12 @@ module _ (c : Shape) (w : World) (h d : ℕ) (m : Memory) (t : Looking) (running
   torn g k (Write boot at from) left same may = quiet g k (Write boot at from) same may.0
   torn g k (Sync boot) left same may = may.1
 
-  pub bytes_stay : (e : Filled) → MayFollow c w e → is_of h e ≡ true → (disk_step (w.disk d) e).bytes ≡ (w.disk d).bytes
-  bytes_stay (Start g) may of = refl
-  bytes_stay (Stop g) may of = refl
-  bytes_stay (Begin g task) may of = refl
-  bytes_stay (Called g k call answer left) may of = leaves (w.disk d) call answer left (quiet g k call (eqb-true g h of) may.0)
-  bytes_stay (Torn g k call left) may of = absurd (torn g k call left (eqb-true g h of) may)
-  bytes_stay (Crashed k left) may of = absurd (cc)
-  bytes_stay (Lost k) may of = absurd (cc)
-  bytes_stay (Migrated disks log) may of = absurd may
+  pub disk_stays : (e : Filled) → MayFollow c w e → is_of h e ≡ true → disk_step (w.disk d) e ≡ w.disk d
+  disk_stays (Start g) may of = refl
+  disk_stays (Stop g) may of = refl
+  disk_stays (Begin g task) may of = refl
+  disk_stays (Called g k call answer left) may of = leaves (w.disk d) call answer left (quiet g k call (eqb-true g h of) may.0)
+  disk_stays (Torn g k call left) may of = absurd (torn g k call left (eqb-true g h of) may)
+  disk_stays (Crashed k left) may of = absurd (cc)
+  disk_stays (Lost k) may of = absurd (cc)
+  disk_stays (Migrated disks log) may of = absurd may

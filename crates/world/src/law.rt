@@ -157,16 +157,16 @@ pub fn looks_hear_histories()
         (heard : List Answered) → IsRun c log → HearsLooking c log i s heard → IsLookHistory s heard }
 {}
 
-/// A host that looks makes calls that only read, at most two a disk for each slot, and leaves the bytes of every disk as they
-/// were. It says how many commands it has learned, or that too few disks are left, or that what was decided is no command: it
-/// is not outrun, and has no ballot to spend.
+/// A host that looks makes calls that only attach and read, at most two a disk for each slot, and leaves every disk as it was:
+/// it writes nothing, and syncs nothing. It says how many commands it has learned, or that too few disks are left, or that what
+/// was decided is no command: it is not outrun, and has no ballot to spend.
 pub fn looks_only_read()
     ensures reads { (c : Shape) (h k : ℕ) (m : Memory) (t : Looking) (call : Call) → m.doing ≡ Some (Looks t) →
         next_of c h (Running m) ≡ Some (k, call) → OnlyReads call }
-    ensures bytes { (c : Shape) (log : List Filled) (h k : ℕ) (m : Memory) (t : Looking) (e : Filled) →
+    ensures disk { (c : Shape) (log : List Filled) (h k : ℕ) (m : Memory) (t : Looking) (e : Filled) →
         (world c log).host h ≡ Running m → m.doing ≡ Some (Looks t) →
         MayFollow c (world c log) e → is_of h e ≡ true →
-        (disk_step ((world c log).disk k) e).bytes ≡ ((world c log).disk k).bytes }
+        disk_step ((world c log).disk k) e ≡ (world c log).disk k }
     ensures begins { (c : Shape) (m : Memory) → let new = starts c m Look in
         SaysLooking (length new.learned) new.said }
     ensures says { (c : Shape) (h k : ℕ) (m : Memory) (t : Looking) (answer : Answer) → m.doing ≡ Some (Looks t) →
