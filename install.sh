@@ -3,7 +3,7 @@
 # where one is given, as for a package. install.sh uninstall: takes them out. Both print the files.
 # In a checkout the program is built first, if it has to be. The library for C, with the programs over it, goes with it where it is built
 # (capi/build.sh); else that is said on standard error. capi/install.sh asks for that part alone: install.sh install library.
-# In an archive of release.sh all is there; its pages, its examples and BUILT go to share/doc/midgegalena.
+# In an archive of release.sh all is there; its pages, what they name, and BUILT go to share/doc/midgegalena.
 set -euo pipefail
 
 top=$(dirname -- "$(readlink -f -- "${BASH_SOURCE[0]}")")
@@ -12,7 +12,7 @@ root=${DESTDIR-}$prefix
 doc=share/doc/midgegalena
 version=$(<"$top/VERSION")
 is_archive=1 dlm=bin/dlm headers=include libraries=lib programs=bin
-if [[ -d $top/crates ]]; then
+if [[ ! -f $top/BUILT ]]; then
     is_archive=0 dlm=crates/dlm/out/dlm headers=capi/include libraries=capi/out programs=capi/out
 fi
 
@@ -49,11 +49,13 @@ completions_of() {
 }
 
 each_of_pages() {
-    local page
+    local page mode
     shopt -s globstar
     cd -- "$top"
-    for page in README.md CHANGES.md BUILT docs/** examples/** capi/**; do
-        [[ -d $page ]] || "$1" "$page" "$doc/$page" 644
+    for page in README.md CHANGES.md VERSION BUILT {bench,capi,crates,docs,examples,man,tests}/**; do
+        mode=644
+        [[ ! -x $page ]] || mode=755
+        [[ -d $page ]] || "$1" "$page" "$doc/$page" "$mode"
     done
 }
 

@@ -1,7 +1,8 @@
 #!/usr/bin/env bash
 # release.sh [FOLDER]: makes an archive that installs on another machine without Rattle's kit, and a Debian package of it, and prints their paths.
-# In it: dlm, mg-lock, dlm-shared, dlm-mount, the library for C with its examples and its package for Python, manual pages, completions, README, CHANGES.md, docs,
-# install.sh, SHA256SUMS, and BUILT: version, commit, what was proved with which line of `rt version`, and what was not proved.
+# In it: dlm, mg-lock, dlm-shared, dlm-mount, the library for C with its examples and its package for Python, manual pages, completions, all pages of the repository
+# and what their links lead to, install.sh, SHA256SUMS, and BUILT: version, commit, what was proved with which line of `rt version`, and what was not proved.
+# A link that leads nowhere in it is refused.
 # What is not proved here is not packed: ./dlm and capi/build.sh prove and build, and are run first where something is missing.
 # Two runs on one commit make the same archive and the same package, byte for byte. Without FOLDER they go into release/.
 set -euo pipefail
@@ -33,13 +34,15 @@ time=$(git -C "$top" log -1 --format=%ct)
 work=$(mktemp -d)
 trap 'rm -r -- "$work"' EXIT
 whole=$work/$name
-mkdir -p -- "$whole/"{bin,lib,include,capi} "$into"
+mkdir -p -- "$whole/"{bin,lib,include} "$into"
 cp -- "$top/crates/dlm/out/dlm" "$made/"{mg-lock,dlm-shared,dlm-mount} "$whole/bin"
 cp -- "$made/"{libmidgegalena.a,"libmidgegalena.so.$version",midgegalena.pc} "$whole/lib"
 cp -- "$top/capi/include/"*.h "$whole/include"
-cp -- "$top/"{README.md,CHANGES.md,VERSION,install.sh} "$whole"
+cp -- "$top/"{VERSION,install.sh} "$whole"
 # What git knows of these: no output of a build and no cache is among it.
-git -C "$top" ls-files -z man completions docs 'examples/*.dlm' 'examples/*.out' 'examples/*.err' examples/README.md capi/examples capi/python | tar -C "$top" --null --files-from=- -cf - | tar -C "$whole" -xf -
+git -C "$top" ls-files -z '*.md' 'docs/*.svg' man completions 'examples/*.dlm' 'examples/*.out' 'examples/*.err' examples/slots.sh capi/{examples,include,python} capi/src/mg-lock.c |
+    tar -C "$top" --null --files-from=- -cf - | tar -C "$whole" -xf -
+"$top/tests/links.py" "$whole" > "$work/links" || fail "a link of a page leads nowhere in what was packed:"$'\n'"$(<"$work/links")"
 
 # The version of the C library that the programs ask for.
 glibc=$(objdump -T "$whole/bin/"* "$whole/lib/"*.so.* | sed -n 's/.*GLIBC_\([0-9.]*\).*/\1/p' | sort -uV | tail -n 1)
@@ -48,7 +51,7 @@ version $version
 commit $commit
 proved with $(rt version)
 dlm: proved
-libmidgegalena, mg-lock, dlm-shared, dlm-mount: proved is crates/dlm_c, with all below it; no proof covers their C (docs/LIBRARY.md, What is trusted)
+libmidgegalena, mg-lock, dlm-shared, dlm-mount: proved is crates/dlm_c, with all below it; no proof covers their C (capi/README.md, What is trusted)
 runs on $(uname -s) $(uname -m), with the GNU C library $glibc or a later one
 END
 (cd -- "$whole" && find . -type f -printf '%P\0' | LC_ALL=C sort -z | xargs -0 sha256sum) > "$work/sums"

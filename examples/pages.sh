@@ -1,8 +1,8 @@
 #!/usr/bin/env bash
 # pages.sh [PAGE..]: runs the commands of pages, which stand behind `$ ` in their blocks without a language (what goes on with
 # `> ` is the same command's), and compares what they print with what stands below them. Without a page: those that have any.
-# The commands of a page are run in turn in a folder of its own, which is on the path and has links to the program, crates, docs,
-# examples and tests of the top. Blocks of `rt` are left out.
+# The commands of a page are run in turn in a folder of its own, which has links to the program, crates, docs, examples and tests of
+# the top. For a manual page it is on the path, as a program that is installed; no other page may need that. Blocks of `rt` are left out.
 set -uo pipefail
 
 source "$(dirname -- "$(readlink -f -- "${BASH_SOURCE[0]}")")/../tests/lib.sh"
@@ -42,6 +42,11 @@ run_command() {
     command=
 }
 
+# A `dlm` that this machine has on its path is not the one of the pages.
+mkdir -- "$work/none"
+printf '#!/bin/sh\necho "dlm: not found" >&2\nexit 127\n' >"$work/none/dlm"
+chmod +x -- "$work/none/dlm"
+
 for page in "$@"; do
     name=$(realpath --relative-to="$top" -- "$page")
     rm -rf -- "$work/folder"
@@ -49,7 +54,9 @@ for page in "$@"; do
     # Only these: a folder `images` at the top belongs to the user, and pages damage the one that they make.
     ln -s -- "$top"/{dlm,crates,docs,examples,tests} "$work/folder"
     blocks "$page" >"$work/wanted"
-    (cd -- "$work/folder" && PATH=$PWD:$PATH run_commands) <"$work/wanted" >"$work/printed"
+    path=$work/none
+    [[ $page != *.[1-8] ]] || path=$work/folder
+    (cd -- "$work/folder" && PATH=$path:$PATH run_commands) <"$work/wanted" >"$work/printed"
     if diff -u --label "$name" --label "what is printed" "$work/wanted" "$work/printed"; then
         echo "$name: $(grep -c '^\$ ' "$work/wanted") commands, as it says"
     else

@@ -1,8 +1,8 @@
 #!/usr/bin/env bash
 # release.sh twice on one commit: the same archive and the same Debian package. The archive has all, installs and runs where there is no `rt`, a program is compiled
-# with its library, and it goes out again. The package has no error that lintian knows; it is installed into a copy of this system that goes when the test ends, and
-# removed. usr/ and from_c/, which README's commands make, are no reason to refuse. Changes that are not committed are one, and so is each file that was not proved
-# and built here.
+# with its library, and it goes out again. Each link of its pages leads somewhere, also once it is installed. The package has no error that lintian knows; it is
+# installed into a copy of this system that goes when the test ends, and removed. usr/ and from_c/, which README's commands make, are no reason to refuse. Changes that
+# are not committed are one, and so is each file that was not proved and built here.
 set -uo pipefail
 
 source "$(dirname -- "$(readlink -f -- "${BASH_SOURCE[0]}")")/lib.sh"
@@ -55,12 +55,25 @@ done
 grep -q '^proved with .* logic [0-9a-f]*$' BUILT || fail "BUILT names no logic of the kit"
 grep -q '^libmidgegalena, .* no proof covers their C' BUILT || fail "BUILT does not say what is not proved"
 # All that is named here, and each page that the repository has.
-wanted=(bin/{dlm,mg-lock,dlm-shared,dlm-mount} lib/{libmidgegalena.a,"libmidgegalena.so.$version",midgegalena.pc} README.md CHANGES.md VERSION install.sh)
-mapfile -t -O "${#wanted[@]}" wanted < <(git -C "$top" ls-files man completions docs capi/examples capi/python 'examples/*.dlm')
+wanted=(bin/{dlm,mg-lock,dlm-shared,dlm-mount} lib/{libmidgegalena.a,"libmidgegalena.so.$version",midgegalena.pc} VERSION install.sh examples/slots.sh)
+mapfile -t -O "${#wanted[@]}" wanted < <(git -C "$top" ls-files '*.md' 'docs/*.svg' man completions capi/examples capi/python 'examples/*.dlm')
 for file in "${wanted[@]}" include/{midgegalena,mg_session}.h; do
     [[ -f $file ]] || fail "the archive has no $file"
 done
 [[ -z $(find . -name '*.rt' -o -name '*.antt' -o -name '__pycache__' -o -name '*.o') ]] || fail "the archive has sources of crates, or what a build left"
+
+# links FOLDER WHAT: each link of its pages leads somewhere in it.
+links() {
+    "$tests/links.py" "$1" > "$work/told" || fail "$2: $(<"$work/told")"
+}
+links . "the archive"
+cp -r -- . "$work/lacking"
+rm -- "$work/lacking/capi/README.md"
+"$tests/links.py" "$work/lacking" > "$work/told" && fail "a page that is not there is not missed"
+cited=$(sed -n 's/.* no proof covers their C (\(.*\), \(.*\))$/\1:## \2/p' BUILT)
+grep -qx -- "${cited#*:}" "${cited%%:*}" || fail "BUILT cites what is not there: $cited"
+mkdir -- "$work/slots" && bin/dlm format "$work/slots" 3 64 7 > /dev/null
+[[ $(PATH=/usr/bin:/bin examples/slots.sh "$work/slots" 15) == '0 of 64 slots' ]] || fail "slots.sh does not find the program of the archive"
 
 # A path on which there is no rt: the tools that install.sh takes, and no others.
 mkdir -- "$work/tools"
@@ -77,6 +90,8 @@ for name in mg-lock dlm-shared dlm-mount; do
     [[ $("$usr/bin/$name" --version) == "$name of midgegalena $version" ]] || fail "$name shows another version"
 done
 cmp -- BUILT "$usr/share/doc/midgegalena/BUILT" || fail "BUILT is not installed"
+links "$usr/share/doc/midgegalena" "what is installed"
+[[ $(PATH=$usr/bin:/usr/bin:/bin "$usr/share/doc/midgegalena/examples/slots.sh" "$work/slots" 15) == '0 of 64 slots' ]] || fail "slots.sh does not run where it is installed"
 echo kept > "$usr/share/doc/midgegalena/somebody else's"
 PATH=$work/tools DESTDIR=$work/root ./install.sh uninstall > /dev/null || fail "uninstall ends with $?"
 [[ $(find "$work/root" ! -type d -printf '%f\n') == "somebody else's" ]] || fail "leaves files behind, or takes somebody else's"
@@ -114,8 +129,9 @@ else
     dpkg-deb -e "$package" "$work/control"
     [[ $(cd -- "$work/control" && echo *) == 'control md5sums shlibs triggers' ]] || fail "the package has scripts: $(ls "$work/control")"
     cmp -- "$work/unpacked/usr/bin/dlm" bin/dlm || fail "the package's dlm is not the one that was proved"
+    links "$work/unpacked/usr/share/doc/midgegalena" "the package"
     # Of the archive each file is there; Debian's own are left aside. Manual pages are compressed.
-    diff <(PATH=$work/tools PREFIX=/usr DESTDIR=$work/as_package ./install.sh > /dev/null; cd -- "$work/as_package" && find . ! -type d -print | sed 's|\(/man/.*\)|\1.gz|' | LC_ALL=C sort) \
+    diff <(PATH=$work/tools PREFIX=/usr DESTDIR=$work/as_package ./install.sh > /dev/null; cd -- "$work/as_package" && find . ! -type d -print | sed 's|\(/share/man/.*\)|\1.gz|' | LC_ALL=C sort) \
         <(cd -- "$work/unpacked" && find . ! -type d ! -name copyright ! -name 'changelog*' ! -path '*/lintian/*' | LC_ALL=C sort) || fail "the package has other files than the archive installs"
     if command -v lintian > /dev/null; then
         lintian --allow-root --fail-on error "$package" > "$work/told" 2>&1 || { fail "lintian finds errors"; grep '^E:' "$work/told"; }
