@@ -25,10 +25,10 @@ KNOWN = {
     ("docs/OPERATIONS.md", "groupadd dlm"): "tests/users.sh, with numbers in the place of a group and its users",
     ("docs/OPERATIONS.md", "mkdir /var/lib/dlm && chgrp"): "tests/users.sh, below a folder of its own",
     ("docs/OPERATIONS.md", "(umask 007; "): "tests/users.sh, below a folder of its own",
-    ("docs/OPERATIONS.md", "ini: [Unit]"): "nothing: systemd-analyze verify, by hand",
-    ("docs/OPERATIONS.md", "ini: # backup.timer"): "nothing: no service manager is started",
-    ("docs/OPERATIONS.md", "ini: # only.service"): "nothing: no service manager is started",
-    ("docs/OPERATIONS.md", "ini: # dlm-recover.service"): "nothing: no service manager is started",
+    ("docs/OPERATIONS.md", "ini: # dlm-recover.service"): "nothing: no service manager is started; systemd-analyze verify, by hand",
+    ("docs/OPERATIONS.md", "ini: # backup.service"): "nothing: the same; tests/pages.sh reads what it waits for",
+    ("docs/OPERATIONS.md", "ini: # backup.timer"): "nothing: the same",
+    ("docs/OPERATIONS.md", "ini: # only.service"): "nothing: the same; tests/pages.sh reads what it waits for",
 }
 # Of these each line is a command; a block in another language is told once, by its first line.
 SHELLS = ("", "sh", "bash")

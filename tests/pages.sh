@@ -1,5 +1,6 @@
 #!/usr/bin/env bash
 # examples/pages.sh runs the commands of a page in a folder of its own: what a user keeps at the top under the same name stays as it is. And each page has folders of its own names.
+# Of the units and the crontab of the operations page it is seen that nothing takes a lock before what a machine left is released.
 set -uo pipefail
 
 source "$(dirname -- "$(readlink -f -- "${BASH_SOURCE[0]}")")/lib.sh"
@@ -28,6 +29,27 @@ sed 's/^zeros$/ones/' "$work/page.md" > "$work/wrong.md"
 
 twice=$(cd -- "$top" && grep -oE '^\$ .*mkdir [a-z_-]+' README.md docs/*.md crates/dlm/README.md man/dlm.1 | sed 's/^\(.*\):.* /\1 /' | sort -u | cut -d ' ' -f 2 | sort | uniq -d)
 [[ -z $twice ]] || fail "folders of two pages: $twice"
+
+# unordered PAGE: what takes locks and does not wait, what releases them more than once, and whether there are both.
+unordered() {
+    awk '/^```ini$/ { inside = 1; takes = releases = waits = once = 0; name = "" }
+        inside && /^# / { name = $2 }
+        inside && /^ExecStart=.*mg-lock --recover / { releases = 1 }
+        inside && /^ExecStart=.*mg-lock / && !/ --recover / { takes = 1 }
+        inside && /^(Requires|After)=dlm-recover\.service$/ { waits++ }
+        inside && /^RemainAfterExit=yes$/ { once = 1 }
+        inside && /^```$/ {
+            if (takes && waits < 2) print name " takes locks before they are released"
+            if (releases && (!once || name != "dlm-recover.service")) print name " releases locks at each start"
+            services += takes; recoveries += releases; inside = 0
+        }
+        /^[0-9*\/]+ [0-9*]+ [0-9*]+ [0-9*]+ [0-9*]+ .*mg-lock / { jobs++ }
+        /^[0-9*\/]+ [0-9*]+ [0-9*]+ [0-9*]+ [0-9*]+ .*mg-lock / && !/ \[ -e \/run\/dlm-recovered \] && mg-lock / { print "cron takes locks before they are released: " $0 }
+        /^@reboot .*mg-lock --recover --all .*; touch \/run\/dlm-recovered$/ { starts++ }
+        END { if (!services || recoveries != 1 || !jobs || starts != 1) print "there are " services + 0 " services, " recoveries + 0 " recoveries, " jobs + 0 " jobs, " starts + 0 " starts" }' "$1"
+}
+told=$(unordered "$top/docs/OPERATIONS.md")
+[[ -z $told ]] || fail "operations: $told"
 
 [[ $failed -eq 0 ]] && echo "pages.sh: each page keeps to its own folder"
 exit $((failed > 0))
