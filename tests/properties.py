@@ -1,7 +1,7 @@
 #!/usr/bin/env python3
 """properties.py: what each layer promises to the one above it, from the section `What is proved` of each crate's README, in the order of crates.txt.
-Without a word it sees that each function, clause and definition that such a table names stands in the files that the row names, and says how many.
-The status is 1 where one does not. `properties.py all` prints the sections, `properties.py CRATE..` those of these crates."""
+Without a word it sees that each function, clause and definition that such a table or the one of docs/PROOFS.md names stands in the files that the row names, or
+in their crate's specs, and says how many. The status is 1 where one does not. `properties.py all` prints the sections, `properties.py CRATE..` those of these crates."""
 
 import os
 import re
@@ -9,6 +9,8 @@ import sys
 
 TOP = os.path.dirname(os.path.dirname(os.path.realpath(__file__)))
 HEAD = "| promise | function: clauses | file of `src/` |"
+PAGE = "docs/PROOFS.md"
+HEAD_OF_PAGE = "| promise | function: clauses | file |"
 SECTION = re.compile(r"^## (?!.*\bnot\b).*proved\b.*$", re.MULTILINE | re.IGNORECASE)
 
 
@@ -31,10 +33,10 @@ def section(crate):
     return page[head.end() : end if end >= 0 else len(page)].strip()
 
 
-def rows(part):
-    """The rows of the table of promises, each as its three cells."""
-    _, head, table = part.partition(HEAD)
-    for line in table.split("\n")[2:] if head else []:
+def rows(part, head):
+    """The rows of a table of promises with this head, each as its three cells."""
+    _, found, table = part.partition(head)
+    for line in table.split("\n")[2:] if found else []:
         if not line.startswith("|"):
             return
         yield [it.strip() for it in re.split(r"(?<!\\)\|", line)[1:-1]]
@@ -46,12 +48,25 @@ def definitions(crate):
         yield from (text_of(f"{folder}/{name}") for name in sorted(names) if name.endswith(".antt"))
 
 
-def sources(crate, cell):
-    """The text of the files that a row names, those of another crate by its folder."""
+def files_of(own, cell):
+    """The crate and the path of each file that a row names. One without a folder is of the README's crate, on the page of all crates of the one named before."""
+    last = own
     for name in re.findall(r"`([\w/]+\.rt)`", cell):
         of, _, file = name.rpartition("/src/")
-        path = f"{TOP}/crates/{of or crate}/src/{file or name}"
-        yield text_of(path) if os.path.isfile(path) else None
+        last = own or of or last
+        yield of or last, f"{TOP}/crates/{of or last}/src/{file or name}"
+
+
+def fault_of(own, by, cell):
+    """What is wrong with a row; empty where nothing is."""
+    files = list(files_of(own, cell))
+    if not files or not all(os.path.isfile(path) for _, path in files):
+        return "there is no such file"
+    named = {own} if own else {crate for crate, _ in files}
+    texts = [text_of(path) for _, path in files] + [it for crate in named for it in definitions(crate)]
+    found = named | set(re.findall(r"\w+", " ".join(texts)))
+    lacking = [it for it in re.findall(r"\w+", " ".join(re.findall(r"`([^`]*)`", by))) if it not in found]
+    return f"it has no {', '.join(lacking)}" if lacking else ""
 
 
 def main(words):
@@ -60,20 +75,14 @@ def main(words):
             if part := section(crate):
                 print(f"# {crate}\n\n{part}\n")
         return 0
+    tables = [(crate, rows(section(crate), HEAD)) for crate in crates()] + [("", rows(text_of(f"{TOP}/{PAGE}"), HEAD_OF_PAGE))]
     count = wrong = 0
-    for crate in crates():
-        for promise, by, files in rows(section(crate)):
+    for own, table in tables:
+        for promise, by, cell in table:
             count += 1
-            texts = list(sources(crate, files))
-            if not texts or None in texts:
+            if fault := fault_of(own, by, cell):
                 wrong += 1
-                print(f"{crate}: {files}: there is no such file: {promise[:80]}")
-                continue
-            found = set(re.findall(r"\w+", " ".join([*texts, *definitions(crate)])))
-            lacking = [it for it in re.findall(r"\w+", " ".join(re.findall(r"`([^`]*)`", by))) if it not in found]
-            if lacking:
-                wrong += 1
-                print(f"{crate}: {files} has no {', '.join(lacking)}: {promise[:80]}")
+                print(f"{own or PAGE}: {cell}: {fault}: {promise[:80]}")
     print(f"properties.py: {count} promises by function and clause, {wrong} of them name what is not there")
     return 1 if wrong or not count else 0
 
