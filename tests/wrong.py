@@ -2,13 +2,13 @@
 """wrong.py: the wrong bodies and definitions of wrong/, which `rt ci` does not try, and when they are due.
 
     wrong.py                what is due, and why; and whether each edit of wrong/ and of must-fail/ can still be applied
-    wrong.py try CRATE..    has the checker try all of wrong/ in these crates (`all`: in each), and records in wrong/tried that it refused each
+    wrong.py try CRATE..    has the checker try what is due in these crates (`all`: in each; where nothing is due, all of wrong/), and records in wrong/tried what it refused
     wrong.py note CRATE..   records the same of what `rt ci` or `rt must-fail` printed on standard input, over a copy of these very crates
     wrong.py put            puts a copy of the edits that are due into must-fail/, where `rt ci` tries them: as many crates as have 100 together
     wrong.py back           takes these copies out again
 
-A crate is due where its src/, specs/, proofs/ or wrong/ differ from what wrong/tried says was tried, but for lines that are comments. In turn, one crate in twelve is due each day,
-for a change of the crates below it could let a wrong body through. With WRONG=all in the environment each crate is due.
+An edit is due where it, or its crate's src/, specs/ or proofs/, differs from what wrong/tried says was tried, but for lines that are comments. In turn, one crate in twelve is due
+each day with all its edits, for a change of the crates below it could let a wrong body through. With WRONG=all in the environment each edit is due.
 
 A run of the gate has a limited time. So `put` leaves out the crates that have too many edits, and says which. They stay due, and each day `put` begins with another crate.
 With WRONG=all none is left out.
@@ -43,13 +43,12 @@ def text_of(file):
 
 
 def files_of(crate):
-    """The files that decide whether the crate's wrong bodies are refused, but for those of the crates below."""
+    """The files that decide, with an edit, whether it is refused, but for those of the crates below."""
     top = f"{TOP}/crates/{crate}"
     for part in ("src", "specs", "proofs"):
         for folder, folders, names in os.walk(f"{top}/{part}"):
             folders.sort()
             yield from (os.path.relpath(f"{folder}/{name}", top) for name in sorted(names))
-    yield from (f"wrong/{name}" for name in edits_of(crate))
 
 
 def checked_text(path, text):
@@ -58,22 +57,35 @@ def checked_text(path, text):
     return [line for line in text.split("\n") if comment is None or line.strip() and not line.lstrip().startswith(comment)]
 
 
-def sum_of(crate):
-    found = hashlib.sha256(crate.encode())
+def sums_of(crate):
+    """Of each edit the sum of what decides whether it is refused."""
+    below, found = hashlib.sha256(crate.encode()), {}
     for path in files_of(crate):
-        found.update(repr((path, checked_text(path, text_of(f"{TOP}/crates/{crate}/{path}")))).encode())
-    return found.hexdigest()
+        below.update(repr((path, checked_text(path, text_of(f"{TOP}/crates/{crate}/{path}")))).encode())
+    for edit in edits_of(crate):
+        own = below.copy()
+        own.update(repr((edit, text_of(f"{TOP}/crates/{crate}/wrong/{edit}"))).encode())
+        found[edit] = own.hexdigest()[:32]
+    return found
 
 
 def record_of(crate):
     return f"{TOP}/crates/{crate}/wrong/tried"
 
 
-def is_recorded(crate):
+def recorded(crate):
+    """The record's lines that are still so, by edit. Each has the sum, the edit, and the kit that refused it."""
     try:
-        return text_of(record_of(crate)).split()[:1] == [sum_of(crate)]
+        lines = text_of(record_of(crate)).splitlines()
     except OSError:
-        return False
+        return {}
+    sums = sums_of(crate)
+    return {words[1]: line for line in lines if len(words := line.split()) > 2 and sums.get(words[1]) == words[0]}
+
+
+def not_recorded(crate):
+    known = recorded(crate)
+    return [it for it in edits_of(crate) if it not in known]
 
 
 def turns():
@@ -91,16 +103,13 @@ def day():
 
 
 def due():
-    """The crates whose wrong bodies have to be tried now, and why."""
+    """The crates with edits that have to be tried now, which these are, and why."""
     in_turn = turns()[day() % TURNS]
     found = []
     for crate in crates():
-        if not is_recorded(crate):
-            found.append((crate, "as it is now they were not tried"))
-        elif os.environ.get("WRONG") == "all":
-            found.append((crate, "WRONG=all"))
-        elif crate in in_turn:
-            found.append((crate, "in turn"))
+        missing, turn = not_recorded(crate), "WRONG=all" if os.environ.get("WRONG") == "all" else "in turn" if crate in in_turn else ""
+        if missing or turn:
+            found.append((crate, edits_of(crate) if turn else missing, "as it is now they were not tried" if missing else turn))
     return found
 
 
@@ -110,10 +119,10 @@ def parted(found):
         return found, []
     first = day() % len(found)
     taken, left, room = [], [], LIMIT
-    for crate, why in found[first:] + found[:first]:
-        many = len(edits_of(crate))
-        (taken if many <= room else left).append((crate, why))
-        room -= many if many <= room else 0
+    for crate, edits, why in found[first:] + found[:first]:
+        fits = len(edits) <= room
+        (taken if fits else left).append((crate, edits, why))
+        room -= len(edits) if fits else 0
     return taken, left
 
 
@@ -153,13 +162,13 @@ def unfit():
 
 def put():
     taken, left = parted(due())
-    for crate, why in left:
-        print(f"wrong.py: {crate}: {len(edits_of(crate))} wrong bodies stay due, since no more fit in one run: {why}")
-    for crate, why in taken:
+    for crate, edits, why in left:
+        print(f"wrong.py: {crate}: {len(edits)} wrong bodies stay due, since no more fit in one run: {why}")
+    for crate, edits, why in taken:
         os.makedirs(f"{TOP}/crates/{crate}/must-fail", exist_ok=True)
-        for edit in edits_of(crate):
+        for edit in edits:
             shutil.copyfile(f"{TOP}/crates/{crate}/wrong/{edit}", f"{TOP}/crates/{crate}/must-fail/{edit}")
-        print(f"wrong.py: {crate}: {len(edits_of(crate))} more wrong bodies are tried: {why}")
+        print(f"wrong.py: {crate}: {len(edits)} more wrong bodies are tried: {why}")
 
 
 def back():
@@ -184,18 +193,18 @@ def with_those_below(names):
     return found
 
 
-def copy_with(names, to):
-    """Makes a repository of these crates, with their wrong bodies in must-fail/, and of those that they stand on, which have none."""
-    needed = with_those_below(names)
+def copy_with(tried, to):
+    """Makes a repository of these crates, with these wrong bodies in must-fail/, and of those that they stand on, which have none."""
+    needed = with_those_below(tried)
     os.makedirs(f"{to}/.git")
     shutil.copy(f"{TOP}/HANDLES", to)
     with open(f"{to}/crates.txt", "w", encoding="utf-8") as it:
         it.writelines(f"{line}\n" for line in needed.values())
     for crate in needed:
         shutil.copytree(f"{TOP}/crates/{crate}", f"{to}/crates/{crate}", ignore=shutil.ignore_patterns("out", "must-fail", "wrong"))
-    for crate in names:
+    for crate, edits in tried.items():
         os.mkdir(f"{to}/crates/{crate}/must-fail")
-        for edit in edits_of(crate):
+        for edit in edits:
             shutil.copyfile(f"{TOP}/crates/{crate}/wrong/{edit}", f"{to}/crates/{crate}/must-fail/{edit}")
 
 
@@ -204,34 +213,39 @@ def refused_by(line):
 
 
 def attempt(names):
-    """Tries all of wrong/ in these crates, and records those of which each was refused. Of any other the record goes."""
-    sums = {it: sum_of(it) for it in names}
+    """Tries what is due in these crates, or all of wrong/ where nothing is, and records what was refused. Of what was not the record goes."""
+    everything = os.environ.get("WRONG") == "all"
+    tried = {it: edits_of(it) if everything else not_recorded(it) or edits_of(it) for it in names}
+    sums = {it: sums_of(it) for it in names}
     refused = set()
     with tempfile.TemporaryDirectory() as room:
-        copy_with(names, room)
+        copy_with(tried, room)
         with subprocess.Popen(["rt", "ci"], cwd=room, stdin=subprocess.DEVNULL, stdout=subprocess.PIPE, text=True, errors="replace") as ran:
             for line in ran.stdout:
                 refused.update(refused_by(line))
                 if re.match(r"rt: |\d+ passed", line):
                     print(line, end="", flush=True)
-    return record(names, sums, refused)
+    return record(tried, sums, refused)
 
 
-def record(names, sums, refused):
-    """Records the crates whose edits were all refused, and whose files have these sums still. Of any other the record goes."""
+def record(tried, sums, refused):
+    """Records those of these edits that were refused, if their crates' files have these sums still. Of the others the record goes."""
     version = subprocess.run(["rt", "version"], stdout=subprocess.PIPE, text=True, check=True).stdout.strip()
     missed = False
-    for crate in names:
-        lost = [it for it in edits_of(crate) if f"{crate}/{it}" not in refused]
-        if lost or sum_of(crate) != sums[crate]:
-            if os.path.exists(record_of(crate)):
-                os.remove(record_of(crate))
-            print(f"wrong.py: {crate}: no record is kept: " + (f"not refused: {' '.join(lost)}" if lost else "its files changed meanwhile"))
-            missed = True
-        else:
+    for crate, edits in tried.items():
+        known, now = recorded(crate), sums_of(crate)
+        seen = [it for it in edits if f"{crate}/{it}" in refused and now.get(it) == sums[crate][it]]
+        lost = [it for it in edits if it not in seen]
+        lines = {it: line for it, line in known.items() if it not in lost} | {it: f"{sums[crate][it]} {it} {version}" for it in seen}
+        if lines:
             with open(record_of(crate), "w", encoding="utf-8") as it:
-                it.write(f"{sums[crate]}\n{len(edits_of(crate))} refused by {version}\n")
-            print(f"wrong.py: {crate}: {len(edits_of(crate))} refused, and recorded")
+                it.writelines(f"{lines[edit]}\n" for edit in sorted(lines))
+        elif os.path.exists(record_of(crate)):
+            os.remove(record_of(crate))
+        if lost:
+            print(f"wrong.py: {crate}: not refused, or changed meanwhile, and so not recorded: {' '.join(lost)}")
+        print(f"wrong.py: {crate}: {len(seen)} refused, and recorded")
+        missed |= bool(lost)
     return 1 if missed else 0
 
 
@@ -244,7 +258,14 @@ def main():
             sys.exit(f"wrong.py: there is no wrong/ in {' '.join(unknown)}")
         if verb == "try":
             return attempt(names)
-        return record(names, {it: sum_of(it) for it in names}, {it for line in sys.stdin for it in refused_by(line)})
+        refused = {it for line in sys.stdin for it in refused_by(line)}
+        told = {it: [edit for edit in edits_of(it) if f"{it}/{edit}" in refused] for it in names}
+        record(told, {it: sums_of(it) for it in names}, refused)
+        missing = {it: not_recorded(it) for it in names}
+        for crate, edits in missing.items():
+            if edits:
+                print(f"wrong.py: {crate}: still not recorded: {' '.join(edits)}")
+        return 1 if any(missing.values()) else 0
     if verb not in ("", "put", "back") or names:
         sys.exit(__doc__)
     if verb == "back":
@@ -258,8 +279,8 @@ def main():
     if verb == "put":
         put()
     else:
-        for crate, why in due():
-            print(f"{crate}: {len(edits_of(crate))} are due: {why}")
+        for crate, edits, why in due():
+            print(f"{crate}: {len(edits)} are due: {why}")
     return 0
 
 

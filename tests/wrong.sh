@@ -92,10 +92,17 @@ expect "a file was renamed" b
 mv -- "$work/crates/b/specs/Other.antt" "$work/crates/b/specs/Lib.antt"
 sed -i 's/new: 1/new: 2/' "$work/crates/b/wrong/first.edit"
 expect "a wrong body changed" b
+ends 0 "that one alone is due" grep -q '^b: 1 are due' <("$wrong")
 sed -i 's/new: 2/new: 1/' "$work/crates/b/wrong/first.edit"
 mv -- "$work/crates/b/wrong/second.edit" "$work/"
-expect "a wrong body was left out" b
+expect "a wrong body was left out"
 mv -- "$work/second.edit" "$work/crates/b/wrong/"
+cp -- "$work/crates/b/wrong/"{first,third}.edit
+expect "a wrong body was added" b
+ends 0 "that one alone is tried" "$wrong" try b
+ends 0 "and no other" test "$(grep -c ': refused, as it must be' "$work/told")" -eq 1
+expect "what was tried before is still recorded"
+rm -- "$work/crates/b/wrong/third.edit"
 mv -- "$work/crates/c/wrong/tried" "$work/"
 expect "a record is gone" c
 sed 's/^./x/' "$work/tried" > "$work/crates/c/wrong/tried"
@@ -105,17 +112,18 @@ expect "a record of another crate, all of whose files are alike" c
 
 echo d/second.edit > "$LET_THROUGH"
 ends 1 "one is let through" "$wrong" try c d
-expect "one was let through, and its crate has no record" d
+expect "one was let through, and has no record" d
+ends 0 "the other one has" grep -q '^d: 1 are due' <("$wrong")
 : > "$LET_THROUGH"
 ends 0 "it is refused again" "$wrong" try d
 expect "all were tried again"
 
-# What a run of the kit printed of both edits is recorded, and of one alone is not.
+# What a run of the kit printed is recorded, of one edit or of both.
 rm -- "$work/crates/e/wrong/tried"
 printf 'rt: must-fail e/%s.edit: refused, as it must be: a reason\n' first second > "$work/told_by_rt"
 ends 1 "one of two was printed" "$wrong" note e < <(head -n 1 "$work/told_by_rt")
 expect "one of two is not enough" e
-ends 0 "both were printed" "$wrong" note e < "$work/told_by_rt"
+ends 0 "the other one was printed" "$wrong" note e < <(tail -n 1 "$work/told_by_rt")
 expect "what was printed is recorded"
 
 # Each crate is in turn on one of twelve days.
