@@ -11,7 +11,7 @@ copy_crates session "$work/copy"
 copy=$work/copy/crates/session
 cp -- "$tests/claims.txt" "$copy/src/claims.rt"
 printf '\n#[cfg(test)]\nmod claims;\n' >> "$copy/src/lib.rt"
-(cd -- "$copy" && rt try --test < /dev/null) > "$work/told" 2>&1
+(cd -- "$copy" && rt try --seconds 240 --test < /dev/null) > "$work/told" 2>&1
 if ! grep -q '^test claims::nobody_believes_what_is_not_so \.\.\. ok$' "$work/told"; then
     fail "$(<"$work/told")"
 fi
