@@ -24,5 +24,5 @@ listed || failed=1
 "$tests/manual.sh" || failed=1
 "$tests/completions.sh" || failed=1
 "$tests/install.sh" || failed=1
-"$examples/../docs/pictures.sh" check || failed=1
+"$examples/../docs/pictures.py" check || failed=1
 exit "$failed"

@@ -1,9 +1,9 @@
 #!/usr/bin/env python3
-"""timeline.py: what `timeline` draws of three scripts, by the numbers of their events and by the colours of their calls.
+"""pictures.py: what docs/pictures.py draws of two scripts, by the numbers of their events and by the colours of their calls.
 
 What is expected was worked out by hand from the scripts. An event that changes nothing has no column, so each script has a list of those.
-It prints each difference, and how many there were; the status is 1 where there was one. The program has to be built: `rt run` in
-`crates/timeline`, or `rt ci`, does so.
+It prints each difference, and how many there were; the status is 1 where there was one. The variable PROGRAM of the environment names another program
+than `./dlm`.
 """
 import os
 import re
@@ -12,7 +12,7 @@ import sys
 import tempfile
 
 TOP = os.path.dirname(os.path.dirname(os.path.realpath(__file__)))
-PROGRAM = os.path.join(TOP, "crates/timeline/out/timeline")
+DRAW = [os.path.join(TOP, "docs/pictures.py"), "draw"]
 
 # The place of the first column, and how far each is from the next.
 LEFT, WIDE = 52, 9
@@ -30,6 +30,7 @@ step 1 7
 step 0 17
 step 0 17
 """
+RACE_CLASSES = "ooo" + "p" * 7 + "ooo" + "p" * 7 + "v" * 7 + "v" * 7 + "ooopppppppvvvvvvv" * 2
 RACE_TURNS = [(30, "outrun"), (37, "ack 0 Granted"), (54, "learns 0"), (71, "ack 1 Queued")]
 
 # A call fails, a disk crashes, a host is torn, and another disk is lost. Steps of idle hosts change nothing.
@@ -60,27 +61,20 @@ FAULTS_IDLE = [*range(33, 40), 54, 55, 56, 58]
 # The host of a torn write stops with it.
 FAULTS_WORDS = [(23, "fails"), (27, "crash"), (32, "refused"), (52, "torn"), (52, "stop"), (53, "lost"), (57, "stop"), (67, "refused")]
 
-# Host 0 marks the slot that it has learned, and host 1 looks.
-MARKED = """cluster 1 2
-start 0
-submit 0 1 enqueue 1 1 1 EX db
-step 0 17
-mark 0 0
-step 0 9
-start 1
-look 1
-step 1 4
-"""
-MARKED_CLASSES = "ooopppppppvvvvvvvmmmmmmmmmqqqq"
+# On the host's line a call has the colour of its phase, also the one that failed, the torn one, and those that were refused: the first vote, the last attach.
+FAULTS_CLASSES = "ooo" * 3 + "p" * 7 + "pppp" + "p" + "p" * 7 + "v" + "ooo" * 3 + "pp" + "p" + "ooo" * 2 + "o"
+
+# What it can't draw it says.
+MARKED = "cluster 1 2\nstart 0\nmark 0 0\n"
 
 
-def drawn(script):
-    """Returns the picture of a script."""
-    with tempfile.TemporaryDirectory(prefix="timeline-") as room:
+def draws(script):
+    """Has the picture of a script drawn."""
+    with tempfile.TemporaryDirectory(prefix="pictures-") as room:
         path = os.path.join(room, "script.dlm")
         with open(path, "w", encoding="ascii") as file:
             file.write(script)
-        return subprocess.run([PROGRAM, path], stdin=subprocess.DEVNULL, stdout=subprocess.PIPE, check=True, text=True).stdout
+        return subprocess.run([*DRAW, path], stdin=subprocess.DEVNULL, stdout=subprocess.PIPE, stderr=subprocess.PIPE, check=False, text=True)
 
 
 def words(picture, form, idle):
@@ -94,7 +88,8 @@ def words(picture, form, idle):
 
 
 def main():
-    race, faults, marked = map(drawn, (RACE, FAULTS, MARKED))
+    race, faults = (draws(it).stdout for it in (RACE, FAULTS))
+    marked = draws(MARKED)
     turn = r'<text[^>]* x="(\d+)" y="\d+" dx="8" dy="22" text-anchor="end">([^<]*)</text>'
     wrong = r'<text class="f" x="(\d+)" y="\d+" dy="21">([^<]*)</text>'
     number = r'<text class="n" x="(\d+)" y="\d+">(\d+)</text>'
@@ -102,7 +97,9 @@ def main():
     told = [
         ("race: what hosts come to", words(race, turn, []), RACE_TURNS),
         ("faults: what goes wrong", words(faults, wrong, FAULTS_IDLE), FAULTS_WORDS),
-        ("marked: the colours of the calls", "".join(re.findall(call, marked)), MARKED_CLASSES),
+        ("race: the colours of the calls", "".join(re.findall(call, race)), RACE_CLASSES),
+        ("faults: the colours of the calls", "".join(re.findall(call, faults)), FAULTS_CLASSES),
+        ("marked", (marked.returncode, marked.stderr), (1, "pictures.py: draws submissions and recoveries alone, over empty disks\n")),
     ]
     for name, picture, idle in (("race", race, []), ("faults", faults, FAULTS_IDLE)):
         numbers = words(picture, number, idle)
@@ -112,7 +109,7 @@ def main():
         if got != wanted:
             different += 1
             print(f"{what}: {got!r}, wanted {wanted!r}")
-    print(f"timeline.py: {len(told)} looked at, {different} different")
+    print(f"pictures.py: {len(told)} looked at, {different} different")
     return 1 if different else 0
 
 
