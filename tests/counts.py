@@ -13,7 +13,7 @@ import tempfile
 
 TOP = os.path.dirname(os.path.dirname(os.path.realpath(__file__)))
 PARTS = ("src", "specs", "proofs")
-BESIDE = {"thread_runs", "block_tests", "log_tests", "lock_tests", "host_tests", "bench", "workloads"}
+BESIDE = {"thread_runs", "log_tests", "host_tests", "bench", "workloads"}
 FUNCTION = re.compile(r'^\s*(?:pub(?:\([a-z]+\))? )?(?:const )?(?:extern "C" )?fn ', re.MULTILINE)
 PASSED_OVER = re.compile(r"\s*(?:(?:ghost |pub |pub\(.*\) )?use |//|--|$)")
 

@@ -176,10 +176,13 @@ def refusals():
 
 @test
 def value_that_is_no_command():
-    make_old("d", 3, 16, [FIRST, bytes(32)])
-    os.mkdir("e")
-    refused("migrate d e 16", "dlm: 10 NotACommand\n")
-    wants("the new folder", os.listdir("e"), [])
+    """Zeros, a purge of the ninth of eight hosts, and a kind of command that the first layout did not have."""
+    purge = bytes([6, 0, 2, 0, 0, 0, 0, 0]) + numbers(1) + bytes([8]) + bytes(15)
+    for place, value in enumerate([bytes(32), purge, bytes([7]) + purge[1:16] + bytes(16)]):
+        make_old(f"d{place}", 3, 16, [FIRST, value])
+        os.mkdir(f"e{place}")
+        refused(f"migrate d{place} e{place} 16", "dlm: 10 NotACommand\n")
+        wants("the new folder", os.listdir(f"e{place}"), [])
 
 
 @test

@@ -7,11 +7,12 @@ What is expected was worked out from docs/FORMAT.md and docs/REFUSALS.md. It pri
 """
 import fcntl
 import os
+import resource
 import shutil
 import subprocess
 import sys
 
-from folder_tests import PROGRAM, ends, prints, refused, run_tests, test, usage, wants
+from folder_tests import PROGRAM, TOP, ends, prints, refused, run_tests, test, usage, wants
 
 
 def start(words, **more):
@@ -93,6 +94,59 @@ def bytes_of_an_image():
         image = file.read()
     header = bytes.fromhex("a5020103" "00000010" "0000000000000007")
     wants("the image", image, header.ljust(ROWS, b"\0") + FIRST_BLOCK.ljust(LENGTH - ROWS, b"\0"))
+
+
+# A conversion of lock 1 of client 1, with a value, and a purge of host 15; both through host 15. Then what a renewal writes: lock 258 of client 7, enqueued through
+# host 3, holds PR of `db` and wants EX, and the value of `db` is invalid; and client 9 purged 256 locks in its request 5.
+VALUE = "0102030405060708090a0b0c0d0e0f10"
+CONVERT = "020f010003000001" "0000000000000002" + 16 * "00" + VALUE
+PURGE = "060f020000000000" "0000000000000003" "0f" + 31 * "00"
+CARRIED_LOCK = "0803070306020102" "0000000000000001" "076462" + 13 * "00" + "000102030405060708090a0b0c0d0e0f"
+CARRIED_CLIENT = "0900090000000100" "0000000000000005" "16" + 31 * "00"
+
+
+@test
+def bytes_of_commands():
+    images(1, 4)
+    for slot, (words, reply, host, command) in enumerate([
+        ("0 enqueue 1 1 1 EX db", "Granted", 0, COMMAND),
+        (f"15 convert 1 2 1 NL noqueue value {VALUE}", f"Granted({VALUE})", 15, CONVERT),
+        ("15 purge 2 3 15", "Purged(0)", 15, PURGE),
+    ]):
+        prints(f"submit . {words}", f"ack {slot} {reply}\n")
+        with open("disk0.img", "rb") as file:
+            file.seek(ROWS + 4096 * slot + 256 * host + 32)
+            wants(f"the command of slot {slot}", file.read(48).hex(), command)
+
+
+# What is changed in a command, so that it is none any more: the place of a byte, and what it becomes.
+NO_COMMANDS = [
+    (COMMAND, [(0, 7), (1, 16), (3, 6), (4, 2), (4, 4), (5, 16), (16, 1), (20, 0x61), (32, 1), (47, 1)]),
+    (CONVERT, [(4, 1)]),
+    (PURGE, [(16, 16)]),
+    (CARRIED_LOCK, [(3, 6), (4, 0), (4, 4), (5, 0), (16, 8), (19, 1)]),
+    (CARRIED_CLIENT, [(3, 1), (4, 1), (16, 0), (16, 7), (16, 23), (17, 0x61), (47, 1)]),
+]
+
+
+@test
+def bytes_that_are_no_command():
+    """Host 0 voted for them in the only slot: the block is sound, and its value is not learned."""
+    images(1, 1)
+    with open("disk0.img", "rb") as file:
+        first = file.read(ROWS)
+    for command, changes in NO_COMMANDS:
+        for changed in [None, *changes]:
+            vote = bytearray(bytes.fromhex("a502010000000000" "0000000000000001" "0000000000000001" "0000000000000001" + command))
+            if changed:
+                vote[32 + changed[0]] = changed[1]
+            with open("disk0.img", "wb") as file:
+                file.write(first + bytes(vote).ljust(4096, b"\0"))
+            prints("check .", "sound\n")
+            if changed:
+                refused("table . 1", "dlm: 10 NotACommand\n")
+            else:
+                wants(f"with {command}", start(["table", ".", "1"], stdout=subprocess.DEVNULL).returncode, 0)
 
 
 # What is done to the only image, of four slots, before it is opened, by the checks in their order: where two faults meet, the one that is
@@ -386,6 +440,28 @@ def races():
     wants("race 3", (ended.returncode, ended.stderr, len(lines), lines[3:]), (0, "", 5, ["agree", ""]))
     for host, line in enumerate(lines[:3]):
         wants(f"the line of host {host}", line.startswith(f"host {host} ack "), True)
+
+
+@test
+def each_call_of_a_submission_fails():
+    """Whichever of the 51 calls over three disks it is, two disks are left. The answer comes as many calls earlier as that disk would have made after it."""
+    for calls in range(51):
+        made = calls % 3 + 1 if calls < 9 else (calls - 9) % 7 + 4 if calls < 30 else (calls - 30) % 7 + 11
+        with open("script", "w", encoding="ascii") as file:
+            file.write("cluster 3 2\nstart 0\nsubmit 0 1 enqueue 1 1 1 EX db\n" + calls * "step 0\n" + "fail 0 a5\nstep 0 51\n")
+        prints("run script", f"{1 + 51 - (17 - made)} h0 ack 0 Granted\n")
+
+
+@test
+def output_that_is_cut_at_each_byte():
+    """The file that takes it has room for so many bytes. What was printed is there up to that place, and the status says that there was more."""
+    with open(f"{TOP}/examples/takeover.out", "rb") as file:
+        whole = file.read()
+    for room in range(len(whole) + 1):
+        with open("out", "wb") as out:
+            ended = start(["run", f"{TOP}/examples/takeover.dlm"], stdout=out, restore_signals=False, preexec_fn=lambda: resource.setrlimit(resource.RLIMIT_FSIZE, (room, room)))
+        with open("out", "rb") as file:
+            wants(f"room for {room} bytes", (ended.returncode, ended.stderr, file.read()), (0 if room == len(whole) else 1, "", whole[:room]))
 
 
 @test

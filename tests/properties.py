@@ -1,7 +1,8 @@
 #!/usr/bin/env python3
 """properties.py: what each layer promises to the one above it, from the section `What is proved` of each crate's README, in the order of crates.txt.
 Without a word it sees that each function, clause and definition that such a table or the one of docs/PROOFS.md names stands in the files that the row names, or
-in their crate's specs, and says how many. The status is 1 where one does not. `properties.py all` prints the sections, `properties.py CRATE..` those of these crates."""
+in their crate's specs, and says how many. The status is 1 where one does not, or where a law, a function of some law.rt that nobody calls, has a condition.
+`properties.py all` prints the sections, `properties.py CRATE..` those of these crates."""
 
 import os
 import re
@@ -69,6 +70,14 @@ def fault_of(own, by, cell):
     return f"it has no {', '.join(lacking)}" if lacking else ""
 
 
+def laws():
+    """The crates and the files of the laws. What they say holds whether they are called or not, if they have no condition."""
+    for crate in crates():
+        for name in ("law.rt", "laws.rt"):
+            if os.path.isfile(path := f"{TOP}/crates/{crate}/src/{name}"):
+                yield crate, text_of(path)
+
+
 def main(words):
     if words:
         for crate in crates() if words == ["all"] else words:
@@ -83,6 +92,10 @@ def main(words):
             if fault := fault_of(own, by, cell):
                 wrong += 1
                 print(f"{own or PAGE}: {cell}: {fault}: {promise[:80]}")
+    for crate, text in laws():
+        if re.search(r"^[^/]*\brequires\b", text, re.MULTILINE):
+            wrong += 1
+            print(f"{crate}: a law has a condition")
     print(f"properties.py: {count} promises by function and clause, {wrong} of them name what is not there")
     return 1 if wrong or not count else 0
 

@@ -1,7 +1,6 @@
 ghost use Rattle.std.specs.Prelude.{◌≡◌, true, IfSome};
 ghost use Rattle.lock_command.specs.Command.{is_submittable};
 
-use crate::replies::GRANTED;
 use disk::Disk;
 use dlm_images::{DiskHost, format_folder, open_folder, open_folder_to_read};
 use host::{Config, Refusal};
@@ -9,9 +8,15 @@ use lock_command::{
     Action, ClientNumber, Command, HostNumber, LockName, LockNumber, RequestNumber,
 };
 use lock_modes::Mode;
-use lock_table::Reply;
+use lock_table::{Answer, LockValue, Reply};
 use std::fs;
 use std::test::Fail;
+
+// The lock is granted, on a name under which nothing was stored.
+const GRANTED: Reply = Reply {
+    answer: Answer::Granted,
+    value: Some(LockValue::ZEROS),
+};
 
 // A lock of client 1.
 fn enqueue(host: HostNumber) -> Option<Command>

@@ -2,8 +2,6 @@
 #![tactic(auto)]
 
 #[cfg(test)]
-mod looked;
-#[cfg(test)]
 mod pair_disk;
 #[cfg(test)]
 mod tests;

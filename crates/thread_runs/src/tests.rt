@@ -2,7 +2,6 @@ ghost use Rattle.std.specs.Prelude.{◌≡◌, ◌≤◌, IfSome, true, false};
 ghost use Rattle.lock_command.specs.Command.{is_carried, is_quiet, is_submittable};
 ghost use Rattle.cluster.specs.Opening.{IsNamed};
 
-use crate::looked::mark_once;
 use crate::pair_disk::{Flags, PairDisk, is_set, pair};
 use cluster::{
     Cluster, ClusterName, Config, Entry, Gate, HostFault, HostSeat, OpenGate, Opening, Receipt,
@@ -42,7 +41,7 @@ fn command(host: HostNumber, lock: u16, request: u64) -> Option<Command>
 }
 
 // A host that has just been started. Nothing is said of it, so that whoever asks for it has no list of entries to carry along.
-pub(crate) fn seat_of<N: ClusterName, D: Disk + Drop>(
+fn seat_of<N: ClusterName, D: Disk + Drop>(
     rt: &impl Wait,
     alloc: Global,
     cluster: &Cluster<'_, N, D>,
@@ -52,7 +51,7 @@ pub(crate) fn seat_of<N: ClusterName, D: Disk + Drop>(
 }
 
 // Two seats to be given back.
-pub(crate) fn seats_of<N: ClusterName>(
+fn seats_of<N: ClusterName>(
     alloc: Global,
     one: HostSeat<N>,
     other: HostSeat<N>,
@@ -61,7 +60,7 @@ pub(crate) fn seats_of<N: ClusterName>(
 }
 
 // The entries of a cluster whose seats are given back. Whoever calls this holds neither afterwards.
-pub(crate) fn left_by<N: ClusterName, D: Disk + Drop>(
+fn left_by<N: ClusterName, D: Disk + Drop>(
     cluster: Cluster<'_, N, D>,
     seats: Vec<HostSeat<N>>,
 ) -> Option<Vec<Entry>> {
@@ -70,7 +69,7 @@ pub(crate) fn left_by<N: ClusterName, D: Disk + Drop>(
 }
 
 // Submits an enqueue of a lock, where the host is idle.
-pub(crate) fn submitted<N: ClusterName, D: Disk + Drop, G: Gate>(
+fn submitted<N: ClusterName, D: Disk + Drop, G: Gate>(
     rt: &impl Wait,
     cluster: &Cluster<'_, N, D>,
     seat: &mut HostSeat<N>,
@@ -87,166 +86,6 @@ pub(crate) fn submitted<N: ClusterName, D: Disk + Drop, G: Gate>(
         return Ok(None);
     }
     cluster.submit(rt, seat, gate, command, tries).map(Some)
-}
-
-// Holds its host before its 17th call until the flag is set.
-#[derive(Drop)]
-struct Holds<'a, R: Clock> {
-    rt: &'a R,
-    held: &'a AtomicBool,
-    done: &'a AtomicBool,
-    late: bool,
-}
-
-impl<R: Clock> Gate for Holds<'_, R> {
-    fn before_call(&mut self, call: u64) {
-        if call == 17 {
-            self.held.store(true, Ordering::SeqCst);
-            self.late = !is_set(self.rt, self.done);
-        }
-    }
-}
-
-// A host's seat, the receipt that it got, and whether it has waited in vain.
-#[derive(Drop)]
-struct Waited<N: ClusterName> {
-    seat: HostSeat<N>,
-    receipt: Option<Receipt>,
-    late: bool,
-}
-
-// Submits an enqueue of a lock, and is held within it until the other flag is set.
-fn hold<N: ClusterName, R: Wait + Clock>(
-    rt: &R,
-    cluster: &Cluster<'_, N, SimDisk>,
-    held: &AtomicBool,
-    done: &AtomicBool,
-    seat: HostSeat<N>,
-) -> Waited<N> {
-    let mut seat = seat;
-    let mut gate = Holds {
-        rt,
-        held,
-        done,
-        late: false,
-    };
-    let receipt = submitted(rt, cluster, &mut seat, &mut gate, 1, 2);
-    Waited {
-        seat,
-        receipt: receipt.ok().flatten(),
-        late: gate.late,
-    }
-}
-
-// Submits another while the first host is held, and then lets it go on.
-fn pass<N: ClusterName, R: Wait + Clock>(
-    rt: &R,
-    cluster: &Cluster<'_, N, SimDisk>,
-    held: &AtomicBool,
-    done: &AtomicBool,
-    seat: HostSeat<N>,
-) -> Waited<N> {
-    let mut seat = seat;
-    let begun = is_set(rt, held);
-    let receipt = submitted(rt, cluster, &mut seat, &mut OpenGate, 2, 1);
-    done.store(true, Ordering::SeqCst);
-    Waited {
-        seat,
-        receipt: receipt.ok().flatten(),
-        late: !begun,
-    }
-}
-
-// One host is held within its command until another's is acknowledged.
-fn hold_and_pass<N: ClusterName + Send + Sync, R: Threads + Wait + Clock + Sync>(
-    rt: &R,
-    cluster: &Cluster<'_, N, SimDisk>,
-    one: HostSeat<N>,
-    other: HostSeat<N>,
-) -> (Waited<N>, Waited<N>) {
-    let held = AtomicBool::new(false);
-    let done = AtomicBool::new(false);
-    let (is_held, is_done) = (&held, &done);
-    join(
-        rt,
-        move || hold(rt, cluster, is_held, is_done, one),
-        move || pass(rt, cluster, is_held, is_done, other),
-    )
-}
-
-// What the two came to.
-#[derive(Drop)]
-struct Passed {
-    first: Option<Receipt>,
-    second: Option<Receipt>,
-    late: bool,
-}
-
-// The same of hosts 0 and 1, and their seats.
-fn seats_that_pass<N: ClusterName + Send + Sync, R: Threads + Wait + Clock + Sync>(
-    rt: &R,
-    alloc: Global,
-    cluster: &Cluster<'_, N, SimDisk>,
-) -> Option<(Passed, Vec<HostSeat<N>>)> {
-    let one = seat_of(rt, alloc, cluster, 0)?;
-    let other = seat_of(rt, alloc, cluster, 1)?;
-    let (one, other) = hold_and_pass(rt, cluster, one, other);
-    let passed = Passed {
-        first: one.receipt,
-        second: other.receipt,
-        late: one.late || other.late,
-    };
-    Some((passed, seats_of(alloc, one.seat, other.seat)?))
-}
-
-#[derive(Drop)]
-struct Held {
-    first: Option<Receipt>,
-    second: Option<Receipt>,
-    late: bool,
-    entries: usize,
-}
-
-// The same, and how many entries there are.
-fn held_in<N: ClusterName + Send + Sync, R: Threads + Wait + Clock + Sync>(
-    rt: &R,
-    alloc: Global,
-    cluster: Cluster<'_, N, SimDisk>,
-) -> Option<Held> {
-    let (passed, seats) = seats_that_pass(rt, alloc, &cluster)?;
-    let entries = left_by(cluster, seats)?;
-    Some(Held {
-        first: passed.first,
-        second: passed.second,
-        late: passed.late,
-        entries: entries.len(),
-    })
-}
-
-fn one_host_held<N: ClusterName + Send + Sync, R: Threads + Wait + Clock + Sync>(
-    rt: &R,
-    alloc: Global,
-    opening: Opening,
-) -> Option<Held>
-    requires { IsNamed opening N.shape N.table N.name N.parts N.all }
-{
-    let (ties, foundation) = opening.named::<N>(alloc).ok()?;
-    let cluster = Cluster::simulated(alloc, &ties, foundation).ok()?;
-    held_in(rt, alloc, cluster)
-}
-
-#[test]
-fn gate_one_host(rt: HostRuntime) -> Result<(), Fail> {
-    let config = Config::new(3, 4).ok_or("a size")?;
-    let opening = Opening::new(rt.alloc(), config)?;
-    let held = one_host_held::<Brand, HostRuntime>(&rt, rt.alloc(), opening).ok_or("a record")?;
-    let first = held.first.ok_or("the first receipt")?;
-    let second = held.second.ok_or("the second receipt")?;
-    assert!(rt; !held.late);
-    assert_eq!(rt; (second.slot, second.reply.answer), (0, Answer::Granted));
-    assert_eq!(rt; (first.slot, first.reply.answer), (1, Answer::Queued));
-    assert_eq!(rt; held.entries, 180);
-    Ok(())
 }
 
 // A host's seat, and the receipt that it got.
@@ -573,6 +412,19 @@ fn take_turn<N: ClusterName, R: Wait + Clock>(
         }
         Err(_) => None,
     }
+}
+
+// Marks a slot, where the host is idle.
+fn mark_once<N: ClusterName>(
+    rt: &impl Wait,
+    cluster: &Cluster<'_, N, SimDisk>,
+    seat: &mut HostSeat<N>,
+    slot: u16,
+) -> Result<Option<u8>, HostFault> {
+    if !seat.idle() || slot >= cluster.slots() {
+        return Ok(None);
+    }
+    cluster.mark(rt, seat, &mut OpenGate, slot).map(Some)
 }
 
 // Marks a slot, refused or not.
