@@ -16,7 +16,7 @@ use Rattle.torn_block.proofs.StageLaws.{reads_closed, reads_same, due_reads, fai
 use Rattle.paxos_block.specs.Saying.{Said as PBlock}
 use Rattle.paxos_block.specs.Row.{says_of}
 use Rattle.paxos_block.proofs.Outcomes.{Outcomes, same_outcomes, calm_outcomes}
-use Rattle.attempt.specs.Looking.{OnlyReads}
+use Rattle.attempt.specs.Looking.{LeavesBytes}
 use Rattle.world_safety.specs.Marks.{AllSay}
 use Rattle.world_safety.proofs.Blocks.Owning.{done_is}
 
@@ -42,10 +42,10 @@ all_say_added P old value place disk new adds added all bytes left = elim (adds 
 ]
 
 -- what only reads leaves the bytes
-pub bytes_left : (old new : DiskState) (call : Call) (answer : Answer) → OnlyReads call → Step old call answer new → new.bytes ≡ old.bytes
+pub bytes_left : (old new : DiskState) (call : Call) (answer : Answer) → LeavesBytes call → Step old call answer new → new.bytes ≡ old.bytes
 bytes_left old new call answer reads step =
     step_keeps (λ (d : DiskState). d.bytes ≡ old.bytes) old new call answer
-    (record { writes = λ boot at from left is as_many. absurd (subst OnlyReads is reads); syncs = refl; stays = refl })
+    (record { writes = λ boot at from left is as_many. absurd (subst LeavesBytes is reads); syncs = refl; stays = refl })
     step
 
 module _ (any : Write128) (disk : DiskState) (placed : IsPlaced (record any { version = cluster_version }) disk) (boot : ℕ) (new : DiskState) (placed_then : IsPlaced (record any { version = cluster_version }) new) where
