@@ -3,7 +3,7 @@ use Rattle.std.specs.Prelude.{cond, slice_get}
 use Rattle.std.proofs.Common.{ℕ, ◌<◌, ◌≡◌, ◌≢◌, ◌==◌, inl, inr, Bool, true, false, Option, Some, List, [], ◌∷◌, ◌++◌, length, refl, sym, subst, ap, ap₂, ◌∙◌, arith}
 use Rattle.std.proofs.lemmas.Bool.{both_ways, cases_eq, eq-eqb, eqb-true, ne_eqb}
 use Rattle.disk.specs.declared.fault.DiskFault.TheVariants.{Failed}
-use Rattle.disk.specs.Disk.{DiskState, Call, Answer, Fault, Step}
+use Rattle.disk.specs.Disk.{DiskState, Call, Attach, Read, Write, Sync, Answer, Fault, Step}
 use Rattle.torn_block.specs.Layout.{cluster_version}
 use Rattle.torn_block.specs.declared.layout.TheConstants.{HOSTS}
 use Rattle.paxos_block.specs.Saying.{Said as PBlock}
@@ -11,6 +11,7 @@ use Rattle.paxos_block.specs.Places.{BeatOf, VoteOf, place_of, row_of}
 use Rattle.paxos_block.specs.Row.{row_seen}
 use Rattle.paxos_block.specs.Votes.{says_in}
 use Rattle.attempt.specs.Answers.{Answered, Answers, on, heard_as}
+use Rattle.attempt.specs.Looking.{OnlyReads, LeavesBytes}
 use Rattle.attempt.specs.Setup.{Setup}
 use Rattle.attempt.specs.NextCall.{call_by}
 use Rattle.attempt.proofs.More.{on_more, by_disk}
@@ -48,6 +49,13 @@ IsQuiet c w (Called g k call answer left) = IsQuietCall c g k call (w.host g) ×
 IsQuiet c w (Torn g k call left) = IsQuietCall c g k call (w.host g) × Step (w.disk k) call (Fault Failed) (disk_step (w.disk k) (Torn g k call left))
 IsQuiet c w (Migrated disks log) = ⊥
 IsQuiet c w other = Unit {0}
+
+-- what only reads leaves the bytes
+reading_leaves : (call : Call) → OnlyReads call → LeavesBytes call
+reading_leaves Attach reads = tt
+reading_leaves (Read boot at len) reads = tt
+reading_leaves (Write boot at from) reads = reads
+reading_leaves (Sync boot) reads = absurd reads
 
 -- who tries no slot, and has a call to make, makes a quiet one
 quiet_only : (c : Shape) (h k : ℕ) (call : Call) (host : Host) → next_of c h host ≡ Some (k, call) → ((m : Memory) (t : Attempt) → host ≡ Running m → m.doing ≡ Some (Attempts t) → ⊥) → IsQuietCall c h k call host
@@ -177,7 +185,7 @@ module _ (c : Shape) (w : World) (ms : Moves) (tied : Tied c w ms) (h : ℕ) (m 
   quiet_leaves g k call answer e (Looks q) it none step =
       let new : DiskState = disk_step (w.disk k) e in
       let reads = reads_only c g k it.memory q call it.does (subst (λ (o : Option Doing). next_doing c g it.memory o ≡ Some (k, call)) (sym it.does) it.due) in
-      let same : new.bytes ≡ (w.disk k).bytes = bytes_left (w.disk k) new call answer reads step in
+      let same : new.bytes ≡ (w.disk k).bytes = bytes_left (w.disk k) new call answer (reading_leaves call reads) step in
       rests_on h slot (w.disk k) new (f k) (λ current. (
         record { good = current.good; boot = current.boot ∙ boot_kept (w.disk k) new call answer step },
         λ i off. ap (λ (bytes : List ℕ). (says_in (row_seen cluster_version (row_of cluster_version slot bytes)) i).mbal) same,
