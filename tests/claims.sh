@@ -12,8 +12,10 @@ copy=$work/copy/crates/session
 cp -- "$tests/claims.txt" "$copy/src/claims.rt"
 printf '\n#[cfg(test)]\nmod claims;\n' >> "$copy/src/lib.rt"
 (cd -- "$copy" && rt try --seconds 240 --test < /dev/null) > "$work/told" 2>&1
-if ! grep -q '^test claims::nobody_believes_what_is_not_so \.\.\. ok$' "$work/told"; then
-    fail "$(<"$work/told")"
-fi
+for name in nobody_believes_what_is_not_so an_old_purge_takes_nothing_away a_give_that_failed_stores_nothing; do
+    if ! grep -q "^test claims::$name \.\.\. ok\$" "$work/told"; then
+        fail "$name: $(<"$work/told")"
+    fi
+done
 echo "claims: $failed failed"
 [[ $failed -eq 0 ]]

@@ -1,29 +1,32 @@
 -- What an operation on a claim leaves as it is.
-use Rattle.std.specs.Prelude.{◌≡◌, ◌≤◌, ◌⊎◌, ℕ, Some}
+use Rattle.std.specs.Prelude.{◌≡◌, ◌≤◌, ◌⊎◌, ℕ, None, Some}
 use Rattle.session.specs.Outcomes.{IsOut}
 use Rattle.session.specs.declared.claim.Claim.{Claim}
 use Rattle.session.specs.declared.claim.Standing.TheVariants.{Unasked}
 use Rattle.session.specs.declared.learned.Learned.{Learned}
 
--- The lock is wanted on the same name, in the same mode, through the same host. The session's last request is no lower.
+-- The lock is wanted on the same name, in the same mode, through the same host. The session's last request is no lower. The operation is to end soon for the
+-- same reason, or not yet.
 pub record IsOnSame (old new : Claim) : Type 0 where
   pub host : new.host ≡ old.host
   pub shares : new.shares ≡ old.shares
   pub name : new.name ≡ old.name
   pub mode : new.mode ≡ old.mode
   pub request : old.request ≤ new.request
+  pub over : new.over ≡ old.over
 
--- It is also the same lock, asked for by the same command at the same slot. What was asked for stays asked for. The images count as others only if they are
--- those that were opened last.
+-- It is also the same lock, asked for by the same command. What was asked for stays asked for. The images count as others only if they are those that were
+-- opened last; and the slot of that command is the same, unless it is one of the images before.
 pub record Keeps (old new : Claim) : Type 0 where
   pub host : new.host ≡ old.host
   pub shares : new.shares ≡ old.shares
   pub name : new.name ≡ old.name
   pub mode : new.mode ≡ old.mode
   pub request : old.request ≤ new.request
+  pub over : new.over ≡ old.over
   pub lock : new.lock ≡ old.lock
   pub asked : new.asked ≡ old.asked
-  pub slot : new.slot ≡ old.slot
+  pub slot : (new.slot ≡ old.slot) ⊎ (new.slot ≡ None)
   pub newest : new.newest ≡ old.newest
   pub set : (new.set ≡ old.set) ⊎ (new.set ≡ old.newest)
   pub unasked : new.standing ≡ Unasked → old.standing ≡ Unasked

@@ -3,6 +3,7 @@ pub mod Bounds
 pub mod Choosing
 pub mod Evidence
 pub mod Keeping
+pub mod Moves
 pub mod Numbers
 pub mod Orders
 pub mod Outcomes

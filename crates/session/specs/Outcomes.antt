@@ -6,7 +6,7 @@ use Rattle.lock_command.specs.declared.state.LockState.TheVariants.{Granted}
 use Rattle.session.specs.Evidence.{AsksFor, HasHeard, IsFirst, IsRequest, Lacks, NoneBetween, Purges, Shows, is_numbered}
 use Rattle.session.specs.Numbers.{client_of}
 use Rattle.session.specs.declared.claim.Claim.{Claim}
-use Rattle.session.specs.declared.claim.Goal.TheVariants.{Give}
+use Rattle.session.specs.declared.claim.Goal.TheVariants.{Check, Give}
 use Rattle.session.specs.declared.claim.Sign.{Sign}
 use Rattle.session.specs.declared.claim.Standing.TheVariants.{Unasked}
 use Rattle.session.specs.declared.claim.Step.{Step}
@@ -27,6 +27,10 @@ then_of step = None
 -- the operation ends so
 abbrev pub EndsIn : Claim → Outcome → Type 0
 EndsIn c outcome = (then_of c.step ≡ Some (End outcome))
+
+-- a command is to be submitted
+abbrev pub IsSubmitting : Step → Type 0
+IsSubmitting step = (command : Command) × (step ≡ Submitting command)
 
 -- why it ended without what it was begun for, if it did
 abbrev pub why_of : Outcome → Option Why
@@ -81,10 +85,10 @@ pub record AsksAt (l : Learned) (c : Claim) (asking : Command) (slot : ℕ) : Ty
 abbrev pub IsSlotOf : Learned → Claim → ℕ → Type 0
 IsSlotOf l c slot = (command : Command) × (c.step ≡ Submitting command) × AsksAt l c command slot
 
--- The sign of life is that of the claimed lock's number. Its file is removed exactly where no lock in the table has the number.
-pub record IsGivenUp (l : Learned) (c : Claim) (sign : Sign) : Type 0 where
-  pub lock : sign.lock ≡ c.lock
-  pub removes : sign.removes ≡ not (is_numbered l.table.now c.lock)
+-- The sign of life is that of this lock number. Its file is removed exactly where no lock in the table has the number.
+pub record IsGivenUp (l : Learned) (number : ℕ) (sign : Sign) : Type 0 where
+  pub lock : sign.lock ≡ number
+  pub removes : sign.removes ≡ not (is_numbered l.table.now number)
 
 -- The lock is gone, or was given back.
 abbrev pub IsRidOf : Learned → Claim → Type 0
@@ -93,6 +97,10 @@ IsRidOf l c = IsGone l c ⊎ ((slot : ℕ) × GivesBack l c slot)
 -- no release of it may be in the log
 abbrev pub IsUnreleased : Claim → Type 0
 IsUnreleased c = (c.release ≡ None)
+
+-- It may end with nothing changed: it was to look only, or to give back a lock of which no release may be in the log. Then none is left to store a value.
+abbrev pub MayFail : Claim → Type 0
+MayFail c = (c.goal ≡ Check) ⊎ ((c.goal ≡ Give) × IsUnreleased c × (c.value ≡ None))
 
 -- The command is the session's own: the one that asks for the claimed lock, or the one that releases it.
 pub record IsOwn (c : Claim) (command : Command) : Type 0 where
@@ -107,8 +115,9 @@ pub record IsBorneOut (l : Learned) (c : Claim) : Type 0 where
   pub nothing : (why : Why) → EndsIn c (NotHeld why) → (c.standing ≡ Unasked) ⊎ IsRidOf l c
   pub given : (slot : ℕ) → EndsIn c (Given slot) → GivesBack l c slot
   pub again : AsksAgain c → IsRidOf l c
-  pub failed : (why : Why) → EndsIn c (Failed why) → c.goal ≡ Give → IsUnreleased c
+  pub failed : (why : Why) → EndsIn c (Failed why) → MayFail c
   pub own : (command : Command) → c.step ≡ Submitting command → IsOwn c command
+  pub sign : (sign : Sign) (then : Then) → c.step ≡ Dropping sign then → IsGivenUp l c.lock sign
 
 -- Nothing was heard, and the step leads to nothing that would have to be.
 pub record IsUnheard (c : Claim) : Type 0 where
@@ -116,8 +125,9 @@ pub record IsUnheard (c : Claim) : Type 0 where
   pub nothing : (why : Why) → EndsIn c (NotHeld why) → c.standing ≡ Unasked
   pub given : (slot : ℕ) → EndsIn c (Given slot) → ⊥
   pub again : AsksAgain c → ⊥
-  pub failed : (why : Why) → EndsIn c (Failed why) → c.goal ≡ Give → IsUnreleased c
+  pub failed : (why : Why) → EndsIn c (Failed why) → MayFail c
   pub own : (command : Command) → c.step ≡ Submitting command → IsOwn c command
+  pub sign : (sign : Sign) (then : Then) → c.step ≡ Dropping sign then → ⊥
 
 -- it leads to nothing but that the lock is not held, or asked for by another number
 abbrev pub IsWithout : Then → Type 0

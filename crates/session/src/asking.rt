@@ -1,12 +1,13 @@
-ghost use Rattle.std.specs.Prelude.{◌≡◌, ◌+◌, ◌≢◌, ◌≤◌, ◌^◌, ◌⊎◌, ◌↔◌, IfSome, IsTrue, Some, is_some, false, true};
+ghost use Rattle.std.specs.Prelude.{◌≡◌, ◌+◌, ◌≢◌, ◌≤◌, ◌^◌, ◌⊎◌, ◌↔◌, IfSome, IsTrue, None, Some, is_some, false, true};
 ghost use Rattle.lock_table.specs.declared.known_client.KnownClient.{KnownClient};
 ghost use Rattle.session.specs.Bounds.{ComesNearer, IsOpening, is_leaving, orders_left};
 ghost use Rattle.session.specs.Choosing.{IsFree};
+ghost use Rattle.session.specs.Moves.{Asks, AsksOn, BreaksOff, GoesOn, KeepsGoal, KeepsValue, MovesOn, TellsSlot};
 ghost use Rattle.session.specs.Evidence.{Knows};
 ghost use Rattle.session.specs.Keeping.{IsOnSame, Keeps, KeepsRelease, KeepsReleaseUntilOut};
 ghost use Rattle.session.specs.Numbers.{client_of};
 ghost use Rattle.session.specs.declared.claim.Standing.{Standing};
-ghost use Rattle.session.specs.Outcomes.{AsksAt, IsBorneOut, IsSlotOf, IsUnheard, IsWithout, TellsWhy};
+ghost use Rattle.session.specs.Outcomes.{AsksAt, EndsIn, IsBorneOut, IsSlotOf, IsSubmitting, IsUnheard, IsWithout, TellsWhy};
 
 use crate::claim::{Choice, Claim, Goal, Sign, Standing, Step, Then};
 use crate::evidence::{Seen, asks_for, find, first_of, is_numbered, is_taken, last_request};
@@ -21,6 +22,9 @@ impl Claim {
     pub(crate) fn ask(&mut self, learned: &Learned<'_>)
         requires unasked { self.old.standing ≡ Standing.Unasked }
         ensures unheard { IsUnheard self.new }
+        ensures moves { AsksOn learned.now self.old self.new }
+        ensures goal { KeepsGoal self.old self.new }
+        ensures value { KeepsValue self.old self.new }
         ensures keeps { Keeps self.old self.new }
         ensures release { KeepsRelease self.old self.new }
     {
@@ -48,6 +52,9 @@ impl Claim {
         requires unasked { self.old.standing ≡ Standing.Unasked }
         ensures unheard { IsUnheard self.new }
         ensures soon { is_some self.old.over ≡ true → orders_left self.new ≡ 0 }
+        ensures moves { AsksOn learned.now self.old self.new }
+        ensures goal { KeepsGoal self.old self.new }
+        ensures value { KeepsValue self.old self.new }
         ensures keeps { Keeps self.old self.new }
         ensures release { KeepsRelease self.old self.new }
     {
@@ -67,6 +74,9 @@ impl Claim {
         requires unasked { self.old.standing ≡ Standing.Unasked }
         ensures unheard { IsUnheard self.new }
         ensures soon { is_some self.old.over ≡ true → orders_left self.new ≡ 0 }
+        ensures moves { AsksOn learned.now self.old self.new }
+        ensures goal { KeepsGoal self.old self.new }
+        ensures value { KeepsValue self.old self.new }
         ensures keeps { Keeps self.old self.new }
         ensures release { KeepsRelease self.old self.new }
     {
@@ -80,8 +90,11 @@ impl Claim {
     pub(crate) fn choose(&mut self, learned: &Learned<'_>)
         requires unasked { self.old.standing ≡ Standing.Unasked }
         ensures unheard { IsUnheard self.new }
-        ensures free { (choice : Choice) → self.new.step ≡ Step.Signing choice → IsFree learned.now self.old choice }
+        ensures free { (choice : Choice) → self.new.step ≡ Step.Signing choice → IsFree learned.now self.old.host self.old.shares self.old.request choice }
         ensures last { (choice : Choice) → self.new.step ≡ Step.Signing choice → self.new.request ≡ choice.request }
+        ensures moves { AsksOn learned.now self.old self.new }
+        ensures goal { KeepsGoal self.old self.new }
+        ensures value { KeepsValue self.old self.new }
         ensures keeps { Keeps self.old self.new }
         ensures release { KeepsRelease self.old self.new }
     {
@@ -97,7 +110,7 @@ impl Claim {
     /// The next request whose lock number is free. It is odd for a command that does not queue: so a former run's command of this number, name
     /// and mode is the very same, and is acknowledged where it stands.
     fn free_number(&self, learned: &Learned<'_>) -> Option<Choice>
-        ensures free { IfSome result (IsFree learned.now self.now) }
+        ensures free { IfSome result (IsFree learned.now self.now.host self.now.shares self.now.request) }
     {
         let last = self.last_request(learned);
         let first = last + 1 + (last + 1 + u64::from(!self.waits())) % 2;
@@ -125,6 +138,11 @@ impl Claim {
     /// The sign of life is this session's.
     pub fn signed(&mut self, learned: &Learned<'_>)
         ensures borne_out { IsBorneOut learned.now self.new }
+        ensures asks { (choice : Choice) → self.old.step ≡ Step.Signing choice → self.old.over ≡ None → Asks learned.now choice self.old self.new }
+        ensures submits { (choice : Choice) → self.old.step ≡ Step.Signing choice → self.old.over ≡ None → IsSubmitting self.new.step }
+        ensures ends { (choice : Choice) (why : Why) → self.old.step ≡ Step.Signing choice → self.old.over ≡ Some why →
+            EndsIn self.new (Outcome.NotHeld why) × (self.new ≡ record self.old { lock = choice.lock; standing = Standing.Unasked; step = self.new.step }) }
+        ensures out_of_turn { ((choice : Choice) → self.old.step ≡ Step.Signing choice → ⊥) → BreaksOff self.old self.new }
         ensures nearer { ComesNearer self.old self.new }
         ensures same { IsOnSame self.old self.new }
     {
@@ -137,6 +155,10 @@ impl Claim {
     /// The claim has this lock number now.
     fn go_on_with(&mut self, choice: &Choice, learned: &Learned<'_>)
         ensures borne_out { IsBorneOut learned.now self.new }
+        ensures asks { self.old.over ≡ None → Asks learned.now choice.now self.old self.new }
+        ensures submits { self.old.over ≡ None → IsSubmitting self.new.step }
+        ensures ends { (why : Why) → self.old.over ≡ Some why →
+            EndsIn self.new (Outcome.NotHeld why) × (self.new ≡ record self.old { lock = choice.now.lock; standing = Standing.Unasked; step = self.new.step }) }
         ensures soon { is_some self.old.over ≡ true → orders_left self.new ≡ 1 }
         ensures same { IsOnSame self.old self.new }
     {
@@ -148,6 +170,8 @@ impl Claim {
             }
             None => {
                 self.release = None;
+                self.value = None;
+                self.slot = None;
                 self.set = learned.set;
                 self.since = learned.log.len();
                 self.pace.outrun = 0;
@@ -159,6 +183,7 @@ impl Claim {
     /// Asks for the lock by this request.
     pub(crate) fn submit_ask(&mut self, request: RequestNumber)
         ensures unheard { IsUnheard self.new }
+        ensures submits { IsSubmitting self.new.step }
         ensures rest { self.new ≡ record self.old { asked = Some request; standing = Standing.Asked; step = self.new.step } }
         ensures keeps { self.old.asked ≡ Some request → Keeps self.old self.new }
         ensures release { KeepsRelease self.old self.new }
@@ -182,7 +207,12 @@ impl Claim {
     /// Somebody else has the sign of life: of a number that was chosen, or, in a folder that was renewed, of this lock's number.
     pub fn sign_is_held(&mut self, learned: &Learned<'_>)
         ensures nearer { ComesNearer self.old self.new }
+        ensures again { (choice : Choice) → self.old.step ≡ Step.Signing choice →
+            AsksOn learned.now (record self.old { standing = Standing.Unasked }) self.new }
         ensures gone { IsOpening self.old.step → self.new ≡ record self.old { step = Step.Ended (Outcome.NotHeld Why.Gone) } }
+        ensures out_of_turn { ((choice : Choice) → self.old.step ≡ Step.Signing choice → ⊥) → (IsOpening self.old.step → ⊥) → BreaksOff self.old self.new }
+        ensures goal { KeepsGoal self.old self.new }
+        ensures value { KeepsValue self.old self.new }
         ensures other { (IsOpening self.old.step → ⊥) → IsUnheard self.new }
         ensures same { IsOnSame self.old self.new }
     {
@@ -203,6 +233,9 @@ impl Claim {
         ensures unheard { IsUnheard self.new }
         ensures told { (choice : Choice) → self.old.step ≡ Step.Signing choice → self.old.over ≡ None → TellsWhy self.new (Why.Failed Failure.NoLock) }
         ensures nearer { ComesNearer self.old self.new }
+        ensures moves { GoesOn self.old self.new }
+        ensures goal { KeepsGoal self.old self.new }
+        ensures value { KeepsValue self.old self.new }
         ensures keeps { Keeps self.old self.new }
         ensures release { KeepsRelease self.old self.new }
     {
@@ -218,6 +251,9 @@ impl Claim {
         ensures follows { learned.now.set ≢ self.old.newest → IsUnheard self.new }
         ensures nearer { ComesNearer self.old self.new }
         ensures slot { self.new.slot ≡ self.old.slot ⊎ IfSome self.new.slot (IsSlotOf learned.now self.old) }
+        ensures moves { MovesOn learned.now self.old self.new ⊎ TellsSlot self.old self.new }
+        ensures goal { KeepsGoal self.old self.new }
+        ensures value { KeepsValue self.old self.new }
         ensures keeps { Keeps self.old (record self.new { slot = self.old.slot }) }
         ensures release { KeepsReleaseUntilOut learned.now self.old self.new }
     {
@@ -238,6 +274,9 @@ impl Claim {
         ensures borne_out { IsBorneOut learned.now self.new }
         ensures soon { is_some self.old.over ≡ true → orders_left self.new ≤ 12 }
         ensures slot { self.new.slot ≡ self.old.slot ⊎ IfSome self.new.slot (AsksAt learned.now self.old command.now) }
+        ensures moves { MovesOn learned.now self.old self.new ⊎ TellsSlot self.old self.new }
+        ensures goal { KeepsGoal self.old self.new }
+        ensures value { KeepsValue self.old self.new }
         ensures keeps { Keeps self.old (record self.new { slot = self.old.slot }) }
         ensures release { KeepsReleaseUntilOut learned.now self.old self.new }
     {
@@ -267,13 +306,16 @@ impl Claim {
         requires newest { learned.now.set ≡ self.old.newest }
         ensures borne_out { IsBorneOut learned.now self.new }
         ensures soon { is_some self.old.over ≡ true → orders_left self.new ≤ 12 }
+        ensures moves { MovesOn learned.now self.old self.new }
+        ensures goal { KeepsGoal self.old self.new }
+        ensures value { KeepsValue self.old self.new }
         ensures keeps { Keeps self.old self.new }
         ensures release { KeepsReleaseUntilOut learned.now self.old self.new }
     {
         if let Some(why) = self.over {
             return self.give_up(why);
         }
-        self.leave();
+        self.standing = Standing::Leaving;
         self.let_go(learned);
     }
 
@@ -308,6 +350,9 @@ impl Claim {
         ensures borne_out { IsBorneOut learned.now self.new }
         ensures soon { is_some self.old.over ≡ true → is_leaving self.old.standing ≡ false → orders_left self.new ≤ 12 }
         ensures leaves { is_some self.old.over ≡ true → is_leaving self.old.standing ≡ true → orders_left self.new ≤ 1 + self.old.tries }
+        ensures moves { MovesOn learned.now self.old self.new }
+        ensures goal { KeepsGoal self.old self.new }
+        ensures value { KeepsValue self.old self.new }
         ensures keeps { Keeps self.old self.new }
         ensures release { KeepsReleaseUntilOut learned.now self.old self.new }
     {
@@ -332,6 +377,9 @@ impl Claim {
         ensures borne_out { IsBorneOut learned.now self.new }
         ensures soon { is_some self.old.over ≡ true → orders_left self.new ≤ 12 }
         ensures leaves { is_some self.old.over ≡ true → is_leaving self.old.standing ≡ true → orders_left self.new ≡ 0 }
+        ensures moves { MovesOn learned.now self.old self.new }
+        ensures goal { KeepsGoal self.old self.new }
+        ensures value { KeepsValue self.old self.new }
         ensures keeps { Keeps self.old self.new }
         ensures release { KeepsReleaseUntilOut learned.now self.old self.new }
     {

@@ -1,7 +1,9 @@
-ghost use Rattle.std.specs.Prelude.{◌≡◌, ◌≤◌, ◌⊎◌, IsTrue, None, Some, false};
-ghost use Rattle.session.specs.Beginnings.{AsksAs, Begins, IsAnotherValue, IsNewClaim};
+ghost use Rattle.std.specs.Prelude.{◌≡◌, ◌≤◌, ◌⊎◌, IsTrue, None, Some, false, true};
+ghost use Rattle.session.specs.Beginnings.{AsksAs, Begins, IsAnotherValue, IsNewClaim, OnlyBegins};
 ghost use Rattle.session.specs.Bounds.{IsPause, is_leaving, orders_left};
 ghost use Rattle.session.specs.Keeping.{Keeps, KeepsRelease};
+ghost use Rattle.session.specs.Moves.{GoesOn, KeepsGoal, KeepsValue};
+ghost use Rattle.session.specs.Outcomes.{IsUnheard, TellsWhy};
 
 use crate::claim::{Claim, Goal, Standing, Step};
 use crate::numbers::lock_of;
@@ -60,6 +62,7 @@ impl Claim {
         ensures of { (result.host ≡ host) × (result.name ≡ name) × (result.mode ≡ mode) × (result.set ≡ set) }
         ensures idle { result.step ≡ Step.Ended (Outcome.Failed Why.Waits) }
         ensures unknown { (result.asked ≡ None) × (result.slot ≡ None) × (result.release ≡ None) }
+        ensures nothing { (result.value ≡ None) × (result.over ≡ None) × (result.since ≡ 0) × (result.newest ≡ 0) × (result.request ≡ 0) }
     {
         let asker = Asker {
             host,
@@ -79,10 +82,12 @@ impl Claim {
     /// The lock that a former run left is to be taken.
     pub fn take_left(&mut self, asker: &Asker, waits: bool)
         ensures begins { Begins (Goal.Take waits) self.old self.new }
+        ensures only { OnlyBegins (Goal.Take waits) asker.now self.old self.new }
         ensures asks { AsksAs asker.now self.old self.new }
         ensures opens { self.new.step ≡ Step.Opening }
         ensures stands { self.new.standing ≡ self.old.standing }
-        ensures keeps { Keeps self.old self.new }
+        ensures value { self.new.value ≡ self.old.value }
+        ensures keeps { Keeps (record self.old { over = None }) self.new }
         ensures release { KeepsRelease self.old self.new }
     {
         self.begin(asker, Goal::Take { waits });
@@ -92,11 +97,14 @@ impl Claim {
     /// It is to be looked whether the lock is still there. A release of it that may be in the log stays known.
     pub fn check(&mut self, asker: &Asker)
         ensures begins { Begins Goal.Check self.old self.new }
+        ensures only { OnlyBegins Goal.Check asker.now self.old self.new }
         ensures asks { AsksAs asker.now self.old self.new }
         ensures opens { self.new.step ≡ Step.OpeningToLook }
         ensures stands { is_leaving self.old.standing ≡ false → self.new.standing ≡ self.old.standing }
         ensures looks { is_leaving self.new.standing ≡ false }
-        ensures keeps { Keeps self.old self.new }
+        ensures held { is_leaving self.old.standing ≡ true → self.new.standing ≡ Standing.Held }
+        ensures value { self.new.value ≡ self.old.value }
+        ensures keeps { Keeps (record self.old { over = None }) self.new }
         ensures release { KeepsRelease self.old self.new }
     {
         self.begin(asker, Goal::Check);
@@ -111,12 +119,13 @@ impl Claim {
         ensures refused { result ≡ false → IsAnotherValue self.old value }
         ensures unchanged { result ≡ false → self.new ≡ self.old }
         ensures begins { IsTrue result → Begins Goal.Give self.old self.new }
+        ensures only { IsTrue result → OnlyBegins Goal.Give asker.now self.old self.new }
         ensures asks { IsTrue result → AsksAs asker.now self.old self.new }
         ensures leaves { IsTrue result → self.new.standing ≡ Standing.Leaving }
         ensures opens { IsTrue result → self.new.step ≡ Step.Opening }
         ensures value { IsTrue result → self.new.value ≡ value }
         ensures same { IsTrue result → (self.old.release ≡ None) ⊎ (self.old.value ≡ value) }
-        ensures keeps { Keeps self.old self.new }
+        ensures keeps { Keeps (record self.old { over = self.new.over }) self.new }
         ensures release { KeepsRelease self.old self.new }
     {
         if self.release.is_some() && self.value != value {
@@ -129,27 +138,30 @@ impl Claim {
         true
     }
 
-    /// The lock was given up in an operation before this one, and is to be released.
+    /// The lock was given up in an operation before this one, and is to be released. Nothing is stored, unless by a release that may be in the log.
     pub fn give_up_again(&mut self, asker: &Asker)
         ensures begins { Begins (Goal.GiveUp Why.Gone) self.old self.new }
+        ensures only { OnlyBegins (Goal.GiveUp Why.Gone) asker.now self.old self.new }
         ensures asks { AsksAs asker.now self.old self.new }
         ensures leaves { self.new.standing ≡ Standing.Leaving }
         ensures opens { self.new.step ≡ Step.Opening }
-        ensures keeps { Keeps self.old self.new }
+        ensures value { self.old.release ≡ None → self.new.value ≡ None }
+        ensures keeps { Keeps (record self.old { over = None }) self.new }
         ensures release { KeepsRelease self.old self.new }
     {
         self.begin(asker, Goal::GiveUp(Why::Gone));
-        self.standing = Standing::Leaving;
+        self.leave();
         self.step = Step::Opening;
     }
 
     fn begin(&mut self, asker: &Asker, goal: Goal)
         ensures begins { Begins goal self.old self.new }
+        ensures only { OnlyBegins goal asker.now self.old self.new }
         ensures asks { AsksAs asker.now self.old self.new }
         ensures step { self.new.step ≡ self.old.step }
         ensures stands { self.new.standing ≡ self.old.standing }
         ensures value { self.new.value ≡ self.old.value }
-        ensures keeps { Keeps self.old self.new }
+        ensures keeps { Keeps (record self.old { over = None }) self.new }
         ensures release { KeepsRelease self.old self.new }
     {
         self.goal = goal;
@@ -164,8 +176,13 @@ impl Claim {
         ensures over { self.new.over ≡ Some why }
         ensures soon { orders_left self.new ≤ 13 }
         ensures no_pause { IsPause self.new.step → ⊥ }
-        ensures goes_on { (IsPause self.old.step → ⊥) → self.new.step ≡ self.old.step }
-        ensures keeps { Keeps self.old self.new }
+        ensures goes_on { (IsPause self.old.step → ⊥) → self.new ≡ record self.old { over = Some why; tries = LAST_TRIES } }
+        ensures unheard { IsPause self.old.step → IsUnheard self.new }
+        ensures told { IsPause self.old.step → self.old.pace.failure ≡ None → TellsWhy self.new why }
+        ensures moves { GoesOn (record self.old { over = Some why }) self.new }
+        ensures goal { KeepsGoal self.old self.new }
+        ensures value { KeepsValue self.old self.new }
+        ensures keeps { Keeps (record self.old { over = Some why }) self.new }
         ensures release { KeepsRelease self.old self.new }
     {
         self.over = Some(why);

@@ -103,7 +103,7 @@ pub struct Claim {
     pub value: Option<ValueBytes>,
     /// The last request of the session.
     pub request: u64,
-    /// How much of the log was learned when that was chosen.
+    /// So many slots come before whatever was submitted by that: those learned when it was chosen, and those up to the command that asked for the lock.
     pub since: usize,
     /// The images that were opened last.
     pub newest: u64,

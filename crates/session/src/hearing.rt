@@ -1,6 +1,7 @@
 ghost use Rattle.std.specs.Prelude.{◌≡◌, ◌+◌, ◌≢◌, ◌≤◌, ◌⊎◌, ◌↔◌, ℕ, IsTrue, None, Some, is_some, true};
 ghost use Rattle.session.specs.Bounds.{ComesNearer, IsOpening, IsReading, is_leaving, orders_left};
 ghost use Rattle.session.specs.Keeping.{IsOnSame, Keeps, KeepsRelease, KeepsReleaseUntilOut};
+ghost use Rattle.session.specs.Moves.{AsksOn, BreaksOff, Chooses, GoesOn, KeepsGoal, KeepsValue, MovesOn};
 ghost use Rattle.session.specs.Outcomes.{IsBorneOut, IsGivenUp, IsOut, IsUnheard, TellsWhy, then_of};
 
 use crate::beginning::LAST_TRIES;
@@ -16,6 +17,9 @@ impl Claim {
     pub fn opened(&mut self, learned: &Learned<'_>)
         ensures borne_out { IsBorneOut learned.now self.new }
         ensures nearer { ComesNearer self.old self.new }
+        ensures moves { MovesOn learned.now (record self.old { newest = learned.now.set }) self.new }
+        ensures goal { KeepsGoal self.old self.new }
+        ensures value { KeepsValue self.old self.new }
         ensures keeps { Keeps (record self.old { newest = learned.now.set }) self.new }
         ensures release { KeepsReleaseUntilOut learned.now self.old self.new }
     {
@@ -32,6 +36,9 @@ impl Claim {
     fn look(&mut self)
         ensures unheard { IsUnheard self.new }
         ensures soon { is_some self.old.over ≡ true → orders_left self.new ≤ 12 }
+        ensures moves { GoesOn self.old self.new }
+        ensures goal { KeepsGoal self.old self.new }
+        ensures value { KeepsValue self.old self.new }
         ensures keeps { Keeps self.old self.new }
         ensures release { KeepsRelease self.old self.new }
     {
@@ -47,6 +54,9 @@ impl Claim {
         ensures borne_out { IsBorneOut learned.now self.new }
         ensures soon { is_some self.old.over ≡ true → orders_left self.new ≤ 12 ⊎ is_leaving self.old.standing ≡ true }
         ensures leaves { is_leaving self.old.standing ≡ true → orders_left self.new ≤ 3 + self.old.tries }
+        ensures moves { MovesOn learned.now self.old self.new }
+        ensures goal { KeepsGoal self.old self.new }
+        ensures value { KeepsValue self.old self.new }
         ensures keeps { Keeps self.old self.new }
         ensures release { KeepsReleaseUntilOut learned.now self.old self.new }
     {
@@ -74,6 +84,9 @@ impl Claim {
         ensures borne_out { IsBorneOut learned.now self.new }
         ensures follows { learned.now.set ≢ self.old.newest → IsUnheard self.new }
         ensures nearer { ComesNearer self.old self.new }
+        ensures moves { MovesOn learned.now self.old self.new ⊎ Chooses learned.now self.old self.new }
+        ensures goal { KeepsGoal self.old self.new }
+        ensures value { KeepsValue self.old self.new }
         ensures keeps { Keeps self.old self.new }
         ensures release { KeepsReleaseUntilOut learned.now self.old self.new }
     {
@@ -89,6 +102,9 @@ impl Claim {
         ensures borne_out { IsBorneOut learned.now self.new }
         ensures follows { learned.now.set ≢ self.old.newest → IsUnheard self.new }
         ensures nearer { ComesNearer self.old self.new }
+        ensures moves { MovesOn learned.now self.old self.new ⊎ Chooses learned.now self.old self.new }
+        ensures goal { KeepsGoal self.old self.new }
+        ensures value { KeepsValue self.old self.new }
         ensures keeps { Keeps self.old self.new }
         ensures release { KeepsReleaseUntilOut learned.now self.old self.new }
     {
@@ -111,6 +127,9 @@ impl Claim {
         ensures unheard { IsUnheard self.new }
         ensures soon { is_some self.old.over ≡ true → orders_left self.new ≤ 12 }
         ensures leaves { is_some self.old.over ≡ true → is_leaving self.old.standing ≡ true → orders_left self.new ≡ 0 }
+        ensures moves { GoesOn self.old self.new }
+        ensures goal { KeepsGoal self.old self.new }
+        ensures value { KeepsValue self.old self.new }
         ensures keeps { Keeps self.old self.new }
         ensures release { KeepsRelease self.old self.new }
     {
@@ -125,6 +144,9 @@ impl Claim {
         requires unasked { self.old.standing ≡ Standing.Unasked }
         ensures unheard { IsUnheard self.new }
         ensures soon { is_some self.old.over ≡ true → orders_left self.new ≡ 0 }
+        ensures moves { AsksOn learned.now self.old self.new }
+        ensures goal { KeepsGoal self.old self.new }
+        ensures value { KeepsValue self.old self.new }
         ensures keeps { Keeps self.old self.new }
         ensures release { KeepsRelease self.old self.new }
     {
@@ -144,6 +166,9 @@ impl Claim {
         requires newest { learned.now.set ≡ self.old.newest }
         ensures borne_out { IsBorneOut learned.now self.new }
         ensures soon { is_some self.old.over ≡ true → orders_left self.new ≤ 12 }
+        ensures moves { GoesOn self.old self.new }
+        ensures goal { KeepsGoal self.old self.new }
+        ensures value { KeepsValue self.old self.new }
         ensures keeps { Keeps self.old self.new }
         ensures release { KeepsReleaseUntilOut learned.now self.old self.new }
     {
@@ -204,6 +229,9 @@ impl Claim {
     pub(crate) fn wait(&mut self, learned: &Learned<'_>)
         ensures unheard { IsUnheard self.new }
         ensures soon { is_some self.old.over ≡ true → orders_left self.new ≤ 12 }
+        ensures moves { GoesOn self.old self.new }
+        ensures goal { KeepsGoal self.old self.new }
+        ensures value { KeepsValue self.old self.new }
         ensures keeps { Keeps self.old self.new }
         ensures release { KeepsRelease self.old self.new }
     {
@@ -230,6 +258,9 @@ impl Claim {
     /// Pauses before the next look, or learns all where a look may not see all.
     fn rest(&mut self, learned: &Learned<'_>)
         ensures unheard { IsUnheard self.new }
+        ensures moves { GoesOn self.old self.new }
+        ensures goal { KeepsGoal self.old self.new }
+        ensures value { KeepsValue self.old self.new }
         ensures keeps { Keeps self.old self.new }
         ensures release { KeepsRelease self.old self.new }
     {
@@ -246,6 +277,9 @@ impl Claim {
     pub fn rested(&mut self)
         ensures unheard { IsUnheard self.new }
         ensures opens { (milliseconds : ℕ) → self.old.step ≡ Step.Resting milliseconds → IsOpening self.new.step }
+        ensures submits { (milliseconds : ℕ) → self.old.step ≡ Step.Resting milliseconds →
+            (self.old.standing ≡ Standing.Unasked) ⊎ (self.old.standing ≡ Standing.Leaving) → self.new.step ≡ Step.Opening }
+        ensures rest { self.new ≡ record self.old { step = self.new.step } }
         ensures keeps { Keeps self.old self.new }
         ensures release { KeepsRelease self.old self.new }
     {
@@ -264,6 +298,7 @@ impl Claim {
     /// The command that was outrun is submitted once more.
     fn submit_again(&mut self)
         ensures unheard { IsUnheard self.new }
+        ensures rest { self.new ≡ record self.old { step = self.new.step } }
         ensures keeps { Keeps self.old self.new }
         ensures release { KeepsRelease self.old self.new }
     {
@@ -279,6 +314,11 @@ impl Claim {
         // The outcome is the one that was borne out when the sign was to be given up.
         ensures ends { (sign : Sign) (outcome : Outcome) → self.old.step ≡ Step.Dropping sign (Then.End outcome) →
             self.new ≡ record self.old { step = Step.Ended outcome } }
+        ensures again { (sign : Sign) → self.old.step ≡ Step.Dropping sign Then.AskAgain →
+            AsksOn learned.now (record self.old { standing = Standing.Unasked; asked = None }) self.new }
+        ensures out_of_turn { ((sign : Sign) (then : Then) → self.old.step ≡ Step.Dropping sign then → ⊥) → BreaksOff self.old self.new }
+        ensures goal { KeepsGoal self.old self.new }
+        ensures value { KeepsValue self.old self.new }
         ensures nearer { ComesNearer self.old self.new }
         ensures other { ((sign : Sign) (outcome : Outcome) → self.old.step ≡ Step.Dropping sign (Then.End outcome) → ⊥) → IsUnheard self.new }
         ensures same { IsOnSame self.old self.new }
@@ -298,6 +338,11 @@ impl Claim {
     pub fn dropped_unread(&mut self)
         ensures ends { (sign : Sign) (outcome : Outcome) → self.old.step ≡ Step.Dropping sign (Then.End outcome) →
             self.new ≡ record self.old { step = Step.Ended outcome } }
+        ensures again { (sign : Sign) → self.old.step ≡ Step.Dropping sign Then.AskAgain →
+            GoesOn (record self.old { standing = Standing.Unasked; asked = None }) self.new }
+        ensures out_of_turn { ((sign : Sign) (then : Then) → self.old.step ≡ Step.Dropping sign then → ⊥) → BreaksOff self.old self.new }
+        ensures goal { KeepsGoal self.old self.new }
+        ensures value { KeepsValue self.old self.new }
         ensures other { ((sign : Sign) (outcome : Outcome) → self.old.step ≡ Step.Dropping sign (Then.End outcome) → ⊥) → IsUnheard self.new }
         ensures nearer { ComesNearer self.old self.new }
         ensures same { IsOnSame self.old self.new }
@@ -316,7 +361,7 @@ impl Claim {
     /// Gives the sign of life up, and then goes on.
     pub(crate) fn drop_sign(&mut self, learned: &Learned<'_>, then: Then)
         ensures then { then_of self.new.step ≡ Some then }
-        ensures sign { (sign : Sign) (after : Then) → self.new.step ≡ Step.Dropping sign after → IsGivenUp learned.now self.old sign }
+        ensures sign { (sign : Sign) (after : Then) → self.new.step ≡ Step.Dropping sign after → IsGivenUp learned.now self.old.lock sign }
         ensures one { orders_left self.new ≡ 1 }
         ensures rest { self.new ≡ record self.old { step = self.new.step } }
     {
@@ -331,6 +376,9 @@ impl Claim {
     pub fn refused(&mut self, failure: Failure, learned: &Learned<'_>)
         ensures borne_out { IsBorneOut learned.now self.new }
         ensures nearer { ComesNearer self.old self.new }
+        ensures moves { MovesOn learned.now self.old self.new }
+        ensures goal { KeepsGoal self.old self.new }
+        ensures value { KeepsValue self.old self.new }
         ensures keeps { Keeps self.old self.new }
         ensures release { KeepsReleaseUntilOut learned.now self.old self.new }
         ensures told { IsReading self.old.step → self.old.over ≡ None → TellsWhy self.new (Why.Failed failure) }
@@ -350,6 +398,9 @@ impl Claim {
     pub fn closed(&mut self, failure: Failure)
         ensures unheard { IsUnheard self.new }
         ensures nearer { ComesNearer self.old self.new }
+        ensures moves { GoesOn self.old self.new }
+        ensures goal { KeepsGoal self.old self.new }
+        ensures value { KeepsValue self.old self.new }
         ensures keeps { Keeps self.old self.new }
         ensures release { KeepsRelease self.old self.new }
         ensures told { IsOpening self.old.step → self.old.over ≡ None → TellsWhy self.new (Why.Failed failure) }
@@ -363,7 +414,7 @@ impl Claim {
 
     /// What is told does not go with what was ordered.
     pub(crate) fn break_off(&mut self)
-        ensures { self.new ≡ record self.old { step = Step.Ended (Outcome.InDoubt (Why.Failed Failure.Broken)) } }
+        ensures { BreaksOff self.old self.new }
     {
         self.step = Step::Ended(Outcome::InDoubt(Why::Failed(Failure::Broken)));
     }
@@ -373,6 +424,9 @@ impl Claim {
         ensures unheard { IsUnheard self.new }
         ensures soon { is_some self.old.over ≡ true → orders_left self.new ≤ 12 }
         ensures leaves { is_some self.old.over ≡ true → is_leaving self.old.standing ≡ true → orders_left self.new ≡ 0 }
+        ensures moves { GoesOn self.old self.new }
+        ensures goal { KeepsGoal self.old self.new }
+        ensures value { KeepsValue self.old self.new }
         ensures keeps { Keeps self.old self.new }
         ensures release { KeepsRelease self.old self.new }
         ensures told { self.old.over ≡ None → TellsWhy self.new (Why.Failed failure) }
@@ -420,6 +474,9 @@ impl Claim {
         ensures soon { orders_left self.new ≤ 12 }
         ensures leaves { is_leaving self.old.standing ≡ true → orders_left self.new ≡ 0 }
         ensures unasked { self.old.standing ≡ Standing.Unasked → orders_left self.new ≡ 0 }
+        ensures moves { GoesOn self.old self.new }
+        ensures goal { KeepsGoal self.old self.new }
+        ensures value { KeepsValue self.old self.new }
         ensures keeps { Keeps self.old self.new }
         ensures release { KeepsRelease self.old self.new }
         ensures told { TellsWhy self.new why }
@@ -427,6 +484,7 @@ impl Claim {
         match (self.goal, self.standing) {
             (Goal::Check, _) => self.step = Step::Ended(Outcome::Failed(why)),
             (Goal::Give, _) if self.release.is_none() => {
+                self.value = None;
                 self.standing = Standing::Held;
                 self.step = Step::Ended(Outcome::Failed(why));
             }

@@ -1,4 +1,5 @@
 ghost use Rattle.std.specs.Prelude.{◌≡◌, ◌+◌, ◌*◌, ◌%◌, ◌≤◌, ◌↔◌, ◌⊎◌, IfSome, IsTrue, None, min};
+ghost use Rattle.session.specs.Beginnings.{first_pace};
 
 use crate::outcome::Failure;
 
@@ -33,9 +34,7 @@ const QUIET: u32 = 2_000;
 impl Pace {
     /// A wait that begins.
     pub fn new(interval: u16) -> Pace
-        ensures first { result.pause ≡ 1 }
-        ensures interval { result.interval ≡ interval }
-        ensures fresh { (result.quiet ≡ 0) × (result.away ≡ 0) × (result.outrun ≡ 0) }
+        ensures { result ≡ first_pace interval }
     {
         Pace {
             pause: 1,

@@ -1,6 +1,8 @@
-ghost use Rattle.std.specs.Prelude.{◌≡◌, ◌+◌, ◌≤◌, ℕ, IfSome, IsTrue, Some, false, true};
+ghost use Rattle.std.specs.Prelude.{◌≡◌, ◌+◌, ◌≤◌, ◌⊎◌, ℕ, IfSome, IsTrue, Some, false, true};
 ghost use Rattle.session.specs.Bounds.{is_leaving, orders_left};
+ghost use Rattle.session.specs.Choosing.{IsNext};
 ghost use Rattle.session.specs.Keeping.{Keeps, KeepsRelease, KeepsReleaseUntilOut};
+ghost use Rattle.session.specs.Moves.{Forgets, GoesOn, IsSpent, KeepsGoal, KeepsValue, MovesOn, ReleasesAnew, passed, slot_in};
 ghost use Rattle.session.specs.Outcomes.{GivesBack, IsBorneOut, IsGone, IsOut, IsUnheard, IsWithout, IsWithoutOrGiven};
 
 use crate::claim::{Claim, Goal, Standing, Step, Then};
@@ -18,6 +20,9 @@ impl Claim {
         requires leaving { self.old.standing ≡ Standing.Leaving }
         ensures borne_out { IsBorneOut learned.now self.new }
         ensures soon { orders_left self.new ≤ 2 + self.old.tries }
+        ensures moves { MovesOn learned.now self.old self.new }
+        ensures goal { KeepsGoal self.old self.new }
+        ensures value { KeepsValue self.old self.new }
         ensures keeps { Keeps self.old self.new }
         ensures release { KeepsReleaseUntilOut learned.now self.old self.new }
     {
@@ -39,24 +44,42 @@ impl Claim {
     /// Releases the lock by the next request. A release before this one has no further effect.
     fn release_anew(&mut self, learned: &Learned<'_>)
         requires newest { learned.now.set ≡ self.old.newest }
-        requires out { (request : ℕ) → self.old.release ≡ Some request → IsOut learned.now self.old (Some request) }
+        requires out { IsSpent learned.now self.old }
         requires leaving { self.old.standing ≡ Standing.Leaving }
         ensures unheard { IsUnheard self.new }
         ensures soon { orders_left self.new ≤ 2 + self.old.tries }
+        ensures moves { Forgets learned.now self.old self.new ⊎ ReleasesAnew learned.now self.old self.new }
+        ensures goal { KeepsGoal self.old self.new }
+        ensures value { KeepsValue self.old self.new }
         ensures keeps { Keeps self.old self.new }
         ensures release { KeepsReleaseUntilOut learned.now self.old self.new }
     {
         self.release = None;
-        match RequestNumber::new(self.last_request(learned) + 1) {
+        match self.next_request(learned) {
             Some(request) => {
-                self.request = request.get();
-                self.since = learned.log.len();
+                self.slot = self.slot_in(learned.set);
+                self.since = passed(self.slot, learned.log.len());
                 self.set = learned.set;
+                self.request = request.get();
                 self.pace.outrun = 0;
                 self.submit_release(request);
             }
             None => self.give_up(Why::NoNumber),
         }
+    }
+
+    /// The next request of the session that no command of its client has, as far as is known.
+    fn next_request(&self, learned: &Learned<'_>) -> Option<RequestNumber>
+        ensures { IfSome result (IsNext learned.now self.now.host self.now.request) }
+    {
+        RequestNumber::new(self.last_request(learned) + 1)
+    }
+
+    /// Where the command stands that asked for the lock, if that is known and is in the log of these images.
+    fn slot_in(&self, set: u64) -> Option<u16>
+        ensures { result ≡ slot_in set self.now }
+    {
+        if set == self.set { self.slot } else { None }
     }
 
     pub(crate) fn submit_release(&mut self, request: RequestNumber)
@@ -84,6 +107,9 @@ impl Claim {
         requires leaving { self.old.standing ≡ Standing.Leaving }
         ensures borne_out { IsBorneOut learned.now self.new }
         ensures soon { orders_left self.new ≤ 1 + self.old.tries }
+        ensures moves { MovesOn learned.now self.old self.new }
+        ensures goal { KeepsGoal self.old self.new }
+        ensures value { KeepsValue self.old self.new }
         ensures keeps { Keeps self.old self.new }
         ensures release { KeepsReleaseUntilOut learned.now self.old self.new }
     {
@@ -144,6 +170,9 @@ impl Claim {
         ensures unheard { IsUnheard self.new }
         ensures soon { is_leaving self.old.standing ≡ false → orders_left self.new ≤ 12 }
         ensures leaves { is_leaving self.old.standing ≡ true → orders_left self.new ≤ 1 + self.old.tries }
+        ensures moves { GoesOn self.old self.new }
+        ensures goal { KeepsGoal self.old self.new }
+        ensures value { KeepsValue self.old self.new }
         ensures keeps { Keeps self.old self.new }
         ensures release { KeepsRelease self.old self.new }
     {
@@ -154,5 +183,16 @@ impl Claim {
             }
             _ => self.give_up(why),
         }
+    }
+}
+
+/// How many slots come before whatever is submitted next: those that were learned, and those up to the command that asked for the lock. A host that only
+/// looked has learned fewer.
+fn passed(slot: Option<u16>, learned: usize) -> usize
+    ensures { result ≡ passed slot learned }
+{
+    match slot {
+        Some(slot) => learned.max(usize::from(slot) + 1),
+        None => learned,
     }
 }

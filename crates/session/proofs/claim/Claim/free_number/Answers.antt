@@ -8,7 +8,9 @@ returns-then-not-is_numbered c =
       free = record {
         free = sym c.is_numbered.ensures ∙ c.if-not-is_numbered.true;
         goes_with = search rules;
-        above = search rules;
-        later = λ known is. let told : known.request ≤ c.last_request-last.result = c.last_request-last.ensures.known known is in search rules;
+        next = record {
+          above = search rules;
+          later = λ known is. let told : known.request ≤ c.last_request-last.result = c.last_request-last.ensures.known known is in search rules;
+        };
       };
     }
