@@ -52,7 +52,7 @@ pub record IsAmong (table : Shown) (host : ℕ) (kind : Kind) (ours : List ℕ) 
   pub of_kind : IsOfKind kind r.lock
   pub other : is_in ours r.lock ≡ false
 
--- all of them have lower numbers than this one
+-- all of them have lower numbers than this one: they were looked at, or came into the table later under a number that was passed
 abbrev pub AllPassed : Shown → ℕ → Kind → List ℕ → ℕ → Type 0
 AllPassed table host kind ours from = (r : LockRecord) → IsAmong table host kind ours r → r.lock < from
 

@@ -23,7 +23,7 @@ pub record HasLock (table : Shown) (host : ℕ) : Type 0 where
   pub through : lock.host ≡ host
 
 -- The host is purged by the session, through its own host and as its client, by a request above those that are known. Each lock of the purged host's
--- sessions is passed: somebody looked whether it is nobody's.
+-- sessions has a number that is passed: somebody looked whether it is nobody's, unless it came into the table later.
 pub record PurgesHost (p : Purging) (table : Shown) (command : Command) : Type 0 where
   pub through : command.host ≡ p.host
   pub client : command.client ≡ client_of p.host

@@ -9,7 +9,7 @@ use lock_command::{Action, Command, HostNumber, LockNumber, RequestNumber};
 use lock_table::Picture;
 use session::{client_of, last_request};
 
-/// A host whose processes are gone is purged, once of each lock of its sessions was seen that it is nobody's.
+/// A host whose processes are gone is purged, once its sessions' locks were gone over by rising number, and each was nobody's.
 #[derive(Clone, Copy, Debug, PartialEq, Eq)]
 pub struct Purging {
     /// Through which host the session works.
