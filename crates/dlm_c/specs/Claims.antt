@@ -6,7 +6,7 @@ use Rattle.session.specs.declared.claim.Claim.{Claim}
 use Rattle.session.specs.declared.claim.Standing.{Standing}
 use Rattle.session.specs.declared.claim.Standing.TheVariants as standing
 use Rattle.session.specs.declared.claim.Sign.{Sign}
-use Rattle.session.specs.declared.claim.Step.TheVariants.{Dropping, Ended}
+use Rattle.session.specs.declared.claim.Step.TheVariants.{Dropping, Ended, Resting}
 use Rattle.session.specs.declared.claim.Then.TheVariants.{End}
 use Rattle.session.specs.declared.learned.Learned.{Learned}
 use Rattle.session.specs.declared.order.Order.{Order}
@@ -144,19 +144,43 @@ pub record StaysAsked (old new : Claim) : Type 0 where
 abbrev pub IsOutBy : OpenHost → Claim → ℕ → Type 0
 IsOutBy host c request = (l : Learned) × IsLearnedBy host l × IsOut l c (Some request)
 
--- The claim goes on to the same lock's end: no nearer to it only where it has no end yet. Unless C speaks of a sign of life, what may be in the log stays known: the
--- command that asked for the lock, and the release, until that has no further effect.
+-- The claim goes on, on the same name, in the same mode, through the same host. Once it is to end soon, it comes nearer to its end. Unless C speaks of a sign of
+-- life, it is the same lock, asked for by the same command, and a release that may be in the log stays known until it has no further effect.
 pub record HearsOn (event : ℕ) (host : OpenHost) (old new : Claim) : Type 0 where
   pub same : IsOnSame old new
   pub nearer : ComesNearer old new
   pub asked : (IsOfSign event → ⊥) → StaysAsked old new
   pub release : (IsOfSign event → ⊥) → (request : ℕ) → old.release ≡ Some request → IsStillKnown request old new ⊎ IsOutBy host old request
 
--- Where no host is open, whatever the step leads to needs nothing heard, and what may be in the log stays known. If the operation then ends since the folder
--- could not be opened, it tells that failure, unless it was to end soon.
-pub record HearsAlone (event : ℕ) (status : ℤ) (old new : Claim) : Type 0 where
+-- The claim is told that nothing could be opened, or heard, for this reason. Whatever the step leads to needs nothing heard, and what may be in the log stays
+-- known. If the operation ends since the folder could not be opened, it tells that failure, unless it was to end soon.
+pub record Closes (failed : Failure) (old new : Claim) : Type 0 where
   pub unheard : IsUnheard new
+  pub nearer : ComesNearer old new
   pub keeps : Keeps old new
   pub release : KeepsRelease old new
-  pub nearer : event ≢ 2 → ComesNearer old new
-  pub told : (failed : Failure) → event ≢ 2 → event ≢ 3 → failure_number failed ≡ status → IsOpening old.step → old.over ≡ None → TellsWhy new (why.Failed failed)
+  pub told : IsOpening old.step → old.over ≡ None → TellsWhy new (why.Failed failed)
+
+-- The same where no sign of life could be taken.
+pub record LacksSign (old new : Claim) : Type 0 where
+  pub unheard : IsUnheard new
+  pub nearer : ComesNearer old new
+  pub keeps : Keeps old new
+  pub release : KeepsRelease old new
+
+-- A pause is over: the folder is opened next.
+pub record Rests (old new : Claim) : Type 0 where
+  pub unheard : IsUnheard new
+  pub opens : (milliseconds : ℕ) → old.step ≡ Resting milliseconds → IsOpening new.step
+  pub keeps : Keeps old new
+  pub release : KeepsRelease old new
+
+-- the failure of this number, if one has it
+abbrev pub IsFailureOf : ℤ → Failure → Type 0
+IsFailureOf status failed = (known : Failure) → failure_number known ≡ status → failed ≡ known
+
+-- What C says where no host is open: 2 that a pause is over, 3 that a sign of life cannot be had, else why the folder could not be opened.
+abbrev pub HearsAlone : ℕ → ℤ → Claim → Claim → Type 0
+HearsAlone event status old new =
+    ((event ≡ 2) × Rests old new) ⊎ ((event ≡ 3) × LacksSign old new)
+    ⊎ ((event ≢ 2) × (event ≢ 3) × ((failed : Failure) × IsFailureOf status failed × Closes failed old new))

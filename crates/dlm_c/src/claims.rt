@@ -4,9 +4,9 @@ ghost use Rattle.lock_table.specs.Apply.{table_after};
 ghost use Rattle.lock_table.specs.Picture.{IsPictureOf};
 ghost use Rattle.session.specs.Orders.{order_of};
 ghost use Rattle.dlm_c.specs.Asking.{BeginsGoalOr, KeepsLeft, KeepsNew, Stops, SubmitsOrder};
-ghost use Rattle.dlm_c.specs.Claims.{HearsAlone, HearsOfSigns, HearsOn, HearsRight, ShowsClaim, told_order};
+ghost use Rattle.dlm_c.specs.Claims.{Closes, HearsAlone, HearsOfSigns, HearsOn, HearsRight, ShowsClaim, told_order};
 ghost use Rattle.dlm_c.specs.Handles.{InHandle, InKept};
-ghost use Rattle.c_host.specs.Numbers.{done, no_memory};
+ghost use Rattle.c_host.specs.Numbers.{closed, done, no_memory};
 ghost use Rattle.c_host.specs.declared.open_host.OpenHost.{OpenHost};
 
 use crate::asker::AskerNumbers;
@@ -240,6 +240,9 @@ pub extern "C" fn dlm_c_hear(
     ensures heard { (opened : OpenHost) → host.old.held.value ≡ Some opened →
         InHandle (λ old new. (result ≡ done) × HearsRight event opened new × HearsOfSigns event old new × HearsOn event opened old new)
         handle.old.held.value handle.new.held.value result }
+    // The claim is told that nothing can be heard.
+    ensures none { host.old.held.value ≡ None →
+        InHandle (λ old new. (result ≡ closed) × Closes Failure.Broken old new) handle.old.held.value handle.new.held.value result }
     ensures same { host.new.held.value ≡ host.old.held.value }
 {
     let Some(mut claim) = handle.take(alloc) else {
@@ -260,6 +263,7 @@ fn hear_in(
 ) -> i32
     ensures heard { (opened : OpenHost) → host.old.held.value ≡ Some opened →
         (result ≡ done) × HearsRight event opened claim.new × HearsOfSigns event claim.old claim.new × HearsOn event opened claim.old claim.new }
+    ensures none { host.old.held.value ≡ None → (result ≡ closed) × Closes Failure.Broken claim.old claim.new }
     ensures same { host.new.held.value ≡ host.old.held.value }
 {
     let Some(opened) = host.take(alloc) else {
