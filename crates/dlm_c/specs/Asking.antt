@@ -112,7 +112,7 @@ pub record BeginsGoal (numbers : AskerNumbers) (number : ℕ) (bytes : List ℕ)
   pub first : new.step ≡ first_step goal
   pub stands : StandsFor goal old.standing new.standing
   pub value : goal ≡ Give → new.value ≡ stored number bytes
-  pub keeps : Keeps old new
+  pub keeps : Keeps (record old { over = new.over }) new
   pub release : KeepsRelease old new
 
 -- there is no such asker, or nothing has that number, or a release with another value may be in the log
@@ -132,7 +132,7 @@ pub record Stops (told : Bool) (old new : Claim) : Type 0 where
   pub soon : orders_left new ≤ 13
   pub no_pause : IsPause new.step → ⊥
   pub goes_on : (IsPause old.step → ⊥) → new.step ≡ old.step
-  pub keeps : Keeps old new
+  pub keeps : Keeps (record old { over = new.over }) new
   pub release : KeepsRelease old new
 
 -- ITS COMMAND IS SUBMITTED
