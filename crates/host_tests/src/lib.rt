@@ -1,6 +1,8 @@
-//! Tests of files, of devices with sectors, and of folders of images: a crate with tests is proved twice, and this one has little to prove.
+//! Tests of files, blocks, devices with sectors, and folders of images: a crate with tests is proved twice, and this one has little to prove.
 #![tactic(auto)]
 
+#[cfg(test)]
+mod blocks;
 #[cfg(test)]
 mod changing;
 #[cfg(test)]
