@@ -100,6 +100,32 @@ poke 0 8195 002
 expect "one damaged mark" 0 "$held" "$program" table "$work/d" 3
 poke 1 8195 002
 expect "two damaged marks" 1 "dlm: 7 NoMajority" "$program" table "$work/d" 3
+expect "a command after two damaged marks" 1 "dlm: 7 NoMajority" "$program" submit "$work/d" 3 enqueue 2 1 2 EX db
+
+# A look asks disk 0 first, and then the others, until half or more have failed: a mark that it comes upon before that tells the slot.
+for sound in 0 1; do
+    fresh
+    for disk in 0 1 2; do
+        [[ $disk -eq $sound ]] || poke "$disk" 8195 002
+    done
+    expect "a mark on disk $sound alone" 0 "$held" "$program" table "$work/d" 3
+    expect "a command after that mark" 0 "ack 1 Queued" "$program" submit "$work/d" 3 enqueue 2 1 2 EX db
+    expect "the same command" 1 "dlm: 7 NoMajority" "$program" submit "$work/d" 3 enqueue 2 1 2 EX db
+    expect "a check of them" 1 "$(for disk in 0 1 2; do [[ $disk -eq $sound ]] || echo "disk$disk slot 0 host 0 damaged"; done; echo "dlm: 5 Damaged")" "$program" check "$work/d"
+done
+
+# Each slot of a full log is marked: what is left of it on one disk is all.
+rm -rf -- "$work/d"
+mkdir -- "$work/d"
+"$program" format "$work/d" 3 1 7 >/dev/null
+"$program" submit "$work/d" 0 enqueue 1 1 1 EX db >/dev/null
+expect "fill of a full log" 0 "filled 0 slots" "$program" fill "$work/d" 3
+poke 1 8195 002
+poke 2 8195 002
+expect "fill of a full log with two damaged marks" 0 "filled 0 slots" "$program" fill "$work/d" 3
+expect "a table of it" 0 "$held" "$program" table "$work/d" 3
+poke 0 8195 002
+expect "fill without a mark" 1 "dlm: 7 NoMajority" "$program" fill "$work/d" 3
 
 # Cut off under way: what is acknowledged stands on the two others.
 for turn in 1 2 3 4 5 6 7 8 9 10; do
