@@ -3,6 +3,7 @@
 
 mod program;
 mod racing;
+mod refusal_line;
 
 use dlm_images::TryLock;
 use dlm_tasks::Fault;

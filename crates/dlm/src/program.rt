@@ -5,6 +5,7 @@ ghost use Rattle.dlm_tasks.specs.Printed.{WritesRun, WritesSweep};
 ghost use Rattle.dlm.specs.Tasks.{HasPrinted};
 
 use crate::racing;
+use crate::refusal_line::refusal_line;
 use dlm_images::TryLock;
 use dlm_tasks::{CommandFailure, Fault, images, print_sweep, run_script};
 use dlm_words::{Subcommand, WordsFault, task_of};
@@ -81,11 +82,11 @@ pub fn decline<E: Write>(fault: WordsFault, err: &mut E) -> u8
     match fault {
         WordsFault::NoMemory => refuse(Fault::NoMemory, err),
         WordsFault::Usage => {
-            let _ = writeln!(err, "dlm: usage");
+            let _ = err.write_all(b"dlm: usage\n");
             2
         }
         WordsFault::BadCommand => {
-            let _ = writeln!(err, "dlm: bad command");
+            let _ = err.write_all(b"dlm: bad command\n");
             2
         }
     }
@@ -107,7 +108,7 @@ fn finish<E: Write>(end: Result<(), CommandFailure>, err: &mut E) -> u8
 pub fn refuse<E: Write>(fault: Fault, err: &mut E) -> u8
     ensures { result ≡ 1 }
 {
-    let _ = writeln!(err, "dlm: {fault}");
+    let _ = err.write_all(refusal_line(fault).as_str().as_bytes());
     1
 }
 
