@@ -1,10 +1,12 @@
-ghost use Rattle.std.specs.Prelude.{◌≡◌, ◌⊎◌, IfErr};
+ghost use Rattle.std.specs.Prelude.{◌≡◌, ◌↔◌, ◌⊎◌, IfErr};
+ghost use Rattle.std_io.specs.IoError.{error_kind};
 ghost use Rattle.disk.specs.declared.fault.ImageFault.TheVariants.{Unreadable};
 ghost use Rattle.dlm_images.specs.declared.fault.FolderFault.TheVariants.{NoMemory, Image};
 ghost use Rattle.dlm_images.specs.SetFaults.{MayRefuse};
 
 use crate::fault::FolderFault;
 use disk::ImageFault;
+use std::io::ErrorKind;
 use std::path::PathBuf;
 use std::rt::Files;
 use std::{fs, io};
@@ -21,12 +23,20 @@ pub fn find_folder<R: Files + AllocGlobal>(rt: &R, folder: &str) -> Result<PathB
 {
     match fs::canonicalize(rt, folder) {
         Ok(path) => Ok(path),
-        Err(error) => match error.kind() {
-            io::ErrorKind::OutOfMemory => Err(FolderFault::NoMemory),
-            _ => Err(FolderFault::Image {
-                disk: 0,
-                fault: ImageFault::Unreadable,
-            }),
+        Err(error) => Err(fault_of(&error)),
+    }
+}
+
+/// Why a folder is not found. Only where the system refused memory it is for want of memory.
+fn fault_of(error: &io::Error) -> FolderFault
+    ensures memory { (result ≡ NoMemory) ↔ (error_kind error.now ≡ ErrorKind.OutOfMemory) }
+    ensures unreadable { (result ≡ NoMemory) ⊎ (result ≡ Image 0 Unreadable) }
+{
+    match error.kind() {
+        ErrorKind::OutOfMemory => FolderFault::NoMemory,
+        _ => FolderFault::Image {
+            disk: 0,
+            fault: ImageFault::Unreadable,
         },
     }
 }

@@ -1,4 +1,4 @@
-ghost use Rattle.std.specs.Prelude.{◌≡◌, ◌≤◌, ◌+◌, true, Some, Err, IfOk, IfErr};
+ghost use Rattle.std.specs.Prelude.{◌≡◌, ◌≤◌, ◌+◌, ◌*◌, ◌/◌, true, Some, Err, IfOk, IfErr};
 ghost use Rattle.lock_command.specs.Command.{is_submittable};
 ghost use Rattle.host.specs.Host.{Submitting};
 ghost use Rattle.dlm_images.specs.Operations.{HasOperated, IsAcknowledged};
@@ -19,6 +19,9 @@ const SHORTEST_BOUND: u64 = 20;
 const UNTIMED_BOUND: u64 = 16_000;
 
 const LONGEST_BOUND: u64 = 2_048_000;
+
+/// A random number says how many of so many parts of its bound a wait takes.
+const PARTS: u64 = 1 << 32;
 
 /// Submits as `DiskHost::submit` does, and waits where it was outrun, before it tries again: for a random time, up to as long as its attempt took. That
 /// doubles from try to try. So hosts that submit at once stop outrunning one another, in memory as on slow disks. A host that is not outrun never waits.
@@ -88,6 +91,14 @@ fn pause<R: Clock + RandomSource>(rt: &R, took: u64, outrun: u8) {
     let bound = doubled.clamp(SHORTEST_BOUND, LONGEST_BOUND);
     let mut bytes = [0xFF; 4];
     let _ = rt.fill_bytes(&mut bytes);
-    let part = u64::from(u32::from_le_bytes(bytes));
-    thread::sleep(rt, Duration::from_micros((bound * part) >> 32));
+    let part = u32::from_le_bytes(bytes);
+    thread::sleep(rt, Duration::from_micros(part_of(bound, part)));
+}
+
+/// So many parts of a bound.
+fn part_of(bound: u64, part: u32) -> u64
+    requires { bound ≤ LONGEST_BOUND }
+    ensures { result ≡ bound * part / PARTS }
+{
+    bound * u64::from(part) / PARTS
 }
