@@ -25,7 +25,10 @@ def wants(what, got, wanted):
 
 def run(text):
     """The status, the output and what was told, of words parted by single spaces."""
-    ended = subprocess.run([PROGRAM, *text.split(" ")], stdin=subprocess.DEVNULL, capture_output=True, check=False, text=True)
+    try:
+        ended = subprocess.run([PROGRAM, *text.split(" ")], stdin=subprocess.DEVNULL, capture_output=True, check=False, text=True, timeout=120)
+    except subprocess.TimeoutExpired:
+        raise Differs(f"`{text}`: does not end") from None
     return ended.returncode, ended.stdout, ended.stderr
 
 

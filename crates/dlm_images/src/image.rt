@@ -11,7 +11,7 @@ use disk::{Disk, DiskFault, FileDisk, ImageFault};
 use paxos_block::Header;
 use std::alloc::Global;
 use std::fs::OpenFile;
-use std::os::unix::fs::FileExt;
+use std::os::unix::fs::{FileExt, FileTypeExt};
 use std::path::{Path, PathBuf};
 use std::rt::Files;
 use torn_block::{HEADER_LENGTH, Layout};
@@ -51,7 +51,8 @@ where
     Ok((header, file))
 }
 
-/// Opens the file or block device at this path. What a device has after its image is left out of use.
+/// Opens the file or block device at this path. What a device has after its image is left out of use. Nothing else is opened: whoever opens a pipe
+/// that nobody writes into may wait for ever.
 pub fn open_cut_to_header<R: Files>(
     files: &R,
     path: &str,
@@ -61,6 +62,9 @@ where
     R::File: FileExt + OpenFile + Drop,
     ensures { IfErr result (λ fault. fault ≡ ImageFault.Unreadable) }
 {
+    if !is_file_or_device(files, path) {
+        return Err(ImageFault::Unreadable);
+    }
     let mut file = match access {
         Access::ReadAndWrite => FileDisk::open(files, path)?,
         Access::Read => FileDisk::open_to_read(files, path)?,
@@ -69,6 +73,13 @@ where
         cut_to_header(&mut file)?;
     }
     Ok(file)
+}
+
+fn is_file_or_device<R: Files>(files: &R, path: &str) -> bool {
+    match files.metadata(path) {
+        Ok(metadata) => metadata.is_file() || metadata.file_type().is_block_device(),
+        Err(_) => false,
+    }
 }
 
 /// Leaves what a device has after its image out of use, if its first bytes say how long the image is and there is room for it.
