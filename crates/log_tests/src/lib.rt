@@ -1,7 +1,15 @@
-//! Tests of attempts: a crate with tests is proved twice, and this one has little to prove.
+//! Tests of attempts, files, blocks, and devices with sectors: a crate with tests is proved twice, and this one has little to prove.
 #![tactic(auto)]
 
 #[cfg(test)]
 mod attempts;
 #[cfg(test)]
+mod blocks;
+#[cfg(test)]
+mod changing;
+#[cfg(test)]
+mod devices;
+#[cfg(test)]
 mod driven;
+#[cfg(test)]
+mod files;
