@@ -9,7 +9,7 @@ use torn_block::SequenceSpent;
 /// Why a benchmark did not come to its end.
 #[derive(Debug, Drop, Error)]
 pub enum BenchFailure {
-    #[error("the only words are `times`, `threads`, `tables` and `refused`")]
+    #[error("the only words are `times`, `tables` and `refused`")]
     Usage,
     #[error("out of memory")]
     NoMemory,

@@ -5,7 +5,7 @@ ghost use Rattle.cluster.specs.Opening.{IsNamed};
 use crate::bench_failure::BenchFailure;
 use crate::tables::row_name;
 use crate::timing::{ROUNDS, Timing};
-use cluster::{Cluster, ClusterName, Config, HostSeat, OpenGate, Opening};
+use cluster::{Cluster, ClusterName, Config, HostFault, HostSeat, OpenGate, Opening, Receipt};
 use disk::SimDisk;
 use lock_command::{Action, ClientNumber, Command, HostNumber, LockNumber, RequestNumber};
 use lock_modes::Mode;
@@ -110,10 +110,17 @@ fn submit_at<N: ClusterName>(
     if !seat.idle() {
         return Err(BenchFailure::Wrong);
     }
-    let receipt = cluster.submit(rt, seat, &mut OpenGate, command, 1)?;
-    match receipt.reply.answer {
-        Answer::Refused(_) => Err(BenchFailure::Wrong),
-        _ => Ok(()),
+    accepted(&cluster.submit(rt, seat, &mut OpenGate, command, 1))
+}
+
+// Whether it was acknowledged, and the table took it.
+fn accepted(done: &Result<Receipt, HostFault>) -> Result<(), BenchFailure> {
+    match done {
+        Ok(receipt) if matches!(receipt.reply.answer, Answer::Refused(_)) => {
+            Err(BenchFailure::Wrong)
+        }
+        Ok(_) => Ok(()),
+        Err(fault) => Err(BenchFailure::Host(*fault)),
     }
 }
 

@@ -13,19 +13,16 @@ mod disk_calls;
 mod first_path;
 mod image;
 mod learn;
-mod overlap;
 mod refused;
 mod run;
-mod slow_disk;
 mod tables;
-mod threads;
 mod timing;
 mod waits;
 mod whole_attempt;
 mod words;
 
 use bench_failure::BenchFailure;
-use run::{print_refusals, print_threads, run_all};
+use run::{print_refusals, run_all};
 use std::env;
 use std::process::ExitCode;
 use tables::print_tables;
@@ -33,7 +30,6 @@ use words::{BenchTask, task_of};
 
 fn main(rt: HostRuntime) -> ExitCode {
     let ended = match asked(&rt) {
-        Ok(BenchTask::Threads) => print_threads(&rt),
         Ok(BenchTask::Tables) => print_tables(&rt),
         Ok(BenchTask::Refused) => print_refusals(&rt),
         Ok(task) => run_all(&rt, task),

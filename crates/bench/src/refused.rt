@@ -217,8 +217,10 @@ fn recover<N: ClusterName>(
     if !seat.idle() {
         return Err(BenchFailure::Wrong);
     }
-    cluster.recover(rt, seat, &mut OpenGate, 1)?;
-    Ok(())
+    match &cluster.recover(rt, seat, &mut OpenGate, 1) {
+        Ok(_) => Ok(()),
+        Err(fault) => Err(BenchFailure::Host(*fault)),
+    }
 }
 
 fn restart_often<N: ClusterName>(
@@ -229,9 +231,18 @@ fn restart_often<N: ClusterName>(
     times: u8,
 ) -> Result<(), BenchFailure> {
     for _ in 0..times {
-        cluster.restart(rt, alloc, seat)?;
+        restart_once(rt, alloc, cluster, seat)?;
     }
     Ok(())
+}
+
+fn restart_once<N: ClusterName>(
+    rt: &impl Wait,
+    alloc: Global,
+    cluster: &Cluster<'_, N, SimDisk>,
+    seat: &mut HostSeat<N>,
+) -> Result<(), BenchFailure> {
+    cluster.restart(rt, alloc, seat).map_err(BenchFailure::from)
 }
 
 /// Submits. Where memory is refused, that is done again, or gone on with.
@@ -271,7 +282,9 @@ fn submit_once<N: ClusterName>(
     if !seat.idle() {
         return Err(BenchFailure::Wrong);
     }
-    Ok(cluster.submit(rt, seat, &mut OpenGate, command, 1)?)
+    cluster
+        .submit(rt, seat, &mut OpenGate, command, 1)
+        .map_err(BenchFailure::from)
 }
 
 fn resume<N: ClusterName>(
@@ -282,7 +295,9 @@ fn resume<N: ClusterName>(
     if seat.idle() {
         return Err(BenchFailure::Wrong);
     }
-    Ok(cluster.resume(rt, seat, &mut OpenGate)?)
+    cluster
+        .resume(rt, seat, &mut OpenGate)
+        .map_err(BenchFailure::from)
 }
 
 /// Marks a slot, as `submit` submits.
@@ -320,7 +335,9 @@ fn mark_once<N: ClusterName>(
     if !seat.idle() || slot >= cluster.slots() {
         return Err(BenchFailure::Wrong);
     }
-    Ok(cluster.mark(rt, seat, &mut OpenGate, slot)?)
+    cluster
+        .mark(rt, seat, &mut OpenGate, slot)
+        .map_err(BenchFailure::from)
 }
 
 /// Restarts. Where memory is refused, the host runs still and knows what it knew.
@@ -338,7 +355,7 @@ fn restart<N: ClusterName>(
             return Err(BenchFailure::Wrong);
         }
         refusals.restarts = refusals.restarts.saturating_add(1);
-        cluster.restart(rt, alloc, seat)?;
+        restart_once(rt, alloc, cluster, seat)?;
     }
     if !seat.prefix().is_empty() || !seat.acks().is_empty() {
         return Err(BenchFailure::Wrong);

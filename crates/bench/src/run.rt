@@ -8,16 +8,12 @@ use crate::direct::Direct;
 use crate::disk_calls::DiskCalls;
 use crate::first_path::{best_first_path, first_path};
 use crate::learn::Learn;
-use crate::overlap::{Order, slow_recoveries};
 use crate::refused::refused;
-use crate::threads::work_done;
 use crate::timing::{Ratio, Timing};
 use crate::waits::Waits;
 use crate::whole_attempt::WholeAttempt;
 use crate::words::BenchTask;
-use cluster::Entry;
 use std::sync::Wait;
-use std::thread::Threads;
 use std::time::Clock;
 
 /// How many operations a benchmark does where nothing is measured.
@@ -70,33 +66,8 @@ fn run_first_path<R: Print + Wait + Clock + AllocGlobal>(
             println!(rt; "first_path/second {rate}")?;
             Ok(Some(timing))
         }
-        BenchTask::Threads | BenchTask::Tables | BenchTask::Refused => Ok(None),
+        BenchTask::Tables | BenchTask::Refused => Ok(None),
     }
-}
-
-/// Prints what hosts get done, in threads of their own, how large an entry is, and whether the work of two slow disks overlaps.
-pub fn print_threads<R: Print + Threads + Wait + Clock + AllocGlobal + Sync>(
-    rt: &R,
-) -> Result<(), BenchFailure> {
-    for (hosts, rounds) in [(1, 128), (2, 64), (4, 32), (8, 16)] {
-        let work = work_done(rt, hosts, rounds)?;
-        let rate = (work.acks as u64).saturating_mul(1_000_000_000) / work.spent.max(1);
-        let entry = work.spent / (work.entries as u64).max(1);
-        println!(rt;
-            "threads_{hosts} {} acks, {} entries, {rate} acks a second, {entry} ns an entry",
-            work.acks, work.entries
-        )?;
-    }
-    println!(rt; "entry {} bytes", size_of::<Entry>())?;
-    for (name, order) in [("at_once", Order::AtOnce), ("in_turn", Order::InTurn)] {
-        let calls = slow_recoveries(rt, order)?;
-        let each = calls.spent / 1_000 / (calls.made as u64).max(1);
-        println!(rt;
-            "slow_disks_{name} {} calls, {each} microseconds a call",
-            calls.made
-        )?;
-    }
-    Ok(())
 }
 
 /// Prints how often memory was refused to a host's operations, and where.
@@ -127,7 +98,7 @@ fn run_one<R: Print + Clock + AllocGlobal, B: Benchmark>(
             println!(rt; "{name} {timing}")?;
             Ok(Some(timing))
         }
-        BenchTask::Threads | BenchTask::Tables | BenchTask::Refused => Ok(None),
+        BenchTask::Tables | BenchTask::Refused => Ok(None),
     }
 }
 

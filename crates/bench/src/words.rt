@@ -7,8 +7,6 @@ pub enum BenchTask {
     Check,
     /// Run it many times, and tell how long that took.
     Measure,
-    /// Tell how much host threads get done at the same time.
-    Threads,
     /// Tell what the commands of each kind take.
     Tables,
     /// Tell how often memory was refused to operations of a host, each of which was made again.
@@ -20,7 +18,6 @@ pub fn task_of(words: &[&str]) -> Result<BenchTask, BenchFailure> {
     match words {
         [] => Ok(BenchTask::Check),
         ["times"] => Ok(BenchTask::Measure),
-        ["threads"] => Ok(BenchTask::Threads),
         ["tables"] => Ok(BenchTask::Tables),
         ["refused"] => Ok(BenchTask::Refused),
         _ => Err(BenchFailure::Usage),
