@@ -38,12 +38,24 @@ fn recover_log(
     let mut commands = Commands::new(numbers, 16);
     let mut disks = blank_disks(alloc, config)?;
     for life in 0..16 {
-        let mut host = start_over(alloc, life, config, disks)?;
-        recover_and_add(&mut host, slots / 16, &mut commands, digest)?;
-        disks = host.into_disks();
+        let host = start_over(alloc, life, config, disks)?;
+        disks = one_share(host, slots / 16, &mut commands, digest)?;
         harm(&mut disks, &mut numbers, life == 9);
     }
     Ok(())
+}
+
+/// A host recovers and adds its share, and leaves its disks.
+fn one_share(
+    mut host: DiskHost<SimDisk>,
+    count: u16,
+    commands: &mut Commands,
+    digest: &mut Digest,
+) -> Result<Vec<SimDisk>, Failure> {
+    let added = recover_and_add(&mut host, count, commands, digest);
+    let disks = host.into_disks();
+    added?;
+    Ok(disks)
 }
 
 fn recover_and_add<D: Disk>(

@@ -42,11 +42,25 @@ fn live(
     };
     let mut disks = blank_disks(alloc, config)?;
     for life in 0..slots / COMMANDS {
-        let mut host = start_over(alloc, (life % 16) as u8, config, disks)?;
-        live_once(&mut host, commands, digest)?;
-        disks = host.into_disks();
+        disks = one_life(alloc, (life % 16) as u8, config, disks, commands, digest)?;
     }
     Ok(())
+}
+
+/// A host's life over these disks, which it leaves.
+fn one_life(
+    alloc: Global,
+    host: u8,
+    config: Config,
+    disks: Vec<SimDisk>,
+    commands: &mut Commands,
+    digest: &mut Digest,
+) -> Result<Vec<SimDisk>, Failure> {
+    let mut host = start_over(alloc, host, config, disks)?;
+    let lived = live_once(&mut host, commands, digest);
+    let disks = host.into_disks();
+    lived?;
+    Ok(disks)
 }
 
 /// Disks of zeros for a cluster.

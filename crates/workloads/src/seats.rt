@@ -6,15 +6,20 @@ use crate::digest::Digest;
 use crate::failure::Failure;
 use crate::numbers::Numbers;
 use crate::words::Size;
-use cluster::{Cluster, ClusterName, Config, Entry, HostSeat, OpenGate, Opening};
+use cluster::{
+    Cluster, ClusterName, Config, Entry, HostFault, HostSeat, OpenGate, Opening, Receipt,
+};
 use disk::SimDisk;
-use lock_command::HostNumber;
+use lock_command::{Command, HostNumber};
 use std::alloc::{AllocGlobal, Global};
 use std::marker::Brand;
 use std::sync::Wait;
 
 /// How many clusters there are.
 const CLUSTERS: u32 = 24;
+
+/// How many hosts there are.
+const HOSTS: u8 = 4;
 
 /// The slots of a log.
 const SLOTS: u16 = 1024;
@@ -61,11 +66,22 @@ fn fill_named<N: ClusterName, R: Wait + AllocGlobal>(
     let slots = opening.config().slots();
     let (ties, foundation) = opening.named::<N>(alloc)?;
     let cluster = Cluster::simulated(alloc, &ties, foundation)?;
-    let seats = work(rt, alloc, &cluster, slots, commands, digest)?;
+    fill(rt, alloc, cluster, slots, commands, digest)
+}
+
+fn fill<N: ClusterName, R: Wait>(
+    rt: &R,
+    alloc: Global,
+    cluster: Cluster<'_, N, SimDisk>,
+    slots: u16,
+    commands: Commands,
+    digest: &mut Digest,
+) -> Result<(), Failure> {
+    let (seats, worked) = work(rt, alloc, &cluster, slots, commands, digest)?;
     add_seats(&seats, digest);
     let record = cluster.finish(seats)?;
     add_entries(&record.entries, digest);
-    Ok(())
+    worked
 }
 
 /// What the hosts have learned.
@@ -83,33 +99,66 @@ fn add_entries(entries: &Vec<Entry>, digest: &mut Digest) {
     }
 }
 
-/// Lets the hosts work, and gives their seats.
+/// The hosts' seats, after they have worked, and whether they could. The seats are lent meanwhile, so that no way out has to drop them.
 fn work<N: ClusterName, R: Wait>(
     rt: &R,
     alloc: Global,
     cluster: &Cluster<'_, N, SimDisk>,
     slots: u16,
-    mut commands: Commands,
+    commands: Commands,
     digest: &mut Digest,
+) -> Result<(Vec<HostSeat<N>>, Result<(), Failure>), Failure> {
+    let mut seats = all_seats(rt, alloc, cluster)?;
+    let worked = take_turns(rt, cluster, seats.as_mut_slice(), slots, commands, digest);
+    Ok((seats, worked))
+}
+
+fn all_seats<N: ClusterName, R: Wait>(
+    rt: &R,
+    alloc: Global,
+    cluster: &Cluster<'_, N, SimDisk>,
 ) -> Result<Vec<HostSeat<N>>, Failure> {
     let mut seats = Vec::new(alloc);
-    for number in 0..4 {
-        let Some(host) = HostNumber::new(number) else {
-            return Err(Failure::Wrong);
-        };
-        let seat = cluster.seat(rt, alloc, host)?;
-        if seats.push(seat).is_err() {
-            return Err(Failure::NoMemory);
-        }
+    for number in 0..HOSTS {
+        add_seat(rt, alloc, cluster, number, &mut seats)?;
     }
+    Ok(seats)
+}
+
+fn add_seat<N: ClusterName, R: Wait>(
+    rt: &R,
+    alloc: Global,
+    cluster: &Cluster<'_, N, SimDisk>,
+    number: u8,
+    seats: &mut Vec<HostSeat<N>>,
+) -> Result<(), Failure> {
+    let Some(host) = HostNumber::new(number) else {
+        return Err(Failure::Wrong);
+    };
+    let seat = cluster.seat(rt, alloc, host)?;
+    if seats.push(seat).is_err() {
+        return Err(Failure::NoMemory);
+    }
+    Ok(())
+}
+
+/// Each host has its turn, by rising number, over and over, until the log is full.
+fn take_turns<N: ClusterName>(
+    rt: &impl Wait,
+    cluster: &Cluster<'_, N, SimDisk>,
+    seats: &mut [HostSeat<N>],
+    slots: u16,
+    mut commands: Commands,
+    digest: &mut Digest,
+) -> Result<(), Failure> {
     for turn in 0..slots / TURN {
-        let at = usize::from(turn % 4);
+        let at = usize::from(turn % u16::from(HOSTS));
         if at >= seats.len() {
             return Err(Failure::Wrong);
         }
         take_turn(rt, cluster, &mut seats[at], &mut commands, digest)?;
     }
-    Ok(seats)
+    Ok(())
 }
 
 fn take_turn<N: ClusterName>(
@@ -139,8 +188,23 @@ fn submit<N: ClusterName>(
     if !seat.idle() {
         return Err(Failure::Wrong);
     }
-    let receipt = cluster.submit(rt, seat, &mut OpenGate, command, 8)?;
-    commands.hear(&command, &receipt.reply);
-    digest.add_receipt(&receipt);
-    Ok(())
+    let done = cluster.submit(rt, seat, &mut OpenGate, command, 8);
+    hear(&done, &command, commands, digest)
+}
+
+/// What came of a submission.
+fn hear(
+    done: &Result<Receipt, HostFault>,
+    command: &Command,
+    commands: &mut Commands,
+    digest: &mut Digest,
+) -> Result<(), Failure> {
+    match done {
+        Ok(receipt) => {
+            commands.hear(command, &receipt.reply);
+            digest.add_receipt(receipt);
+            Ok(())
+        }
+        Err(fault) => Err(Failure::Host(*fault)),
+    }
 }
