@@ -58,11 +58,11 @@ command -v rt > /dev/null || fail "to prove and build the library there has to b
 # The kit's C code: its heap, its errno.
 kit=$(dirname -- "$(dirname -- "$(readlink -f -- "$(command -v rt)")")")/c
 prove
-for part in midgegalena mg_session device; do
+for part in midgegalena format mg_session device; do
     "$cc" -std=c99 -O2 -fPIC -Wall -Wextra -pedantic ${CFLAGS:-} -I "$here/include" -c "$here/src/$part.c" -o "$out/$part.o"
 done
 # One object, of which nothing but mg_* is seen, so that another library of the kit's in the same program does no harm.
-ld -r -o "$out/whole.o" "$out/"{midgegalena,mg_session,device}.o "$top/crates/dlm_c/out/libdlm_c.a" "$kit/libos_c.a" "$kit/liblibc_c.a"
+ld -r -o "$out/whole.o" "$out/"{midgegalena,format,mg_session,device}.o "$top/crates/dlm_c/out/libdlm_c.a" "$kit/libos_c.a" "$kit/liblibc_c.a"
 objcopy --wildcard --keep-global-symbol='mg_*' "$out/whole.o"
 # The same of the calls on devices alone, for dlm-shared, dlm-mount and their test.
 ld -r -o "$out/devices.o" "$out/device.o" "$top/crates/dlm_c/out/libdlm_c.a" "$kit/libos_c.a" "$kit/liblibc_c.a"

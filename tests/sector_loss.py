@@ -40,7 +40,7 @@ class Walk(power_loss.Walk):
 
     def run(self, words):
         if words[0] == "format":
-            words = [*words, "16", str(self.given.sector), "nodsync"]
+            words = [*words, "16", str(self.given.sector), "nodsync", "files"]
         env = {**os.environ, "LD_PRELOAD": self.shim, "DLM_PAGES": "1"}
         return subprocess.run([self.given.program, *words], capture_output=True, text=True, env=env)
 

@@ -118,15 +118,25 @@ struct mg_host;
  * becomes the image that is at fault, -1 where none is. */
 int mg_format(const char *folder, unsigned disks, unsigned slots, uint64_t cluster, int *disk);
 
-/* The same of devices that several machines use at once (docs/OPERATIONS.md). `diskK.img` in the folder is a link to a block device;
- * where it is not there it becomes a file. Each block has a sector of its own, and each call on it passes by the machine's cache. All
- * other calls see by the header what an image is, and work on such devices as on any.
+/* The same of devices that several machines use at once (docs/OPERATIONS.md). `diskK.img` in the folder is a link to a block device. Each block has a
+ * sector of its own, and each call on it passes by the machine's cache. All other calls see by the header what an image is, and work on such devices as
+ * on any.
  *
  * `hosts` are the numbers that there are from 0 on, 1 to 16; others are MG_BAD_ARGUMENT from then on. `sector` is 512, 1024, 2048 or
- * 4096 bytes, 0 for 4096. A device whose physical sectors are longer is MG_BAD_ARGUMENT, and `*disk` names it. Each write is made
- * to last by itself (O_DSYNC), but with the flag MG_NO_DSYNC by the next sync alone. */
+ * 4096 bytes, 0 for 4096. Each write is made to last by itself (O_DSYNC), but with the flag MG_NO_DSYNC by the next sync alone. With the flag MG_FILES a file is
+ * made where there is no `diskK.img`.
+ *
+ * Refused, and nothing is changed: MG_ALREADY_THERE where a file is there, or a device that is formatted; MG_UNREADABLE where a device is too short, is in use
+ * on this machine, as by a mount, or is none; MG_BAD_ARGUMENT, and `*disk` names it, where its physical sectors are longer than `sector`, where it does not
+ * begin at a multiple of that, or where it is one device with another disk. Where a later call fails, MG_UNREADABLE, what was made is undone. No gate is opened
+ * before all devices are whole; a format that ends within that is finished by the same words. mg_cause says more. */
 #define MG_NO_DSYNC 1u
+#define MG_FILES 2u
 int mg_format_shared(const char *folder, unsigned disks, unsigned slots, uint64_t cluster, unsigned hosts, unsigned sector, unsigned flags, int *disk);
+
+/* What there is to add to the number that this thread's last call of mg_open, mg_open_to_look, mg_take_number or mg_format_shared returned, as a session's
+ * calls do by these: which disk, why, and what is wanted; "" where there is nothing. It is not to be freed, and stays until the next such call. */
+const char *mg_cause(void);
 
 /* Opens a folder's images for the host of this number, 0 to 15, and locks the number. At MG_OK `*out` is a host that has
  * learned nothing, and is to be closed; else it is NULL.
@@ -319,6 +329,26 @@ struct mg_disk_view {
  * blocks it says nothing: `dlm check` reads these. All goes on while more than half are MG_OK. Fills up to `room`; `*count` is how
  * many there are. `into` may be NULL where `room` is 0. */
 int mg_disks(struct mg_host *host, struct mg_disk_view *into, size_t room, size_t *count);
+
+/* What stood behind the name of each image when the images were opened. */
+enum mg_image_kind {
+    MG_NO_IMAGE = 0,     /* it could not be opened or read */
+    MG_FILE_IMAGE = 1,   /* a file, or what else is no block device, for processes of one machine */
+    MG_DEVICE_IMAGE = 2, /* a block device, for processes of one machine */
+    MG_SHARED_IMAGE = 3  /* a device, or a file, of mg_format_shared */
+};
+
+struct mg_image_view {
+    uint32_t disk;
+    int32_t kind;
+    uint32_t sector;    /* MG_SHARED_IMAGE: bytes of a sector */
+    uint32_t hosts;     /* MG_SHARED_IMAGE: how many host numbers there are */
+    uint32_t read_only; /* 1: nobody may write to it. The device is read only, or the file system of the file is */
+    int32_t other;      /* the disk as which it was formatted by mg_format_shared, where that is not this one; else -1 */
+};
+
+/* As mg_disks. */
+int mg_images(struct mg_host *host, struct mg_image_view *into, size_t room, size_t *count);
 
 #ifdef __cplusplus
 }

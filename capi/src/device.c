@@ -6,9 +6,14 @@
 
 #include <errno.h>
 #include <linux/fs.h>
+#include <linux/loop.h>
+#include <stdio.h>
 #include <stdlib.h>
 #include <string.h>
 #include <sys/ioctl.h>
+#include <sys/stat.h>
+#include <sys/statvfs.h>
+#include <sys/sysmacros.h>
 #include <unistd.h>
 
 enum { MOST_READS = 9, ROOM = DEVICE_HOSTS * DEVICE_LONGEST_SECTOR };
@@ -41,24 +46,85 @@ bool device_find(int file, unsigned disk, uint8_t *room, struct device *device, 
     return size >= 0 && device_first(file, room) && dlm_c_device(disk, (uint64_t)size, (const struct first_bytes *)room, device, image) == 0;
 }
 
-bool device_suits(int file, uint32_t sector_size) {
+uint32_t device_sector(int file) {
     unsigned physical;
-    return ioctl(file, BLKPBSZGET, &physical) != 0 || physical <= sector_size;
+    return ioctl(file, BLKPBSZGET, &physical) == 0 ? physical : 0;
 }
 
-bool device_lay_out(int file, const struct device *device, unsigned disks, uint64_t cluster, unsigned disk, uint8_t *room) {
+/* Where a partition begins on its disk; 0 of a disk. */
+static uint64_t begin_of(dev_t number) {
+    char path[64];
+    unsigned long long sectors = 0;
+    FILE *from;
+    (void)snprintf(path, sizeof path, "/sys/dev/block/%u:%u/start", major(number), minor(number));
+    from = fopen(path, "re");
+    if (from && fscanf(from, "%llu", &sectors) != 1)
+        sectors = 0;
+    if (from)
+        fclose(from);
+    return 512 * (uint64_t)sectors;
+}
+
+uint64_t device_begin(int file) {
+    struct loop_info64 loop;
+    struct stat facts;
+    if (fstat(file, &facts) != 0 || !S_ISBLK(facts.st_mode))
+        return 0;
+    return begin_of(facts.st_rdev) + (ioctl(file, LOOP_GET_STATUS64, &loop) == 0 ? loop.lo_offset : 0);
+}
+
+bool device_identity(int file, struct identity *into) {
+    struct loop_info64 loop;
+    struct stat facts;
+    memset(into, 0, sizeof *into);
+    if (fstat(file, &facts) != 0)
+        return false;
+    into->of = facts.st_dev;
+    into->number = facts.st_ino;
+    if (S_ISBLK(facts.st_mode) && ioctl(file, LOOP_GET_STATUS64, &loop) == 0) {
+        /* Of a file, or of a block device behind it. */
+        into->of = loop.lo_device;
+        into->number = loop.lo_inode;
+        into->at = device_begin(file);
+    } else if (S_ISBLK(facts.st_mode)) {
+        into->is_block = 1;
+        into->of = facts.st_rdev;
+        into->number = 0;
+    }
+    return true;
+}
+
+bool device_is_read_only(int file) {
+    struct statvfs facts;
+    int is_so = 0;
+    if (ioctl(file, BLKROGET, &is_so) == 0)
+        return is_so != 0;
+    return fstatvfs(file, &facts) == 0 && (facts.f_flag & ST_RDONLY) != 0;
+}
+
+bool device_lay_out(int file, const struct device *device, unsigned disks, uint64_t cluster, unsigned disk, enum step step, uint8_t *room) {
     uint64_t size = 0;
-    uint8_t *first = room + ROOM, gate;
+    uint8_t *first = room + ROOM;
     bool done = dlm_c_device_header(device, disks, cluster, disk, (struct first_bytes *)first, &size) == 0;
     memset(room, 0, ROOM);
-    for (uint64_t at = 0; at < size && done; at += ROOM)
+    if (step == HEADER)
+        first[0] = 0;
+    if (step == UNDONE)
+        first = room;
+    for (uint64_t at = 0; step == ZEROS && at < size && done; at += ROOM)
         done = move(file, room, size - at < ROOM ? size - at : ROOM, at, true);
-    gate = first[0];
-    for (int opens = 0; opens < 2 && done; opens++) {
-        first[0] = opens ? gate : 0;
-        done = sync_data(file) && move(file, first, DEVICE_FIRST, 0, true);
-    }
+    if (step != ZEROS)
+        done = done && move(file, first, DEVICE_FIRST, 0, true);
     return done && sync_data(file);
+}
+
+enum state device_state(const struct device *device, unsigned disks, uint64_t cluster, unsigned disk, uint8_t *room) {
+    uint64_t size = 0;
+    uint8_t *wanted = room + ROOM;
+    if (dlm_c_device_header(device, disks, cluster, disk, (struct first_bytes *)wanted, &size) != 0 ||
+        memcmp(room + 1, wanted + 1, DEVICE_FIRST - 1) != 0)
+        return OTHER_BYTES;
+    return room[0] == wanted[0] ? GATE_OPEN : room[0] == 0 ? GATE_CLOSED : OTHER_BYTES;
 }
 
 bool device_read(int file, const struct device *device, uint8_t *room, uint64_t at, struct row *row) {

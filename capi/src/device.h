@@ -90,11 +90,28 @@ bool device_first(int file, uint8_t *room);
 /* Whether a file is such a device, and right as that of this disk; the header of the image that it shows. Its own first bytes are in the room then. */
 bool device_find(int file, unsigned disk, uint8_t *room, struct device *device, struct header *image);
 
-/* Whether the physical sectors of a block device are no longer than this; of another file it is so. */
-bool device_suits(int file, uint32_t sector_size);
+/* The bytes of a block device's physical sectors, and where on its disk it begins, in bytes, as far as the system tells: a partition, or a loop device. Of another
+ * file both are 0. */
+uint32_t device_sector(int file);
+uint64_t device_begin(int file);
 
-/* Zeros throughout, and a sync; the header with a closed gate, and a sync; the gate, and a sync. */
-bool device_lay_out(int file, const struct device *device, unsigned disks, uint64_t cluster, unsigned disk, uint8_t *room);
+/* What makes two files one device: two names of a file, two nodes of a block device, two loop devices over one place of a file. */
+struct identity {
+    uint64_t is_block, of, number, at;
+};
+bool device_identity(int file, struct identity *into);
+
+/* Whether nobody may write to it: the device is read only, or the file system of the file is. */
+bool device_is_read_only(int file);
+
+/* The steps of a format: zeros throughout; the header with a closed gate; the gate. Each ends with a sync. All devices of a set make a step before any makes the
+ * next, so none is open before all are whole. Or the first bytes become zeros again. */
+enum step { ZEROS, HEADER, GATE, UNDONE };
+bool device_lay_out(int file, const struct device *device, unsigned disks, uint64_t cluster, unsigned disk, enum step step, uint8_t *room);
+
+/* How far such a format came, by the first bytes of a device, which are in the room: they are all of the header, or all but its gate, or neither. */
+enum state { OTHER_BYTES, GATE_CLOSED, GATE_OPEN };
+enum state device_state(const struct device *device, unsigned disks, uint64_t cluster, unsigned disk, uint8_t *room);
 
 /* A row is read until two reads in a row agree in all blocks and stamps, nine times at most. A write is of bytes of one block; of none it is no call. It fails
  * where fewer bytes than those of the sector were written. */

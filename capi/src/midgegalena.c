@@ -9,10 +9,12 @@
 
 #include "claim.h"
 #include "device.h"
+#include "files.h"
 #include "midgegalena.h"
 
 #include <errno.h>
 #include <fcntl.h>
+#include <stdarg.h>
 #include <stdbool.h>
 #include <stdio.h>
 #include <stdlib.h>
@@ -25,7 +27,7 @@
 
 /* ---- crates/dlm_c/src, and crates/c_host/src below it ---- */
 
-enum { HEADER_LENGTH = 1024, ROW_LENGTH = 4096, COPY_LENGTH = 128 };
+enum { ROW_LENGTH = 4096, COPY_LENGTH = 128 };
 
 /* Handle of handle.rt: all zeros keep no host. Nothing but the functions below reads or writes it. */
 struct handle {
@@ -108,8 +110,6 @@ enum { SYNC = 2, READ = 3, WRITE = 4 };
 enum { DONE = 0, RESET = 1, FAILED = 2 };
 enum { NOTHING_DUE = -5 };
 
-int32_t dlm_c_header(uint32_t disks, uint32_t slots, uint64_t cluster, uint32_t disk, struct header *into);
-bool dlm_c_is_formatted(const struct header *header);
 bool dlm_c_is_waited_for(const struct request *request);
 int32_t dlm_c_open(const struct images *images, uint32_t number, struct handle *handle, struct opened *told, int32_t *disk);
 void dlm_c_close(struct handle *handle);
@@ -136,7 +136,7 @@ int32_t dlm_c_next_purge(struct handle *handle, const struct cleanup *cleanup, u
 int32_t dlm_c_submit_purge(struct handle *handle, const struct cleanup *cleanup);
 
 /* What it says below 0, but for a bad argument, is of calls that this file does not make. */
-static int status_of(int32_t told) { return told >= MG_BAD_ARGUMENT ? told : MG_BROKEN; }
+int status_of(int32_t told) { return told >= MG_BAD_ARGUMENT ? told : MG_BROKEN; }
 
 /* ---- texts ---- */
 
@@ -203,12 +203,32 @@ const char *mg_name(int status) {
 
 const char *mg_version(void) { return VERSION_OF(MG_VERSION_MAJOR, MG_VERSION_MINOR); }
 
+/* ---- what there is to add to a refusal ---- */
+
+static __thread char cause[512];
+
+const char *mg_cause(void) { return cause; }
+
+void no_cause(void) { cause[0] = '\0'; }
+
+void because(const char *format, ...) {
+    size_t length = strlen(cause);
+    int error = errno;
+    va_list rest;
+    va_start(rest, format);
+    if (length > 0)
+        (void)snprintf(cause + length, sizeof cause - length, "; ");
+    length = strlen(cause);
+    (void)vsnprintf(cause + length, sizeof cause - length, format, rest);
+    va_end(rest);
+    errno = error;
+}
+
 /* ---- files: as FileDisk of crates/disk ---- */
 
-enum { MOST_READS = 9, BOOT = 1, NO_FILE = -1, LEAST_FILE = 3 };
+enum { MOST_READS = 9, BOOT = 1, LEAST_FILE = 3 };
 
-/* Never 0, 1 or 2: where the program has closed one of these, what it or another library prints would go into the image. */
-static int open_file(const char *path, int flags) {
+int open_file(const char *path, int flags) {
     int file, low;
     do
         file = open(path, flags | O_CLOEXEC | O_NOCTTY, 0666);
@@ -235,9 +255,7 @@ static bool read_whole(int file, uint8_t *into, size_t length, uint64_t at) {
     return true;
 }
 
-/* Reads until two reads in a row tell the same: a read that another process's write overlaps may tell some of the old bytes
- * and some of the new. `length` is up to that of a row. */
-static bool read_settled(int file, uint8_t *into, size_t length, uint64_t at) {
+bool read_settled(int file, uint8_t *into, size_t length, uint64_t at) {
     uint8_t again[ROW_LENGTH];
     if (length > sizeof again || !read_whole(file, into, length, at))
         return false;
@@ -251,7 +269,7 @@ static bool read_settled(int file, uint8_t *into, size_t length, uint64_t at) {
     return false;
 }
 
-static bool write_whole(int file, const uint8_t *from, size_t length, uint64_t at) {
+bool write_whole(int file, const uint8_t *from, size_t length, uint64_t at) {
     while (length > 0) {
         ssize_t n = pwrite(file, from, length, (off_t)at);
         if (n < 0 && errno == EINTR)
@@ -265,8 +283,7 @@ static bool write_whole(int file, const uint8_t *from, size_t length, uint64_t a
     return true;
 }
 
-/* "FOLDER/NAMEnumberEND", or "FOLDER/NAME" where the number is below 0, to be freed, or NULL. */
-static char *path_of(const char *folder, const char *name, int number, const char *end) {
+char *path_of(const char *folder, const char *name, int number, const char *end) {
     size_t size = strlen(folder) + strlen(name) + strlen(end) + 5;
     char *path = malloc(size);
     if (path && number < 0)
@@ -299,6 +316,8 @@ struct mg_host {
     bool marks_late;
     int32_t due; /* the slot of a command that is to be marked, or NONE_DUE */
     int faults[MG_DISKS]; /* MG_OK, or why the image is not used, or that a call on it failed */
+    struct mg_image_view images[MG_DISKS];
+    int errors[MG_DISKS]; /* errno, where an image could not be opened or read */
 };
 
 static bool is_shared(const struct mg_host *host, unsigned disk) { return host->how[disk].sector_size != 0; }
@@ -390,12 +409,25 @@ static void let_go(struct mg_host *host) {
     free(host);
 }
 
+/* Of a device of several machines that is not right as this disk: as which other one it is. */
+static void find_other(struct mg_host *host, unsigned disk, int file) {
+    struct device how;
+    struct header shown;
+    if (!device_first(file, host->room) || host->room[1] != DEVICE_VERSION)
+        return;
+    for (unsigned other = 0; other < MG_DISKS; other++)
+        if (other != disk && device_find(file, other, host->room, &how, &shown))
+            host->images[disk].other = (int32_t)other;
+}
+
 /* Opens an image anew, past the machine's cache, if it is a device that several machines use. Tells of it as of an image of layout 2. */
 static bool find_shared(struct mg_host *host, unsigned disk, const char *path, int flags, struct image *image) {
     struct device how;
     struct header shown;
     int file = open_file(path, flags | O_DIRECT | O_DSYNC);
     bool is_found = file != NO_FILE && device_find(file, disk, host->room, &how, &shown);
+    if (file != NO_FILE && !is_found)
+        find_other(host, disk, file);
     if (file != NO_FILE && !(is_found && how.dsync)) {
         close(file);
         file = is_found ? open_file(path, flags | O_DIRECT) : NO_FILE;
@@ -405,6 +437,9 @@ static bool find_shared(struct mg_host *host, unsigned disk, const char *path, i
     close(host->files[disk]);
     host->files[disk] = file;
     host->how[disk] = how;
+    host->images[disk].kind = MG_SHARED_IMAGE;
+    host->images[disk].sector = how.sector_size;
+    host->images[disk].hosts = how.hosts;
     image->is_device = 0;
     image->size = shown.size;
     memcpy(image->bytes, shown.bytes, HEADER_LENGTH);
@@ -418,12 +453,14 @@ static bool find_image(struct mg_host *host, const char *folder, unsigned disk, 
     char *path = path_of(folder, "disk", (int)disk, ".img");
     if (!path)
         return false;
+    errno = 0;
     *file = open_file(path, flags);
     if (*file != NO_FILE && fstat(*file, &facts) == 0) {
         off_t size = S_ISBLK(facts.st_mode) ? lseek(*file, 0, SEEK_END) : facts.st_size;
         if (size >= 0) {
             image->is_device = S_ISBLK(facts.st_mode) ? 1 : 0;
             image->size = (uint64_t)size;
+            host->images[disk].kind = image->is_device ? MG_DEVICE_IMAGE : MG_FILE_IMAGE;
             /* What the machine has in its cache of a device may be old. */
             image->is_read = image->is_device && find_shared(host, disk, path, flags, image);
             if (!image->is_read && read_settled(*file, image->bytes, size < HEADER_LENGTH ? (size_t)size : HEADER_LENGTH, 0)) {
@@ -433,7 +470,13 @@ static bool find_image(struct mg_host *host, const char *folder, unsigned disk, 
             }
         }
     }
+    if (!image->is_read) {
+        host->errors[disk] = errno;
+        host->images[disk].kind = MG_NO_IMAGE;
+    }
     free(path);
+    if (*file != NO_FILE)
+        host->images[disk].read_only = device_is_read_only(*file);
     if (*file != NO_FILE && !image->is_read) {
         close(*file);
         *file = NO_FILE;
@@ -451,14 +494,19 @@ static int lock_number(const char *folder, unsigned number, int *lock) {
     if (*lock == NO_FILE)
         *lock = open_file(path, O_RDONLY);
     free(path);
-    if (*lock == NO_FILE)
+    if (*lock == NO_FILE) {
+        because("host%u.lock can be neither made nor opened: %s", number, strerror(errno));
         return MG_NO_LOCK;
+    }
     do
         done = flock(*lock, LOCK_EX | LOCK_NB);
     while (done != 0 && errno == EINTR);
     if (done == 0)
         return MG_OK;
-    return errno == EWOULDBLOCK ? MG_HOST_IN_USE : MG_NO_LOCK;
+    if (errno == EWOULDBLOCK)
+        return MG_HOST_IN_USE;
+    because("host%u.lock cannot be locked: %s", number, strerror(errno));
+    return MG_NO_LOCK;
 }
 
 /* The name of this machine, for devices that keep one: 32 digits of the file machine-id in the folder, or else of /etc/machine-id. */
@@ -467,18 +515,36 @@ static bool read_machine(const char *folder, struct machine *name) {
     char text[2 * sizeof name->bytes + 1] = "";
     char *path = path_of(folder, "machine-id", -1, "");
     int file = path ? open_file(path, O_RDONLY) : NO_FILE;
-    bool done;
-    if (path && file == NO_FILE && errno == ENOENT)
+    bool is_elsewhere = path && file == NO_FILE && errno == ENOENT, is_there, done;
+    if (is_elsewhere)
         file = open_file("/etc/machine-id", O_RDONLY);
     free(path);
-    if (file == NO_FILE)
-        return false;
-    done = read_whole(file, (uint8_t *)text, sizeof text - 1, 0) && strspn(text, digits) == sizeof text - 1 && strspn(text, "0") < sizeof text - 1;
-    close(file);
-    errno = EINVAL;
+    is_there = file != NO_FILE;
+    done = is_there && read_whole(file, (uint8_t *)text, sizeof text - 1, 0) && strspn(text, digits) == sizeof text - 1 && strspn(text, "0") < sizeof text - 1;
+    if (!done)
+        because("this machine has no name: %s %s, and 32 digits of 0 to 9 and a to f are wanted, not all of them 0",
+                is_elsewhere ? "the folder has no machine-id, and /etc/machine-id" : "the folder's machine-id",
+                is_there ? "has something else" : errno == ENOENT ? "is not there" : "cannot be read");
+    if (is_there) {
+        close(file);
+        errno = EINVAL;
+    }
     for (size_t i = 0; i < sizeof text - 1 && done; i++)
         name->bytes[i / 2] = (uint8_t)(name->bytes[i / 2] << 4 | (strchr(digits, text[i]) - digits));
     return done;
+}
+
+/* Says of an image that is not used what is known of it. */
+static void say_why_not(const struct mg_host *host, unsigned disk) {
+    const struct mg_image_view *image = &host->images[disk];
+    if (image->kind == MG_NO_IMAGE)
+        because("disk%u.img: %s", disk, strerror(host->errors[disk] ? host->errors[disk] : EIO));
+    else if (image->other >= 0)
+        because("disk%u.img is formatted as disk %d", disk, (int)image->other);
+    else if (host->files[disk] != NO_FILE)
+        because("disk%u.img is read only", disk);
+    else
+        because("disk%u.img is no right image of this set", disk);
 }
 
 /* Where devices keep the names of machines the number has to be this one's. */
@@ -488,11 +554,19 @@ static int own_number(struct mg_host *host, const char *folder, unsigned number,
     bool any = false;
     for (unsigned k = 0; k < host->disks; k++)
         any |= is_shared(host, k) && host->files[k] != NO_FILE;
+    if (!any && takes)
+        because("the folder has no devices of several machines");
     if (!any)
         return takes ? MG_BAD_ARGUMENT : MG_OK;
     if (!read_machine(folder, &machine))
         return MG_NO_LOCK;
     status = status_of(device_claim(host->files, host->how, host->disks, number, takes ? TAKE : CLAIM, &machine, &other, host->room));
+    if (status == MG_NO_MAJORITY) {
+        because("half of the devices or fewer tell whose host number %u is", number);
+        for (unsigned k = 0; k < host->disks; k++)
+            if (host->files[k] == NO_FILE || host->images[k].read_only)
+                say_why_not(host, k);
+    }
     errno = EREMOTE;
     return status;
 }
@@ -508,6 +582,8 @@ static int open_host(struct mg_host *host, struct images *images, const char *fo
         if (!find_image(host, folder, k, way == LOOKS ? O_RDONLY : O_RDWR, &images->all[k]))
             return MG_NO_MEMORY;
     status = dlm_c_open(images, number, &host->handle, &told, disk);
+    if (status != 0 && *disk >= 0 && *disk < MG_DISKS && (status == MG_UNREADABLE || host->images[*disk].other >= 0))
+        say_why_not(host, (unsigned)*disk);
     if (status != 0)
         return status_of(status);
     host->disks = told.disks;
@@ -516,8 +592,10 @@ static int open_host(struct mg_host *host, struct images *images, const char *fo
             close(host->files[k]);
             host->files[k] = NO_FILE;
         }
-        if (host->files[k] != NO_FILE && is_shared(host, k) && number >= host->how[k].hosts)
+        if (host->files[k] != NO_FILE && is_shared(host, k) && number >= host->how[k].hosts) {
+            because("disk%u.img has host numbers from 0 to %u, and %u was given", k, (unsigned)host->how[k].hosts - 1, number);
             return MG_BAD_ARGUMENT;
+        }
     }
     if (way == LOOKS)
         return MG_OK;
@@ -531,6 +609,7 @@ static int open_folder(const char *folder, unsigned number, enum way way, struct
     struct mg_host *host;
     struct images *images;
     char *followed;
+    no_cause();
     if (disk)
         *disk = -1;
     if (out)
@@ -544,8 +623,11 @@ static int open_folder(const char *folder, unsigned number, enum way way, struct
     host->only_looks = way == LOOKS;
     host->lock = NO_FILE;
     host->due = NONE_DUE;
-    for (unsigned k = 0; k < MG_DISKS; k++)
+    for (unsigned k = 0; k < MG_DISKS; k++) {
         host->files[k] = NO_FILE;
+        host->images[k].disk = k;
+        host->images[k].other = -1;
+    }
     images = calloc(1, sizeof *images);
     /* A link is followed once: one that is moved meanwhile would give images of one folder, and the lock of another. */
     followed = realpath(folder, NULL);
@@ -557,9 +639,9 @@ static int open_folder(const char *folder, unsigned number, enum way way, struct
     if (disk)
         *disk = at_fault;
     if (status != MG_OK) {
-        int cause = errno;
+        int error = errno;
         let_go(host);
-        errno = cause;
+        errno = error;
         return status;
     }
     *out = host;
@@ -626,166 +708,6 @@ int mg_set_late_marks(struct mg_host *host, int late) {
 int mg_mark_now(struct mg_host *host) { return host ? mark_due(host) : MG_BAD_ARGUMENT; }
 
 bool is_unmarked(const struct mg_host *host) { return host->due != NONE_DUE; }
-
-/* ---- a new folder: as format_folder and lay_out of crates/dlm_images ---- */
-
-/* Whether something is at this path that is not to be written over: all but a block device that is not formatted. */
-static int look_at_place(const char *path, uint64_t size, bool *taken) {
-    struct stat facts;
-    struct header found;
-    int file;
-    int status = MG_UNREADABLE;
-    *taken = lstat(path, &facts) == 0;
-    if (!*taken || stat(path, &facts) != 0 || !S_ISBLK(facts.st_mode))
-        return MG_OK;
-    file = open_file(path, O_RDWR);
-    if (file == NO_FILE)
-        return MG_UNREADABLE;
-    found.size = size;
-    if (lseek(file, 0, SEEK_END) >= (off_t)size && read_settled(file, found.bytes, sizeof found.bytes, 0)) {
-        *taken = dlm_c_is_formatted(&found);
-        status = MG_OK;
-    }
-    close(file);
-    return status;
-}
-
-/* Zeros throughout, and a sync; the header with a closed gate, and a sync; the gate, and a sync. */
-static bool lay_out(int file, const struct header *header) {
-    static const uint8_t zeros[4096];
-    uint8_t bytes[HEADER_LENGTH];
-    for (uint64_t at = 0; at < header->size; at += sizeof zeros) {
-        uint64_t left = header->size - at;
-        if (!write_whole(file, zeros, left < sizeof zeros ? (size_t)left : sizeof zeros, at))
-            return false;
-    }
-    if (!sync_data(file))
-        return false;
-    memcpy(bytes, header->bytes, sizeof bytes);
-    bytes[0] = 0;
-    if (!write_whole(file, bytes, sizeof bytes, 0) || !sync_data(file))
-        return false;
-    return write_whole(file, header->bytes, 1, 0) && sync_data(file);
-}
-
-static bool sync_folder(const char *folder) {
-    int file = open_file(folder, O_RDONLY);
-    int done;
-    if (file == NO_FILE)
-        return false;
-    do
-        done = fsync(file);
-    while (done != 0 && errno == EINTR);
-    close(file);
-    return done == 0;
-}
-
-static bool make_image(const char *folder, const char *path, const struct header *header) {
-    struct stat facts;
-    bool is_there = lstat(path, &facts) == 0;
-    int file = open_file(path, is_there ? O_RDWR : O_RDWR | O_CREAT | O_EXCL);
-    bool done = file != NO_FILE;
-    if (done && is_there)
-        done = fstat(file, &facts) == 0 && S_ISBLK(facts.st_mode) && lseek(file, 0, SEEK_END) >= (off_t)header->size;
-    done = done && lay_out(file, header);
-    if (file != NO_FILE)
-        close(file);
-    return done && sync_folder(folder);
-}
-
-/* Looks at the place of an image, or makes it. */
-static int at_image(const char *folder, const struct header *header, unsigned disk, bool makes) {
-    int status = MG_OK;
-    bool taken = false;
-    char *path = path_of(folder, "disk", (int)disk, ".img");
-    if (!path)
-        return MG_NO_MEMORY;
-    if (!makes)
-        status = look_at_place(path, header->size, &taken);
-    else if (!make_image(folder, path, header))
-        status = MG_UNREADABLE;
-    free(path);
-    return taken ? MG_ALREADY_THERE : status;
-}
-
-int mg_format(const char *folder, unsigned disks, unsigned slots, uint64_t cluster, int *disk) {
-    struct header header;
-    if (disk)
-        *disk = -1;
-    if (!folder)
-        return MG_BAD_ARGUMENT;
-    memset(&header, 0, sizeof header);
-    if (dlm_c_header(disks, slots, cluster, 0, &header) != 0)
-        return MG_BAD_ARGUMENT;
-    for (int makes = 0; makes < 2; makes++)
-        for (unsigned k = 0; k < disks; k++) {
-            int status = status_of(dlm_c_header(disks, slots, cluster, k, &header));
-            if (status == MG_OK)
-                status = at_image(folder, &header, k, makes == 1);
-            if (status == MG_UNREADABLE && disk)
-                *disk = (int)k;
-            if (status != MG_OK)
-                return status;
-        }
-    return MG_OK;
-}
-
-/* ---- a new folder for several machines ---- */
-
-/* A device that is to be made, as disk 0 to one below `disks`. */
-struct plan {
-    struct device device;
-    unsigned disks;
-    uint64_t cluster, size;
-};
-
-/* Looks at the place of a device, or lays it out; a file is made where there is none. */
-static int at_device(const char *folder, const struct plan *plan, unsigned disk, bool makes, uint8_t *room) {
-    struct stat facts;
-    struct header found;
-    char *path = path_of(folder, "disk", (int)disk, ".img");
-    bool is_there = path && lstat(path, &facts) == 0;
-    bool is_device = is_there && stat(path, &facts) == 0 && S_ISBLK(facts.st_mode);
-    int file = path && (is_device || (makes && !is_there)) ? open_file(path, O_RDWR | O_DIRECT | (is_there ? 0 : O_CREAT | O_EXCL)) : NO_FILE;
-    int status = MG_UNREADABLE;
-    free(path);
-    if (!path)
-        return MG_NO_MEMORY;
-    if (is_there ? !is_device : !makes)
-        return is_there ? MG_ALREADY_THERE : MG_OK;
-    if (file == NO_FILE)
-        return MG_UNREADABLE;
-    if (makes)
-        status = device_lay_out(file, &plan->device, plan->disks, plan->cluster, disk, room) && sync_folder(folder) ? MG_OK : MG_UNREADABLE;
-    else if (!device_suits(file, plan->device.sector_size))
-        status = MG_BAD_ARGUMENT;
-    else if (lseek(file, 0, SEEK_END) >= (off_t)plan->size && device_first(file, room)) {
-        found.size = plan->size;
-        memcpy(found.bytes, room, HEADER_LENGTH);
-        status = dlm_c_is_formatted(&found) ? MG_ALREADY_THERE : MG_OK;
-    }
-    close(file);
-    return status;
-}
-
-int mg_format_shared(const char *folder, unsigned disks, unsigned slots, uint64_t cluster, unsigned hosts, unsigned sector, unsigned flags, int *disk) {
-    struct plan plan = {{sector == 0 ? DEVICE_LONGEST_SECTOR : sector, hosts, slots, (flags & MG_NO_DSYNC) == 0}, disks, cluster, 0};
-    uint8_t *room = device_room();
-    int status = MG_OK;
-    if (disk)
-        *disk = -1;
-    if (!room)
-        return MG_NO_MEMORY;
-    if (!folder || flags > MG_NO_DSYNC || dlm_c_device_header(&plan.device, disks, cluster, 0, (struct first_bytes *)room, &plan.size) != 0)
-        status = MG_BAD_ARGUMENT;
-    for (unsigned k = 0; status == MG_OK && k < 2 * disks; k++) {
-        status = at_device(folder, &plan, k % disks, k >= disks, room);
-        if (disk && (status == MG_UNREADABLE || status == MG_BAD_ARGUMENT))
-            *disk = (int)(k % disks);
-    }
-    free(room);
-    return status;
-}
 
 /* ---- waiting ---- */
 
@@ -1253,6 +1175,21 @@ int mg_disks(struct mg_host *host, struct mg_disk_view *into, size_t room, size_
         into[k].disk = k;
         into[k].status = host->faults[k];
     }
+    if (count)
+        *count = facts.disks;
+    return status;
+}
+
+int mg_images(struct mg_host *host, struct mg_image_view *into, size_t room, size_t *count) {
+    struct mg_host_view facts;
+    int status;
+    if (count)
+        *count = 0;
+    if (!host || (!into && room > 0))
+        return MG_BAD_ARGUMENT;
+    status = mg_host_facts(host, &facts);
+    for (unsigned k = 0; status == MG_OK && k < facts.disks && k < room && k < MG_DISKS; k++)
+        into[k] = host->images[k];
     if (count)
         *count = facts.disks;
     return status;

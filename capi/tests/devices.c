@@ -195,7 +195,10 @@ static void owners(void) {
     }
 }
 
-static bool is_laid_out(int file) { return device_lay_out(file, &HOW, DISKS, CLUSTER, DISK, room); }
+static bool makes(int file, enum step step) { return device_lay_out(file, &HOW, DISKS, CLUSTER, DISK, step, room); }
+static bool is_laid_out(int file) { return makes(file, ZEROS) && makes(file, HEADER) && makes(file, GATE); }
+static enum state state_of(int file, uint64_t cluster, unsigned disk) { return device_first(file, room) ? device_state(&HOW, DISKS, cluster, disk, room) : OTHER_BYTES; }
+static enum state state(int file) { return state_of(file, CLUSTER, DISK); }
 
 static void lays_out(int file) {
     struct device how;
@@ -217,6 +220,15 @@ static void lays_out(int file) {
         for (int i = 0; i < 4096; i++)
             is_at(5000 + at, room[i], 0);
     }
+    /* How far it came, and that it is undone. Another set's header is none. */
+    IS(state(file), GATE_OPEN);
+    IS(state_of(file, CLUSTER + 1, DISK) == OTHER_BYTES && state_of(file, CLUSTER, 0) == OTHER_BYTES, true);
+    IS(makes(file, HEADER) && state(file) == GATE_CLOSED && gate(file) == 0 && !device_find(file, DISK, room, &how, &image), true);
+    IS(makes(file, UNDONE) && state(file) == OTHER_BYTES, true);
+    IS(__real_pread(file, room, 4096, 0), 4096);
+    for (int i = 0; i < 4096; i++)
+        is_at(5100, room[i], 0);
+    IS(makes(file, HEADER) && makes(file, GATE) && device_find(file, DISK, room, &how, &image), true);
     /* What is behind it stays. */
     IS(__real_pread(file, room, 4096, 4096 * 21), 4096);
     IS(room[0], 0xEE);
@@ -359,7 +371,15 @@ int main(int argc, char **argv) {
     memset(room, 0, 4096);
     IS(__real_pwrite(files[0], room, 4096, 0), 4096);
     IS(device_find(files[0], 0, room, &how, &image), false);
-    IS(device_suits(files[0], 4096), true);
+    {
+        struct identity one, again, other;
+        int second = open(argv[1], O_RDONLY);
+        IS(device_sector(files[0]) <= 4096 && device_begin(files[0]) == 0 && !device_is_read_only(files[0]), true);
+        IS(device_identity(files[0], &one) && device_identity(second, &again) && device_identity(files[1], &other), true);
+        IS(memcmp(&one, &again, sizeof one) == 0 && memcmp(&one, &other, sizeof one) != 0, true);
+        IS(device_identity(-1, &one), false);
+        close(second);
+    }
     lays_out(files[0]);
     reads_and_writes(files[0]);
     claims(files, argv + 1);

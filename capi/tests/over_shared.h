@@ -4,6 +4,6 @@
 
 #include <midgegalena.h>
 
-#define mg_format(folder, disks, slots, cluster, disk) mg_format_shared(folder, disks, slots, cluster, MG_HOSTS, 512, 0, disk)
+#define mg_format(folder, disks, slots, cluster, disk) mg_format_shared(folder, disks, slots, cluster, MG_HOSTS, 512, MG_FILES, disk)
 
 #endif

@@ -13,6 +13,7 @@
 
 #include <errno.h>
 #include <fcntl.h>
+#include <stdbool.h>
 #include <sys/stat.h>
 #include <unistd.h>
 
@@ -50,9 +51,23 @@ static const char *machine_of(const char *folder, unsigned number) {
 
 #define ONE "00000000000000000000000000000001"
 #define TWO "f0000000000000000000000000000002"
+#define NAMELESS \
+    "this machine has no name: the folder's machine-id has something else, and 32 digits of 0 to 9 and a to f are wanted, not all of them 0"
+
+/* The place of disk 1 is taken in some way: what is said, and that no other disk was made. */
+static void refuses(const char *folder, int wanted, const char *why) {
+    int disk = 5;
+    struct stat facts;
+    IS(mg_format_shared(folder, 3, 16, 7, 4, 0, MG_FILES, &disk), wanted);
+    IS(disk, 1);
+    IS_TEXT(mg_cause(), why);
+    IS(lstat(in(folder, "disk0.img"), &facts), -1);
+    IS(lstat(in(folder, "disk2.img"), &facts), -1);
+    IS(remove(in(folder, "disk1.img")), 0);
+}
 
 static void formats(const char *folder) {
-    int disk = 5;
+    int disk = 5, file;
     struct stat facts;
     IS(mg_format_shared(NULL, 3, 16, 7, 4, 0, 0, &disk), MG_BAD_ARGUMENT);
     IS(disk, -1);
@@ -63,12 +78,31 @@ static void formats(const char *folder) {
     IS(mg_format_shared(folder, 3, 16, 7, 17, 0, 0, NULL), MG_BAD_ARGUMENT);
     IS(mg_format_shared(folder, 3, 16, 7, 4, 256, 0, NULL), MG_BAD_ARGUMENT);
     IS(mg_format_shared(folder, 3, 16, 7, 4, 8192, 0, NULL), MG_BAD_ARGUMENT);
-    IS(mg_format_shared(folder, 3, 16, 7, 4, 0, 2, NULL), MG_BAD_ARGUMENT);
+    IS(mg_format_shared(folder, 3, 16, 7, 4, 0, 4, &disk), MG_BAD_ARGUMENT);
+    IS(disk, -1);
+    IS_TEXT(mg_cause(), "");
+    /* A file is made only where it is asked for. */
+    IS(mg_format_shared(folder, 3, 16, 7, 4, 0, 0, &disk), MG_UNREADABLE);
+    IS(disk, 0);
+    IS_TEXT(mg_cause(), "disk0.img is not there: a link to a block device is wanted, unless files are asked for");
+    IS(mg_format_shared(in(folder, "nowhere"), 3, 16, 7, 4, 0, MG_FILES, &disk), MG_UNREADABLE);
+    IS(symlink("nowhere", in(folder, "disk1.img")), 0);
+    refuses(folder, MG_UNREADABLE, "disk1.img is a link that leads nowhere");
+    IS(symlink("/dev/null", in(folder, "disk1.img")), 0);
+    refuses(folder, MG_UNREADABLE, "disk1.img is no block device");
+    IS(mkdir(in(folder, "disk1.img"), 0777), 0);
+    refuses(folder, MG_UNREADABLE, "disk1.img is a folder, and no block device");
+    file = open(in(folder, "disk1.img"), O_RDWR | O_CREAT, 0666);
+    IS(ftruncate(file, 1 << 20), 0);
+    close(file);
+    refuses(folder, MG_ALREADY_THERE, "disk1.img is a file that is there");
     IS(stat(in(folder, "disk0.img"), &facts), -1);
-    IS(mg_format_shared(folder, 3, 16, 7, 4, 0, 0, &disk), MG_OK);
+    IS(mg_format_shared(folder, 3, 16, 7, 4, 0, MG_FILES, &disk), MG_OK);
+    IS_TEXT(mg_cause(), "");
     IS(stat(in(folder, "disk2.img"), &facts), 0);
     IS(facts.st_size, 4096 + 17 * 4 * 4096);
-    IS(mg_format_shared(folder, 3, 16, 7, 4, 0, 0, &disk), MG_ALREADY_THERE);
+    IS(mg_format_shared(folder, 3, 16, 7, 4, 0, MG_FILES, &disk), MG_ALREADY_THERE);
+    IS_TEXT(mg_cause(), "disk0.img is formatted");
     IS(mg_format(folder, 3, 16, 7, &disk), MG_ALREADY_THERE);
 }
 
@@ -89,6 +123,24 @@ static void move(const char *from, const char *to) {
     IS(rename(source, in(second, to)), 0);
 }
 
+/* What a look sees of the images, and as which other disk each is formatted. */
+static void looks(const char *folder, const int *other) {
+    struct mg_image_view views[MG_DISKS];
+    struct mg_host *eye;
+    size_t count;
+    IS(mg_open_to_look(folder, &eye, NULL), MG_OK);
+    IS(mg_images(eye, NULL, 1, NULL), MG_BAD_ARGUMENT);
+    IS(mg_images(eye, NULL, 0, &count), MG_OK);
+    IS(count, 3);
+    IS(mg_images(eye, views, MG_DISKS, NULL), MG_OK);
+    for (unsigned k = 0; k < count; k++) {
+        IS(views[k].disk == k && views[k].other == other[k] && views[k].read_only == 0, true);
+        IS(views[k].kind, other[k] < 0 ? MG_SHARED_IMAGE : MG_FILE_IMAGE);
+        IS(other[k] >= 0 || (views[k].sector == 4096 && views[k].hosts == 4), true);
+    }
+    mg_close(eye);
+}
+
 static void numbers(void) {
     struct mg_host *host, *eye;
     struct mg_host_view facts;
@@ -96,6 +148,7 @@ static void numbers(void) {
     int disk;
     IS_TEXT(machine_of(first, 0), "");
     IS(opens(first, 4, &disk), MG_BAD_ARGUMENT);
+    IS_TEXT(mg_cause(), "disk0.img has host numbers from 0 to 3, and 4 was given");
     IS(mg_take_number(first, 4, &disk), MG_BAD_ARGUMENT);
     IS(mg_take_number(first, 16, &disk), MG_BAD_ARGUMENT);
     IS(mg_machine_of(first, 0, path, 32), MG_BAD_ARGUMENT);
@@ -104,10 +157,13 @@ static void numbers(void) {
     /* A machine without a name has no number, and may look. */
     name(first, "");
     IS(opens(first, 0, &disk), MG_NO_LOCK);
+    IS_TEXT(mg_cause(), NAMELESS);
     name(first, "00000000000000000000000000000000\n");
     IS(opens(first, 0, &disk), MG_NO_LOCK);
+    IS_TEXT(mg_cause(), NAMELESS);
     name(first, "0000000000000000000000000000000G\n");
     IS(opens(first, 0, &disk), MG_NO_LOCK);
+    IS_TEXT(mg_cause(), NAMELESS);
     IS(mg_open_to_look(first, &eye, &disk), MG_OK);
     IS(mg_look(eye, &learned), MG_OK);
     mg_close(eye);
@@ -148,12 +204,21 @@ static void numbers(void) {
     IS(opens(second, 2, &disk), MG_OK);
     move("disk1.img", "away1");
     IS(opens(second, 2, &disk), MG_NO_MAJORITY);
+    IS_TEXT(mg_cause(), "half of the devices or fewer tell whose host number 2 is; disk0.img: No such file or directory; disk1.img: No such file or directory");
     IS(opens(second, 3, &disk), MG_NO_MAJORITY);
     IS(mg_take_number(second, 3, &disk), MG_NO_MAJORITY);
     IS(mg_open_to_look(second, &eye, &disk), MG_OK);
     mg_close(eye);
+    /* Two links are exchanged. */
+    move("away1", "disk0.img");
+    move("away0", "disk1.img");
+    IS(opens(second, 2, &disk), MG_NO_MAJORITY);
+    IS_TEXT(mg_cause(), "half of the devices or fewer tell whose host number 2 is; disk0.img is formatted as disk 1; disk1.img is formatted as disk 0");
+    looks(second, (const int[]){1, 0, -1});
+    move("disk0.img", "away1");
+    move("disk1.img", "disk0.img");
     move("away1", "disk1.img");
-    move("away0", "disk0.img");
+    looks(second, (const int[]){-1, -1, -1});
     IS_TEXT(machine_of(first, 3), "");
     IS(opens(first, 2, &disk), MG_HOST_IN_USE);
     IS(opens(second, 2, &disk), MG_OK);
@@ -196,6 +261,7 @@ int main(int argc, char **argv) {
     IS(mg_format(path, 1, 4, 8, NULL), MG_OK);
     snprintf(first, sizeof first, "%s/plain", argv[1]);
     IS(mg_take_number(first, 0, NULL), MG_BAD_ARGUMENT);
+    IS_TEXT(mg_cause(), "the folder has no devices of several machines");
     IS_TEXT(machine_of(first, 0), "");
     IS(opens(first, 15, NULL), MG_OK);
     if (failures == 0)
