@@ -107,6 +107,7 @@ for set in 1 2 3 4 5 6 7; do
 done
 
 # Devices that several machines use: bytes, calls that fail, host numbers; and the same tests over such images, in files. tests/machines.sh has devices.
+tried "formats, built" cc -std=c99 $common -Wl,--wrap=open,--wrap=pread,--wrap=pwrite,--wrap=fdatasync "$here/tests/formats.c" "$PREFIX/lib/libmidgegalena.a" -o "$work/formats"
 device_calls=(-std=c99 $common -Wl,--wrap=pread,--wrap=pwrite,--wrap=fdatasync "$here/tests/devices.c")
 tried "devices, built" cc "${device_calls[@]}" "$here/out/devices.o" -o "$work/devices"
 tried "shared, built" cc -std=c99 $common "$here/tests/shared.c" $flags -o "$work/shared"
@@ -121,6 +122,8 @@ if [[ $is_direct -eq 3 ]]; then
     left_out "shared devices in files: the file system of $work takes no O_DIRECT"
 else
     tried "shared" bash -c 'cat -- "$1"; exit "$2"' _ "$work/said.txt" "$is_direct"
+    folder
+    tried "formats" "$work/formats" "$work/images"
     folder
     for k in 0 1 2; do truncate -s 128K -- "$work/images/$k"; done
     truncate -s 40K -- "$work/images/3"
@@ -146,9 +149,21 @@ if [[ $is_direct -ne 3 ]]; then
     mkdir -- "$work/images/copy"
     cat > "$work/wanted.txt" << 'END'
 $ format images 3 12 7 4 512
+dlm: 26 Unreadable disk0 (disk0.img is not there: a link to a block device is wanted, unless files are asked for)
+status 1
+$ format images 0 12 7 4 512 files
+dlm: usage
+status 2
+$ format images 18446744073709551619 12 7 4 512 files
+dlm: usage
+status 2
+$ format images 3 12 7 4 512 files
 formatted 3 disks, 12 slots
-$ format images 3 12 7 4 512
-dlm: 29 AlreadyThere
+$ format images 3 12 7 4 512 files
+dlm: 29 AlreadyThere disk0 (disk0.img is formatted)
+status 1
+$ format images 2 12 7 4 512 files
+dlm: 29 AlreadyThere disk2 (something has the name disk2.img, and 2 disks are asked for)
 status 1
 $ submit images 0 enqueue 1 1 1 EX db
 ack 0 Granted
@@ -183,7 +198,7 @@ $ submit images 0 release 1 4 1 noqueue
 dlm: bad command
 status 2
 $ submit images 4 release 1 4 1
-dlm-shared: 4: the devices have no such host number
+dlm-shared: disk0.img has host numbers from 0 to 3, and 4 was given
 status 2
 $ submit images 16 release 1 4 1
 dlm: usage
@@ -193,6 +208,9 @@ dlm: usage
 status 2
 $ export images images/copy
 exported 3 images
+$ table images/copy 0
+dlm: 25 WrongHeader disk0 (an image of layout 2: dlm and mg-lock work on it, for the processes of one machine alone)
+status 1
 $ renew images 0 images/copy 3 12 8
 dlm-shared: renew: a log on shared devices is not renewed: dlm makes images of layout 2, and nothing puts a table onto such devices
 status 2
@@ -204,6 +222,34 @@ END
         tried "dlm check of what dlm-shared copied" bash -c '"$1" check "$2" | cmp - <(echo sound)' _ "$dlm" "$work/images/copy"
         tried "dlm-shared check" bash -c 'PATH=$(dirname -- "$1"):$PATH "$2" check "$3" | cmp - <(echo sound)' _ "$dlm" "$PREFIX/bin/dlm-shared" "$work/images"
     fi
+    # Its copies are in the folder, nobody else may read them, and they go, also where it is ended. Here another program stands for dlm.
+    mkdir -- "$work/stands"
+    cat > "$work/stands/dlm" << 'END'
+#!/usr/bin/env bash
+stat -c '%a' "$2" "$2"/* | sort | uniq -c | tr -s ' '
+dirname -- "$(readlink -f -- "$2")"
+[[ -z ${SLEEPS-} ]] || exec sleep "$SLEEPS"
+exit 3
+END
+    chmod +x -- "$work/stands/dlm"
+    checks() { PATH=$work/stands:$PATH "$PREFIX/bin/dlm-shared" check "$work/images"; }
+    is_clean() { [[ -z $(find "$work/images" -name 'check*') ]]; }
+    tried "dlm-shared check: its copies" diff <(checks || echo "status $?") <(printf ' 3 600\n 1 700\n%s\nstatus 3\n' "$(readlink -f -- "$work/images")")
+    tried "dlm-shared check: they go" is_clean
+    for signal in INT TERM; do
+        PATH=$work/stands:$PATH SLEEPS=60 setsid python3 -c 'import os, signal, sys; signal.signal(signal.SIGINT, signal.SIG_DFL); os.execvp(sys.argv[1], sys.argv[1:])' \
+            "$PREFIX/bin/dlm-shared" check "$work/images" > "$work/said.txt" &
+        checker=$!
+        for _ in {1..500}; do
+            ! grep -q images "$work/said.txt" || break
+            sleep 0.02
+        done
+        kill -s "$signal" "$checker"
+        ended=0
+        wait "$checker" 2> /dev/null || ended=$?
+        tried "dlm-shared check: $signal" test "$ended" -eq $((128 + $(kill -l "$signal")))
+        tried "dlm-shared check: no copies after $signal" is_clean
+    done
 fi
 source=$here/examples/dlm-mount
 tried "dlm-mount, built" cc -std=gnu11 -O2 -Wall -Wextra -Werror -I "$here/include" -I "$here/src" "$source/dlm-mount.c" "$here/out/devices.o" -o "$work/dlm-mount"
@@ -211,7 +257,7 @@ tried "dlm-mount, built" cc -std=gnu11 -O2 -Wall -Wextra -Werror -I "$here/inclu
 # A host dies before it has marked its release: a wait ends all the same.
 if command -v rt > /dev/null; then
     kit=$(dirname -- "$(dirname -- "$(readlink -f -- "$(command -v rt)")")")/c
-    tried "unmarked, built" cc -std=c99 $common "$here/tests/unmarked.c" "$here/src/"{mg_session,device}.c "$top/crates/dlm_c/out/libdlm_c.a" "$kit/libos_c.a" "$kit/liblibc_c.a" -o "$work/unmarked"
+    tried "unmarked, built" cc -std=c99 $common "$here/tests/unmarked.c" "$here/src/"{format,mg_session,device}.c "$top/crates/dlm_c/out/libdlm_c.a" "$kit/libos_c.a" "$kit/liblibc_c.a" -o "$work/unmarked"
     folder
     tried "unmarked" "$work/unmarked" "$work/images"
 fi
@@ -484,7 +530,7 @@ fi
 
 # How much C no proof covers: the lines that are neither blank nor comment. Two pages say it in round figures, so that a line more changes none of them.
 lines=0
-for part in midgegalena mg_session device; do lines=$((lines + $(awk -f "$here/tests/lines.awk" "$here/src/$part.c"))); done
+for part in midgegalena format mg_session device; do lines=$((lines + $(awk -f "$here/tests/lines.awk" "$here/src/$part.c"))); done
 printf -v round '%d,%03d' $(((lines + 50) / 100 / 10)) $(((lines + 50) / 100 % 10 * 100))
 for page in README.md capi/README.md; do tried "lines of C in $page" grep -q "some $round lines of C" "$top/$page"; done
 
@@ -509,7 +555,7 @@ if echo 'int main(void) { return 0; }' | cc -x c -fsanitize=address,undefined - 
     kit=$(dirname -- "$(dirname -- "$(readlink -f -- "$(command -v rt)")")")/c
     for program in calls values full_log images contend; do
         tried "sanitized $program, built" cc -std=c99 $common -fsanitize=address,undefined -fno-sanitize-recover=all "$here/tests/$program.c" \
-            "$here/src/"{midgegalena,device}.c "$top/crates/dlm_c/out/libdlm_c.a" "$kit/libos_c.a" "$kit/liblibc_c.a" -o "$work/sanitized_$program"
+            "$here/src/"{midgegalena,format,device}.c "$top/crates/dlm_c/out/libdlm_c.a" "$kit/libos_c.a" "$kit/liblibc_c.a" -o "$work/sanitized_$program"
         folder
         given=("$work/images")
         [[ $program != contend ]] || given+=(3 5)
@@ -549,7 +595,7 @@ if command -v valgrind > /dev/null; then
     done
 fi
 if [[ -f $work/sanitizer ]] && command -v rt > /dev/null; then
-    sanitized=(-std=c99 $common -fsanitize=address,undefined -fno-sanitize-recover=all "$here/src/"{midgegalena,mg_session,device}.c)
+    sanitized=(-std=c99 $common -fsanitize=address,undefined -fno-sanitize-recover=all "$here/src/"{midgegalena,format,mg_session,device}.c)
     proved=("$top/crates/dlm_c/out/libdlm_c.a" "$kit/libos_c.a" "$kit/liblibc_c.a")
     tried "sanitized sessions, built" cc "${sanitized[@]}" "$here/tests/sessions.c" "${proved[@]}" -o "$work/sanitized_sessions"
     tried "sanitized late, built" cc "${sanitized[@]}" "$here/tests/late.c" "${proved[@]}" -o "$work/sanitized_late"

@@ -27,7 +27,7 @@ complete -c dlm-shared -n '__dlm_shared_at 3 export' -a '(__fish_complete_direct
 complete -c dlm-shared -n '__dlm_shared_at 3 format' -a '(seq 1 7)' -d 'disks'
 complete -c dlm-shared -n '__dlm_shared_at 6 format' -a '(seq 1 16)' -d 'hosts'
 complete -c dlm-shared -n '__dlm_shared_at 7 format' -a '512 1024 2048 4096' -d 'sector'
-complete -c dlm-shared -n '__dlm_shared_at 6 format; or __dlm_shared_at 7 format; or __dlm_shared_at 8 format' -a nodsync
+complete -c dlm-shared -n '__dlm_shared_at 6 format; or __dlm_shared_at 7 format; or __dlm_shared_at 8 format' -a 'nodsync files'
 complete -c dlm-shared -n '__dlm_shared_at 3 submit table mark take' -a '(seq 0 15)' -d 'host'
 complete -c dlm-shared -n '__dlm_shared_at 4 submit' -a 'enqueue convert release cancel status purge' -d 'command'
 complete -c dlm-shared -n '__dlm_shared_command_at 7 purge' -a '(seq 0 15)' -d 'host'

@@ -11,6 +11,7 @@
 
 #include <errno.h>
 #include <fcntl.h>
+#include <signal.h>
 #include <stdio.h>
 #include <stdlib.h>
 #include <string.h>
@@ -22,6 +23,12 @@ enum { REFUSED = 1, WRONG = 2, NO_PROGRAM = 127, PATH_LENGTH = 4096 };
 
 static const char *const MODES[] = {"NL", "CR", "CW", "PR", "PW", "EX"};
 
+/* What ends a check, which then has its copies to remove. */
+static const int ENDS[] = {SIGHUP, SIGINT, SIGTERM};
+static volatile sig_atomic_t stopped;
+
+static void stop(int number) { stopped = number; }
+
 /* ---- saying ---- */
 
 static int usage(void) {
@@ -30,7 +37,7 @@ static int usage(void) {
 }
 
 static void help(void) {
-    puts("usage: dlm-shared format FOLDER DISKS SLOTS CLUSTER [HOSTS [SECTOR]] [nodsync]\n"
+    puts("usage: dlm-shared format FOLDER DISKS SLOTS CLUSTER [HOSTS [SECTOR]] [nodsync] [files]\n"
          "       dlm-shared submit FOLDER HOST COMMAND...\n"
          "       dlm-shared table FOLDER HOST\n"
          "       dlm-shared mark FOLDER HOST\n"
@@ -50,22 +57,22 @@ static int decline(const char *what, const char *why) {
     return WRONG;
 }
 
-/* "dlm: 26 Unreadable disk1", as dlm has it; a host number that is another machine's has that one's name behind it. */
+/* "dlm: 26 Unreadable disk1", as dlm has it, and what there is to add; a host number that is another machine's has that one's name behind it. One line, by one write. */
 static int refuse(int status, const char *folder, unsigned host, int disk) {
-    char machine[33] = "";
+    char machine[33] = "", whose[32] = "", why[512];
     bool is_elsewhere = status == MG_HOST_IN_USE && errno == EREMOTE;
     if (status < 0) {
-        fprintf(stderr, "dlm-shared: %s\n", mg_strerror(status));
+        fprintf(stderr, "dlm-shared: %s\n", mg_cause()[0] ? mg_cause() : mg_strerror(status));
         return WRONG;
     }
-    fprintf(stderr, "dlm: %d %s", status, mg_name(status));
+    snprintf(why, sizeof why, "%s", mg_cause());
     if (status == MG_HOST_IN_USE || status == MG_NO_LOCK)
-        fprintf(stderr, " host%u", host);
+        snprintf(whose, sizeof whose, " host%u", host);
     else if (disk >= 0)
-        fprintf(stderr, " disk%d", disk);
-    if (is_elsewhere && mg_machine_of(folder, host, machine, sizeof machine) == MG_OK)
-        fprintf(stderr, " %s", machine);
-    fputc('\n', stderr);
+        snprintf(whose, sizeof whose, " disk%d", disk);
+    if (is_elsewhere)
+        (void)mg_machine_of(folder, host, machine, sizeof machine);
+    fprintf(stderr, "dlm: %d %s%s%s%s%s%s%s\n", status, mg_name(status), whose, machine[0] ? " " : "", machine, why[0] ? " (" : "", why, why[0] ? ")" : "");
     return REFUSED;
 }
 
@@ -81,7 +88,7 @@ static bool number(const char *word, uint64_t most, uint64_t *into) {
         return false;
     for (; *word; word++) {
         unsigned digit = (unsigned)*word - '0';
-        if (digit > 9 || *into > (most - digit) / 10)
+        if (digit > 9 || digit > most || *into > (most - digit) / 10)
             return false;
         *into = 10 * *into + digit;
     }
@@ -164,6 +171,22 @@ static void show_value(struct mg_host *host, const char *word, char text[48]) {
         strcat(text, " invalid");
 }
 
+/* Of an operation: without a majority, which disks are not there, or may only be read. */
+static int refuse_operation(int status, struct mg_host *host, const char *folder, unsigned number_of_host) {
+    struct mg_image_view images[MG_DISKS];
+    struct mg_disk_view disks[MG_DISKS];
+    char why[512] = "";
+    size_t count = 0, length = 0;
+    if (status != MG_NO_MAJORITY || mg_images(host, images, MG_DISKS, NULL) != MG_OK || mg_disks(host, disks, MG_DISKS, &count) != MG_OK)
+        return refuse(status, folder, number_of_host, -1);
+    for (size_t k = 0; k < count; k++)
+        if (disks[k].status != MG_OK || images[k].read_only)
+            length += (size_t)snprintf(why + length, sizeof why - length, "%sdisk%zu%s%s%s", length ? "; " : " (", k, disks[k].status == MG_OK ? "" : " ",
+                                       disks[k].status == MG_OK ? "" : mg_name(disks[k].status), images[k].read_only ? " is read only" : "");
+    fprintf(stderr, "dlm: %d %s%s%s\n", status, mg_name(status), why, length ? ")" : "");
+    return REFUSED;
+}
+
 /* One line, by one write. */
 static int submit(struct mg_host *host, const char *folder, unsigned number_of_host, int count, char **words) {
     static const char *const replies[] = {"", "", "Queued", "Released", "Cancelled"};
@@ -175,7 +198,7 @@ static int submit(struct mg_host *host, const char *folder, unsigned number_of_h
         return WRONG;
     }
     if (answer.slot < 0)
-        return refuse(status, folder, number_of_host, -1);
+        return refuse_operation(status, host, folder, number_of_host);
     show_value(host, words[3], value);
     if (answer.reply == MG_PURGED)
         snprintf(reply, sizeof reply, "Purged(%u)", (unsigned)answer.purged);
@@ -199,7 +222,7 @@ static int table(struct mg_host *host, const char *folder, unsigned number_of_ho
     if (status == MG_OK)
         status = mg_text(host, text, sizeof text, NULL);
     if (status != MG_OK)
-        return refuse(status, folder, number_of_host, -1);
+        return refuse_operation(status, host, folder, number_of_host);
     printf("recovered %llu\n%s", (unsigned long long)learned, text);
     return ended();
 }
@@ -211,9 +234,30 @@ static int mark(struct mg_host *host, const char *folder, unsigned number_of_hos
     if (status == MG_OK)
         status = mg_mark(host, &learned);
     if (status != MG_OK)
-        return refuse(status, folder, number_of_host, -1);
+        return refuse_operation(status, host, folder, number_of_host);
     printf("recovered %llu\nmarked %llu slots\n", (unsigned long long)learned, (unsigned long long)(learned - before));
     return ended();
+}
+
+/* Images of layout 2 are for the processes of one machine: over devices that several machines see, and through their pages, commands are lost. So they are refused,
+ * before a host number is locked or taken. A folder that cannot be looked at is refused by whoever opens it, or says itself what is wrong. */
+static int refuse_others(const char *folder) {
+    struct mg_image_view images[MG_DISKS];
+    struct mg_disk_view disks[MG_DISKS];
+    struct mg_host *host;
+    size_t count = 0;
+    if (mg_open_to_look(folder, &host, NULL) != MG_OK)
+        return 0;
+    if (mg_images(host, images, MG_DISKS, NULL) != MG_OK || mg_disks(host, disks, MG_DISKS, &count) != MG_OK)
+        count = 0;
+    mg_close(host);
+    for (size_t k = 0; k < count; k++)
+        if (disks[k].status == MG_OK && images[k].kind != MG_SHARED_IMAGE) {
+            fprintf(stderr, "dlm: %d %s disk%zu (an image of layout 2: dlm and mg-lock work on it, for the processes of one machine alone)\n", MG_WRONG_HEADER,
+                    mg_name(MG_WRONG_HEADER), k);
+            return REFUSED;
+        }
+    return 0;
 }
 
 static int over_host(const char *task, const char *folder, const char *word, int count, char **words) {
@@ -223,9 +267,9 @@ static int over_host(const char *task, const char *folder, const char *word, int
     bool submits = strcmp(task, "submit") == 0;
     if (!number(word, MG_HOSTS - 1, &n) || (submits ? count < 1 : count != 0))
         return usage();
+    if (refuse_others(folder) != 0)
+        return REFUSED;
     status = mg_open(folder, (unsigned)n, &host, &disk);
-    if (status == MG_BAD_ARGUMENT)
-        return decline(word, "the devices have no such host number");
     if (status != MG_OK)
         return refuse(status, folder, (unsigned)n, disk);
     if (submits)
@@ -242,9 +286,9 @@ static int take(const char *folder, const char *word) {
     int disk, status;
     if (!number(word, MG_HOSTS - 1, &n))
         return usage();
+    if (refuse_others(folder) != 0)
+        return REFUSED;
     status = mg_take_number(folder, (unsigned)n, &disk);
-    if (status == MG_BAD_ARGUMENT)
-        return decline(word, "the folder has no shared devices with such a host number");
     if (status == MG_OK)
         status = mg_machine_of(folder, (unsigned)n, machine, sizeof machine);
     if (status != MG_OK)
@@ -253,32 +297,43 @@ static int take(const char *folder, const char *word) {
     return ended();
 }
 
-/* Whether anything has the name of a further image. */
-static bool has_more(const char *folder, unsigned disks) {
+/* The first name of a further image that anything has, below MG_DISKS. */
+static unsigned find_more(const char *folder, unsigned disks) {
     char path[PATH_LENGTH];
     struct stat facts;
-    for (unsigned k = disks; k < MG_DISKS; k++) {
-        snprintf(path, sizeof path, "%s/disk%u.img", folder, k);
+    for (; disks < MG_DISKS; disks++) {
+        snprintf(path, sizeof path, "%s/disk%u.img", folder, disks);
         if (lstat(path, &facts) == 0)
-            return true;
+            break;
     }
-    return false;
+    return disks;
+}
+
+/* Takes a word off the end, if it stands there. */
+static bool takes(int *count, char **words, const char *word) {
+    bool is_there = *count > 0 && strcmp(words[*count - 1], word) == 0;
+    *count -= is_there;
+    return is_there;
 }
 
 static int format(int count, char **words) {
     uint64_t disks, slots, cluster, hosts = MG_HOSTS, sector = 0;
-    bool no_dsync = count > 0 && strcmp(words[count - 1], "nodsync") == 0;
-    int disk = -1, status = MG_ALREADY_THERE;
-    count -= no_dsync;
+    unsigned flags = 0, more;
+    int disk = -1, status;
+    flags |= takes(&count, words, "files") ? MG_FILES : 0;
+    flags |= takes(&count, words, "nodsync") ? MG_NO_DSYNC : 0;
     if (count < 4 || count > 6 || !number(words[1], MG_DISKS, &disks) || !number(words[2], MG_SLOTS, &slots) || !number(words[3], UINT64_MAX, &cluster) ||
-        (count > 4 && !number(words[4], MG_HOSTS, &hosts)) || (count > 5 && !number(words[5], DEVICE_LONGEST_SECTOR, &sector)))
+        (count > 4 && !number(words[4], MG_HOSTS, &hosts)) || (count > 5 && !number(words[5], DEVICE_LONGEST_SECTOR, &sector)) || disks == 0)
         return usage();
-    if (!has_more(words[0], (unsigned)disks))
-        status = mg_format_shared(words[0], (unsigned)disks, (unsigned)slots, cluster, (unsigned)hosts, (unsigned)sector, no_dsync ? MG_NO_DSYNC : 0, &disk);
-    if (status == MG_BAD_ARGUMENT && disk >= 0)
-        return decline("format", "a device has longer sectors than that");
+    more = find_more(words[0], (unsigned)disks);
+    if (more < MG_DISKS) {
+        fprintf(stderr, "dlm: %d %s disk%u (something has the name disk%u.img, and %u disks are asked for)\n", MG_ALREADY_THERE, mg_name(MG_ALREADY_THERE), more, more,
+                (unsigned)disks);
+        return REFUSED;
+    }
+    status = mg_format_shared(words[0], (unsigned)disks, (unsigned)slots, cluster, (unsigned)hosts, (unsigned)sector, flags, &disk);
     if (status == MG_BAD_ARGUMENT)
-        return usage();
+        return disk >= 0 ? decline("format", mg_cause()) : usage();
     if (status != MG_OK)
         return refuse(status, words[0], 0, disk);
     printf("formatted %u disks, %u slots\n", (unsigned)disks, (unsigned)slots);
@@ -299,18 +354,18 @@ static bool copy_image(int from, unsigned disk, FILE *to, uint8_t *room) {
     for (uint64_t at = DEVICE_ROW; fwrite(row.bytes, 1, sizeof row.bytes, to) == sizeof row.bytes; at += DEVICE_ROW)
         if (at == shown.size)
             return true;
-        else if (!device_read(from, &how, room, at, &row))
+        else if (stopped || !device_read(from, &how, room, at, &row))
             return false;
     return false;
 }
 
 /* Copies what there is of disk0.img to disk6.img. An image that cannot be read to its end has no copy. */
-static int copies(const char *folder, const char *into, unsigned *count) {
+static int copies(const char *folder, const char *into, mode_t mode, unsigned *count) {
     char path[PATH_LENGTH], copy[PATH_LENGTH];
     uint8_t *room = device_room();
     int result = room ? 0 : REFUSED;
     *count = 0;
-    for (unsigned k = 0; k < MG_DISKS && room; k++) {
+    for (unsigned k = 0; k < MG_DISKS && room && !stopped; k++) {
         int from, to;
         FILE *out;
         bool done;
@@ -319,7 +374,7 @@ static int copies(const char *folder, const char *into, unsigned *count) {
         from = open(path, O_RDONLY | O_DIRECT | O_CLOEXEC);
         if (from < 0 && errno == ENOENT)
             continue;
-        to = open(copy, O_WRONLY | O_CREAT | O_EXCL | O_CLOEXEC, 0666);
+        to = open(copy, O_WRONLY | O_CREAT | O_EXCL | O_CLOEXEC, mode);
         out = to >= 0 ? fdopen(to, "wb") : NULL;
         done = from >= 0 && out && copy_image(from, k, out, room);
         if (from >= 0)
@@ -328,7 +383,8 @@ static int copies(const char *folder, const char *into, unsigned *count) {
             done = fclose(out) == 0 && done;
         *count += done;
         if (!done) {
-            fprintf(stderr, "dlm-shared: disk%u: %s\n", k, to < 0 ? "it has no room for a copy, or there is one" : "not copied to its end");
+            if (!stopped)
+                fprintf(stderr, "dlm-shared: disk%u: %s\n", k, to < 0 ? "it has no room for a copy, or there is one" : "not copied to its end");
             result = REFUSED;
             if (to >= 0)
                 unlink(copy);
@@ -340,34 +396,72 @@ static int copies(const char *folder, const char *into, unsigned *count) {
 
 static int export_images(const char *folder, const char *into) {
     unsigned count;
-    int result = copies(folder, into, &count);
+    int result;
+    if (refuse_others(folder) != 0)
+        return REFUSED;
+    result = copies(folder, into, 0666, &count);
     printf("exported %u images\n", count);
     return result == 0 ? ended() : result;
 }
 
-/* dlm checks copies, which then go. */
-static int check(const char *folder) {
-    char into[] = "/tmp/dlm-shared.XXXXXX", path[PATH_LENGTH];
-    unsigned count;
-    int status = REFUSED;
-    pid_t child;
-    if (!mkdtemp(into))
-        return decline("check", "no folder can be made in /tmp");
-    (void)copies(folder, into, &count);
-    child = fork();
+/* Runs dlm check over a folder. A signal that ends this process ends that one first. */
+static int run_check(const char *into, const sigset_t *before) {
+    int status = 0;
+    pid_t child = fork();
     if (child == 0) {
+        for (size_t i = 0; i < sizeof ENDS / sizeof *ENDS; i++) {
+            struct sigaction now;
+            if (sigaction(ENDS[i], NULL, &now) == 0 && now.sa_handler != SIG_IGN)
+                signal(ENDS[i], SIG_DFL);
+        }
+        sigprocmask(SIG_SETMASK, before, NULL);
         execlp("dlm", "dlm", "check", into, (char *)NULL);
         fprintf(stderr, "dlm-shared: check: dlm cannot be run: %s\n", strerror(errno));
         _exit(NO_PROGRAM);
     }
+    sigprocmask(SIG_SETMASK, before, NULL);
     while (child > 0 && waitpid(child, &status, 0) < 0 && errno == EINTR)
-        ;
+        if (stopped)
+            kill(child, stopped);
+    return child > 0 && WIFEXITED(status) ? WEXITSTATUS(status) : REFUSED;
+}
+
+/* dlm checks copies, which then go. They have a whole log, so nobody else may read them. */
+static int check(const char *folder) {
+    char into[PATH_LENGTH], path[PATH_LENGTH + 16];
+    struct sigaction stops;
+    sigset_t ends, before;
+    unsigned count;
+    int result = REFUSED;
+    if (refuse_others(folder) != 0)
+        return REFUSED;
+    memset(&stops, 0, sizeof stops);
+    stops.sa_handler = stop;
+    sigemptyset(&ends);
+    for (size_t i = 0; i < sizeof ENDS / sizeof *ENDS; i++) {
+        struct sigaction now;
+        sigaddset(&ends, ENDS[i]);
+        if (sigaction(ENDS[i], NULL, &now) == 0 && now.sa_handler != SIG_IGN)
+            sigaction(ENDS[i], &stops, NULL);
+    }
+    if (snprintf(into, sizeof into, "%s/check.XXXXXX", folder) >= PATH_LENGTH || !mkdtemp(into))
+        return decline("check", "no folder can be made in the folder, for copies that dlm check reads; export has them elsewhere");
+    (void)copies(folder, into, 0600, &count);
+    sigprocmask(SIG_BLOCK, &ends, &before);
+    if (stopped)
+        sigprocmask(SIG_SETMASK, &before, NULL);
+    else
+        result = run_check(into, &before);
     for (unsigned k = 0; k < MG_DISKS; k++) {
         snprintf(path, sizeof path, "%s/disk%u.img", into, k);
         unlink(path);
     }
     rmdir(into);
-    return child > 0 && WIFEXITED(status) ? WEXITSTATUS(status) : REFUSED;
+    if (stopped) {
+        signal(stopped, SIG_DFL);
+        raise(stopped);
+    }
+    return result;
 }
 
 int main(int count, char **words) {
