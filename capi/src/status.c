@@ -29,6 +29,7 @@ enum held { IS_HELD, IS_FREE, IS_MISSING, NOT_KNOWN };
 
 static const char *const MODES[] = {"NL", "CR", "CW", "PR", "PW", "EX"};
 static const char *const SIGNS[] = {"held", "free", "none", NULL};
+static const char *const KINDS[] = {NULL, "file", "device", "shared"};
 
 /* A file that somebody has locked. */
 struct locked {
@@ -41,7 +42,9 @@ struct status {
     int refusal; /* of the look */
     struct mg_host_view facts;
     struct mg_disk_view disks[MG_DISKS];
+    struct mg_image_view images[MG_DISKS];
     size_t answering;
+    size_t writable; /* of those that answer */
     enum held hosts[MG_HOSTS];
     bool knows_hosts; /* of each number whether it is in use */
     struct mg_lock_view locks[MG_LOCKS];
@@ -157,15 +160,26 @@ static int look_at(struct status *status, struct mg_host *host) {
         status->count = MG_LOCKS;
     (void)mg_host_facts(host, &status->facts);
     (void)mg_disks(host, status->disks, MG_DISKS, &disks);
-    for (size_t i = 0; i < disks; i++)
+    (void)mg_images(host, status->images, MG_DISKS, NULL);
+    for (size_t i = 0; i < disks; i++) {
         status->answering += status->disks[i].status == MG_OK;
+        status->writable += status->disks[i].status == MG_OK && !status->images[i].read_only;
+    }
     return refusal;
 }
 
-/* How many of those that answer are more than a majority. */
+/* How many of those that answer, and may be written, are more than a majority. */
 static size_t spare(const struct status *status) {
     size_t majority = status->facts.disks / 2 + 1;
-    return status->answering > majority ? status->answering - majority : 0;
+    return status->writable > majority ? status->writable - majority : 0;
+}
+
+/* The first disk in use that is of a kind; NULL where none is. */
+static const struct mg_image_view *first_of(const struct status *status, int kind) {
+    for (size_t i = 0; i < status->facts.disks; i++)
+        if (status->disks[i].status == MG_OK && status->images[i].kind == kind)
+            return &status->images[i];
+    return NULL;
 }
 
 /* ---- for people ---- */
@@ -195,11 +209,30 @@ static void print_disks(FILE *out, const struct status *status) {
     fprintf(out, "disks: %zu of %u answer, ", status->answering, (unsigned)status->facts.disks);
     if (status->answering <= status->facts.disks / 2)
         fputs("which is no majority\n", out);
+    else if (status->writable <= status->facts.disks / 2)
+        fprintf(out, "and no majority may be written\n");
     else
         fprintf(out, "%zu more may fail\n", spare(status));
-    for (size_t i = 0; i < status->facts.disks; i++)
+    for (size_t i = 0; i < status->facts.disks; i++) {
         if (status->disks[i].status != MG_OK)
-            fprintf(out, "  disk%zu %d %s\n", i, (int)status->disks[i].status, mg_name(status->disks[i].status));
+            fprintf(out, "  disk%zu %d %s", i, (int)status->disks[i].status, mg_name(status->disks[i].status));
+        else if (status->images[i].read_only)
+            fprintf(out, "  disk%zu is read only", i);
+        else
+            continue;
+        if (status->images[i].other >= 0)
+            fprintf(out, ": it is formatted as disk%d", (int)status->images[i].other);
+        fputc('\n', out);
+    }
+}
+
+/* Whether machines may share them: of block devices nothing else tells. */
+static void print_kinds(FILE *out, const struct status *status) {
+    const struct mg_image_view *shared = first_of(status, MG_SHARED_IMAGE);
+    if (shared)
+        fprintf(out, "  for several machines: host numbers 0 to %u, sectors of %u bytes\n", (unsigned)shared->hosts - 1, (unsigned)shared->sector);
+    if (first_of(status, MG_DEVICE_IMAGE))
+        fputs("  block devices for the processes of one machine: where several machines work on them, commands are lost\n", out);
 }
 
 static void print_hosts(FILE *out, const struct status *status) {
@@ -221,6 +254,7 @@ static void print_status(FILE *out, const struct status *status) {
     else
         fprintf(out, "slots: %u of %u are used, %u are left%s\n", used, slots, slots - used, used == slots ? ": the log is full" : "");
     print_disks(out, status);
+    print_kinds(out, status);
     print_hosts(out, status);
     if (status->refusal == MG_OK)
         print_locks(out, status);
@@ -258,7 +292,9 @@ static void put_disks(FILE *out, const struct status *status) {
     for (size_t i = 0; i < status->facts.disks; i++) {
         fprintf(out, "%s{\"disk\": %zu, \"refusal\": ", i == 0 ? "" : ", ", i);
         put_refusal(out, status->disks[i].status);
-        fputc('}', out);
+        fputs(", \"kind\": ", out);
+        put_text(out, KINDS[status->images[i].kind]);
+        fprintf(out, ", \"read_only\": %s}", status->images[i].read_only ? "true" : "false");
     }
     fprintf(out, "],\n  \"answering\": %zu,\n  \"may_fail\": %zu,\n", status->answering, spare(status));
 }

@@ -77,7 +77,7 @@ def lock(name, number, client, host, held, wanted, sign="none"):
 
 def empty():
     folder()
-    used = [{"disk": disk, "refusal": None} for disk in range(3)]
+    used = [{"disk": disk, "refusal": None, "kind": "file", "read_only": False} for disk in range(3)]
     expect(told() == {"cluster": "7", "refusal": None, "slots": 64, "used": 0, "left": 64, "disks": used, "answering": 3, "may_fail": 1,
                       "hosts": [], "locks": []}, f"empty: {told()}")
     text = "cluster: 7\nslots: 0 of 64 are used, 64 are left\ndisks: 3 of 3 answer, 1 more may fail\nhost numbers in use on this machine: none\nlocks: 0\n"
@@ -280,6 +280,22 @@ def damaged():
         expect((said.returncode, said.stdout) == (125, "") and said.stderr.startswith("mg-lock: 26 Unreadable "), f"no image: {said}")
 
 
+def read_only():
+    """Images that nobody may write to: in a file system that is mounted so, for this test alone."""
+    folder()
+    submit(0, "enqueue 1 1 1 EX db")
+    shows = ["unshare", "--mount", "sh", "-c", 'mount --bind "$0" "$0" && mount -o remount,ro,bind "$0" && exec "$@"', images]
+    if not shutil.which("unshare") or subprocess.run([*shows, "true"], capture_output=True).returncode != 0:
+        print("left out: --status of images that may only be read: this user may mount nothing")
+        return
+    said = subprocess.run([*shows, mg_lock, "--status", "--json", images], capture_output=True, text=True)
+    status = json.loads(said.stdout)
+    expect([it["read_only"] for it in status["disks"]] == [True] * 3 and (status["answering"], status["may_fail"]) == (3, 0), f"read only: {said}")
+    said = subprocess.run([*shows, mg_lock, "--status", images], capture_output=True, text=True)
+    text = "disks: 3 of 3 answer, and no majority may be written\n  disk0 is read only\n  disk1 is read only\n  disk2 is read only\n"
+    expect(said.returncode == 0 and text in said.stdout, f"read only, for people: {said}")
+
+
 def full():
     folder(slots=5)
     submit(0, "enqueue 1 1 1 EX db")
@@ -302,7 +318,7 @@ def wrong_use():
         expect(said.returncode == 125 and "could not be printed" in said.stderr, f"nowhere to print: {said}")
 
 
-for test in (empty, names, queues, hosts, killed, without_proc, only_looks, damaged, full, wrong_use):
+for test in (empty, names, queues, hosts, killed, without_proc, only_looks, damaged, read_only, full, wrong_use):
     test()
 print(f"status.py: {checks} checks, {failed} failed")
 sys.exit(failed > 0)
