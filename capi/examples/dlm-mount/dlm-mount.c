@@ -21,18 +21,78 @@
 #include <string.h>
 #include <sys/mount.h>
 #include <sys/stat.h>
+#include <time.h>
 #include <unistd.h>
 
 #define USAGE "usage: dlm-mount FOLDER MOUNTPOINT\n       dlm-mount -h | -V"
 
 enum { DISKS = 7, ROOT = 1, FIRST_DISK = 10, FIRST_LOCK = 100, BUFFER = 1 << 20, MOST = 1 << 17 };
+enum { SET_FROM = 3, SET_TO = 16 }; /* the header's bytes that all disks of a set have: disks, slots, cluster */
 
-static int files[DISKS], fuse;
-static unsigned disks; /* of the set */
+static const char *folder;
+static int files[DISKS], fuse; /* below 0: it is not there */
+static time_t tried[DISKS];    /* when it was last looked for, in seconds */
+static uint64_t lives[DISKS];  /* how often it was found. Who opened an image of an earlier life has to open it anew */
+static unsigned disks;         /* of the set */
 static struct device how[DISKS];
 static struct header shown[DISKS]; /* the length and the first bytes of an image */
 static struct machine machine;
 static uint8_t *room;
+
+/* ---- devices that go and come back ---- */
+
+static time_t now(void) {
+    struct timespec time = {0, 0};
+    (void)clock_gettime(CLOCK_MONOTONIC, &time);
+    return time.tv_sec;
+}
+
+/* Opens a device, if it is right as this disk, in the set that was mounted. Each write lasts by itself where its header says so. */
+static bool attach(unsigned disk) {
+    char path[4096];
+    struct header found;
+    const struct header *other = NULL;
+    int file;
+    for (unsigned k = 0; k < DISKS && !other; k++)
+        other = lives[k] > 0 ? &shown[k] : NULL;
+    tried[disk] = now();
+    snprintf(path, sizeof path, "%s/disk%u.img", folder, disk);
+    file = open(path, O_RDWR | O_DIRECT | O_DSYNC | O_CLOEXEC);
+    if (file >= 0 && (!device_find(file, disk, room, &how[disk], &found) ||
+                      (other && memcmp(found.bytes + SET_FROM, other->bytes + SET_FROM, SET_TO - SET_FROM) != 0))) {
+        close(file);
+        file = -1;
+    }
+    if (file >= 0 && !how[disk].dsync) {
+        close(file);
+        file = open(path, O_RDWR | O_DIRECT | O_CLOEXEC);
+    }
+    files[disk] = file;
+    if (file < 0)
+        return false;
+    shown[disk] = found;
+    lives[disk]++;
+    return true;
+}
+
+/* Looks for a device that is not there, once a second at most. */
+static bool is_there(unsigned disk) { return files[disk] >= 0 || (now() > tried[disk] && attach(disk)); }
+
+static void lose(unsigned disk) {
+    close(files[disk]);
+    files[disk] = -1;
+    tried[disk] = now();
+}
+
+/* After a call that failed: where the header cannot be read either, or is another one, the device is gone. */
+static void look_whether_gone(unsigned disk) {
+    struct device found;
+    struct header header;
+    if (files[disk] >= 0 && (!device_find(files[disk], disk, room, &found, &header) || memcmp(&header, &shown[disk], sizeof header) != 0))
+        lose(disk);
+}
+
+/* ---- nodes ---- */
 
 static bool is_disk(uint64_t node) { return node >= FIRST_DISK && node < FIRST_DISK + DISKS && files[node - FIRST_DISK] >= 0; }
 static bool is_lock(uint64_t node) { return node >= FIRST_LOCK && node < FIRST_LOCK + DEVICE_HOSTS; }
@@ -67,7 +127,7 @@ static uint64_t node_of(const char *name) {
         if (strcmp(name, right) == 0)
             return FIRST_LOCK + n;
         snprintf(right, sizeof right, "disk%u.img", n);
-        if (strcmp(name, right) == 0 && is_disk(FIRST_DISK + n))
+        if (n < DISKS && strcmp(name, right) == 0 && is_there(n))
             return FIRST_DISK + n;
     }
     return 0;
@@ -79,8 +139,10 @@ static int read_rows(unsigned disk, uint64_t at, uint8_t *into, size_t length) {
         size_t from = (size_t)(at % DEVICE_ROW), part = DEVICE_ROW - from < length ? DEVICE_ROW - from : length;
         if (at < DEVICE_ROW)
             memcpy(row.bytes, shown[disk].bytes, sizeof shown[disk].bytes);
-        else if (!device_read(files[disk], &how[disk], room, at - from, &row))
+        else if (!device_read(files[disk], &how[disk], room, at - from, &row)) {
+            look_whether_gone(disk);
             return EIO;
+        }
         memcpy(into, row.bytes + from, part);
         into += part;
         at += part;
@@ -89,13 +151,50 @@ static int read_rows(unsigned disk, uint64_t at, uint8_t *into, size_t length) {
     return 0;
 }
 
+static int write_part(unsigned disk, uint64_t at, const uint8_t *from, size_t length) {
+    if (at < DEVICE_ROW)
+        return EROFS;
+    if (device_write(files[disk], &how[disk], room, at, from, length))
+        return 0;
+    look_whether_gone(disk);
+    return EIO;
+}
+
+/* After a sync that failed the machine may hold bytes for written that are not, and no later sync would tell. */
+static int sync_disk(unsigned disk) {
+    if (sync_data(files[disk]))
+        return 0;
+    lose(disk);
+    return EIO;
+}
+
 /* Whoever opens the file by which a host number is locked means to work under it: the number has to be this machine's. */
 static int own_number(uint64_t node) {
     struct machine other;
+    int status;
     if (!is_lock(node))
         return 0;
-    return device_claim(files, how, disks, (unsigned)(node - FIRST_LOCK), CLAIM, &machine, &other, room) == IS_OURS ? 0 : EACCES;
+    for (unsigned k = 0; k < disks; k++)
+        (void)is_there(k);
+    status = device_claim(files, how, disks, (unsigned)(node - FIRST_LOCK), CLAIM, &machine, &other, room);
+    for (unsigned k = 0; k < disks && status == IS_UNHEARD; k++)
+        look_whether_gone(k);
+    return status == IS_OURS ? 0 : EACCES;
 }
+
+/* Opens a file. Of an image the handle says which life of its device it is of. */
+static int open_node(uint64_t node, uint64_t *handle) {
+    if (node >= FIRST_DISK && node < FIRST_DISK + DISKS) {
+        if (!is_there((unsigned)(node - FIRST_DISK)))
+            return EIO;
+        *handle = lives[node - FIRST_DISK];
+        return 0;
+    }
+    return own_number(node);
+}
+
+/* Whether a handle is of the device as it is there now. */
+static bool is_live(uint64_t node, uint64_t handle) { return is_disk(node) && lives[node - FIRST_DISK] == handle; }
 
 static void serve(const struct fuse_in_header *in, const void *argument) {
     static uint8_t bytes[MOST];
@@ -134,7 +233,7 @@ static void serve(const struct fuse_in_header *in, const void *argument) {
         out.create.entry.nodeid = node_of((const char *)argument + sizeof(struct fuse_create_in));
         out.create.open.open_flags = FOPEN_DIRECT_IO;
         error = out.create.entry.nodeid == 0 ? EROFS : put_attr(out.create.entry.nodeid, &out.create.entry.attr);
-        error = error ? error : own_number(out.create.entry.nodeid);
+        error = error ? error : open_node(out.create.entry.nodeid, &out.create.open.fh);
         answer(in->unique, error, &out, sizeof out.create);
         break;
     case FUSE_GETATTR:
@@ -144,7 +243,8 @@ static void serve(const struct fuse_in_header *in, const void *argument) {
         break;
     case FUSE_OPEN:
         out.open.open_flags = FOPEN_DIRECT_IO;
-        answer(in->unique, own_number(node), &out, sizeof out.open);
+        error = open_node(node, &out.open.fh);
+        answer(in->unique, error, &out, sizeof out.open);
         break;
     case FUSE_OPENDIR:
         answer(in->unique, 0, &out, sizeof out.open);
@@ -152,25 +252,32 @@ static void serve(const struct fuse_in_header *in, const void *argument) {
     case FUSE_READ: {
         const struct fuse_read_in *asked = argument;
         size_t length = asked->size < MOST ? asked->size : MOST;
-        if (!is_disk(node) || asked->offset >= size_of(disk))
+        if (asked->offset >= size_of(disk))
             length = 0;
         else if (asked->offset + length > size_of(disk))
             length = (size_t)(size_of(disk) - asked->offset);
-        error = read_rows(disk, asked->offset, bytes, length);
+        if (is_lock(node))
+            length = 0;
+        else
+            error = is_live(node, asked->fh) ? read_rows(disk, asked->offset, bytes, length) : EIO;
         answer(in->unique, error, bytes, length);
         break;
     }
     case FUSE_WRITE: {
         const struct fuse_write_in *asked = argument;
         out.write.size = asked->size;
-        error = !is_disk(node) || asked->offset < DEVICE_ROW ? EROFS
-                : device_write(files[disk], &how[disk], room, asked->offset, (const uint8_t *)argument + sizeof *asked, asked->size) ? 0 : EIO;
+        error = is_lock(node)                ? EROFS
+                : is_live(node, asked->fh) ? write_part(disk, asked->offset, (const uint8_t *)argument + sizeof *asked, asked->size)
+                                           : EIO;
         answer(in->unique, error, &out, sizeof out.write);
         break;
     }
-    case FUSE_FSYNC:
-        answer(in->unique, is_disk(node) && !sync_data(files[disk]) ? EIO : 0, NULL, 0);
+    case FUSE_FSYNC: {
+        const struct fuse_fsync_in *asked = argument;
+        error = is_lock(node) || node == ROOT ? 0 : is_live(node, asked->fh) ? sync_disk(disk) : EIO;
+        answer(in->unique, error, NULL, 0);
         break;
+    }
     case FUSE_STATFS:
         answer(in->unique, 0, &out, sizeof out.statfs);
         break;
@@ -190,28 +297,16 @@ static void serve(const struct fuse_in_header *in, const void *argument) {
     }
 }
 
-/* Opens the devices of a folder, and learns from the first of them how many the set has. */
-static bool find(const char *folder) {
-    char path[4096];
-    for (unsigned k = 0; k < DISKS; k++) {
-        snprintf(path, sizeof path, "%s/disk%u.img", folder, k);
-        files[k] = open(path, O_RDWR | O_DIRECT | O_DSYNC | O_CLOEXEC);
-        if (files[k] >= 0 && !device_find(files[k], k, room, &how[k], &shown[k])) {
-            close(files[k]);
-            files[k] = -1;
-        } else if (files[k] >= 0) {
-            disks = disks ? disks : shown[k].bytes[3];
-        }
-        if (files[k] >= 0 && !how[k].dsync) {
-            close(files[k]);
-            files[k] = open(path, O_RDWR | O_DIRECT | O_CLOEXEC);
-        }
-    }
+/* Opens the devices of the folder, and learns from the first of them how many the set has. */
+static bool find(void) {
+    for (unsigned k = 0; k < DISKS; k++)
+        if (attach(k) && disks == 0)
+            disks = shown[k].bytes[SET_FROM];
     return disks >= 1 && disks <= DISKS;
 }
 
 /* As the library does: the file machine-id in the folder, or else /etc/machine-id. */
-static bool read_machine(const char *folder) {
+static bool read_machine(void) {
     char path[4096];
     unsigned byte;
     FILE *file;
@@ -239,8 +334,13 @@ int main(int count, char **words) {
         return 2;
     }
     room = device_room();
-    if (!room || !find(words[1]) || !read_machine(words[1])) {
-        fprintf(stderr, "dlm-mount: %s: no such devices, or this machine has no name\n", words[1]);
+    folder = words[1];
+    if (!room || !find()) {
+        fprintf(stderr, "dlm-mount: %s: none of disk0.img to disk6.img leads to a right device of dlm-shared that may be written\n", folder);
+        return 1;
+    }
+    if (!read_machine()) {
+        fprintf(stderr, "dlm-mount: %s: this machine has no name: machine-id there, or else /etc/machine-id, has to begin with 32 digits\n", folder);
         return 1;
     }
     fuse = open("/dev/fuse", O_RDWR | O_CLOEXEC);
