@@ -51,26 +51,31 @@ uint32_t device_sector(int file) {
     return ioctl(file, BLKPBSZGET, &physical) == 0 ? physical : 0;
 }
 
-/* Where a partition begins on its disk; 0 of a disk. */
-static uint64_t begin_of(dev_t number) {
-    char path[64];
-    unsigned long long sectors = 0;
+/* What the system tells of a block device; 0 where it tells nothing. */
+static uint64_t fact_of(dev_t number, const char *name) {
+    char path[80];
+    long long told = 0;
     FILE *from;
-    (void)snprintf(path, sizeof path, "/sys/dev/block/%u:%u/start", major(number), minor(number));
+    (void)snprintf(path, sizeof path, "/sys/dev/block/%u:%u/%s", major(number), minor(number), name);
     from = fopen(path, "re");
-    if (from && fscanf(from, "%llu", &sectors) != 1)
-        sectors = 0;
+    if (from && (fscanf(from, "%lld", &told) != 1 || told < 0))
+        told = 0;
     if (from)
         fclose(from);
-    return 512 * (uint64_t)sectors;
+    return (uint64_t)told;
 }
 
+/* A partition's start is told in parts of 512 bytes. A volume has an offset from where sectors of its disks begin. */
 uint64_t device_begin(int file) {
     struct loop_info64 loop;
     struct stat facts;
+    uint64_t begin;
     if (fstat(file, &facts) != 0 || !S_ISBLK(facts.st_mode))
         return 0;
-    return begin_of(facts.st_rdev) + (ioctl(file, LOOP_GET_STATUS64, &loop) == 0 ? loop.lo_offset : 0);
+    begin = 512 * fact_of(facts.st_rdev, "start");
+    if (begin == 0)
+        begin = fact_of(facts.st_rdev, "alignment_offset");
+    return begin + (ioctl(file, LOOP_GET_STATUS64, &loop) == 0 ? loop.lo_offset : 0);
 }
 
 bool device_identity(int file, struct identity *into) {

@@ -90,8 +90,8 @@ bool device_first(int file, uint8_t *room);
 /* Whether a file is such a device, and right as that of this disk; the header of the image that it shows. Its own first bytes are in the room then. */
 bool device_find(int file, unsigned disk, uint8_t *room, struct device *device, struct header *image);
 
-/* The bytes of a block device's physical sectors, and where on its disk it begins, in bytes, as far as the system tells: a partition, or a loop device. Of another
- * file both are 0. */
+/* The bytes of a block device's physical sectors; and where it begins, in bytes, as far as the system tells: a partition on its disk, a loop device in its file, a
+ * volume from the next place before it where its disks' sectors begin. Of another file both are 0. */
 uint32_t device_sector(int file);
 uint64_t device_begin(int file);
 
