@@ -584,6 +584,8 @@ static int open_host(struct mg_host *host, struct images *images, const char *fo
     status = dlm_c_open(images, number, &host->handle, &told, disk);
     if (status != 0 && *disk >= 0 && *disk < MG_DISKS && (status == MG_UNREADABLE || host->images[*disk].other >= 0))
         say_why_not(host, (unsigned)*disk);
+    else if (status == MG_WRONG_HEADER && *disk >= 0 && *disk < MG_DISKS && is_shared(host, (unsigned)*disk))
+        because("disk%d.img is of another set than an image before it", (int)*disk);
     if (status != 0)
         return status_of(status);
     host->disks = told.disks;

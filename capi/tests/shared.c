@@ -17,7 +17,7 @@
 #include <sys/stat.h>
 #include <unistd.h>
 
-static char path[4096], first[2000], second[2000];
+static char path[4096], first[2000], second[2000], other_set[2020];
 
 static const char *in(const char *folder, const char *name) {
     snprintf(path, sizeof path, "%s/%s", folder, name);
@@ -209,6 +209,19 @@ static void numbers(void) {
     IS(mg_take_number(second, 3, &disk), MG_NO_MAJORITY);
     IS(mg_open_to_look(second, &eye, &disk), MG_OK);
     mg_close(eye);
+    /* A link leads to a device of another set. */
+    IS(mkdir(in(second, "other"), 0777), 0);
+    snprintf(other_set, sizeof other_set, "%s/other", second);
+    IS(mg_format_shared(other_set, 3, 16, 8, 4, 0, MG_FILES, NULL), MG_OK);
+    move("other/disk2.img", "disk2.other");
+    move("disk2.img", "away2");
+    move("disk2.other", "disk2.img");
+    move("away0", "disk0.img");
+    IS(opens(second, 2, &disk), MG_WRONG_HEADER);
+    IS(disk, 2);
+    IS_TEXT(mg_cause(), "disk2.img is of another set than an image before it");
+    move("disk0.img", "away0");
+    move("away2", "disk2.img");
     /* Two links are exchanged. */
     move("away1", "disk0.img");
     move("away0", "disk1.img");
