@@ -193,6 +193,14 @@ if [[ -x $built/mg-lock ]]; then
     expect "--status of disks that may only be read" 0 "$shows" bash -c '"$1" --status "$2" | sed -n 3,7p' _ "$built/mg-lock" "$work/set"
 fi
 blockdev --setrw "${places[@]}"
+# mg-lock says the causes, too.
+nameless="this machine has no name: the folder's machine-id has something else, and 32 digits of 0 to 9 and a to f are wanted, not all of them 0"
+if [[ -x $built/mg-lock ]]; then
+    expect "mg-lock under no such number" 125 "mg-lock: disk0.img has host numbers from 0 to 3, and 4 was given" "$built/mg-lock" "$work/set" 4 db true
+    echo 0000 > "$work/set/machine-id"
+    expect "mg-lock on a machine without a name" 125 "mg-lock: 37 NoLock ($nameless)" "$built/mg-lock" "$work/set" 0 db true
+    rm -- "$work/set/machine-id"
+fi
 leads "${places[1]}" "${places[0]}" "${places[2]}"
 why="half of the devices or fewer tell whose host number 0 is; disk0.img is formatted as disk 1; disk1.img is formatted as disk 0"
 expect "two links exchanged" 1 "dlm: 7 NoMajority ($why)" "$shared" table "$work/set" 0

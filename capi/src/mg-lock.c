@@ -56,8 +56,14 @@ __attribute__((format(printf, 1, 2))) static void say(const char *format, ...) {
 
 /* "36 HostInUse (somebody else works under this host number)" */
 static const char *told(int status) {
-    static char text[256];
+    static char text[640];
     char machine[33];
+    if (status < 0 && mg_cause()[0])
+        return mg_cause();
+    if (status > 0 && status != MG_HOST_IN_USE && mg_cause()[0]) {
+        snprintf(text, sizeof text, "%d %s (%s)", status, mg_name(status), mg_cause());
+        return text;
+    }
     if (status == MG_HOST_IN_USE && mg_machine_of(asked.folder, asked.host, machine, sizeof machine) == MG_OK && machine[0])
         snprintf(text, sizeof text, "%d %s (the host number is of machine %s, and in use)", status, mg_name(status), machine);
     else if (status > 0)
@@ -441,7 +447,7 @@ static int decline(int status) {
         return end_by(ended);
     if (status == MG_IN_DOUBT)
         return FAILED;
-    if (status == MG_BAD_ARGUMENT)
+    if (status == MG_BAD_ARGUMENT && mg_cause()[0] == '\0')
         return refuse("a name has 1 to 15 bytes from 0x21 to 0x7E", asked.name);
     if (status == MG_NO_SUCH_LOCK)
         return refuse("the lock was taken away while it waited", asked.name);
