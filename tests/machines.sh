@@ -42,7 +42,9 @@ finish() {
     for device in "$work"/{shown,mounted}; do
         ! mountpoint -q "$device" || umount "$device"
     done
+    # One that may only be read would stay so for whoever has it next.
     for device in "${devices[@]}"; do
+        blockdev --setrw "$device"
         losetup -d "$device"
     done
     rm -r -- "$work"
@@ -155,6 +157,10 @@ leads "${places[0]}" "${places[1]}" /dev/null
 declines "no block device" 1 "dlm: 26 Unreadable disk2 (disk2.img is no block device)" 3 4 71 4 4096 files
 leads "${places[0]}" "${places[1]}" /dev
 declines "a folder" 1 "dlm: 26 Unreadable disk2 (disk2.img is a folder, and no block device)" 3 4 71 4
+leads "${places[@]}"
+blockdev --setro "${places[2]}"
+declines "a device that is read only" 1 "dlm: 26 Unreadable disk2 (disk2.img is read only)" 3 4 71 4
+blockdev --setrw "${places[2]}"
 add "$work/place2" --offset 512
 leads "${places[0]}" "${places[1]}" "$device"
 declines "a loop device that begins elsewhere" 2 "dlm-shared: format: disk2.img begins 512 bytes into what it is a part of, which is no multiple of 4096" 3 4 71 4

@@ -126,7 +126,7 @@ int mg_format(const char *folder, unsigned disks, unsigned slots, uint64_t clust
  * 4096 bytes, 0 for 4096. Each write is made to last by itself (O_DSYNC), but with the flag MG_NO_DSYNC by the next sync alone. With the flag MG_FILES a file is
  * made where there is no `diskK.img`.
  *
- * Refused, and nothing is changed: MG_ALREADY_THERE where a file is there, or a device that is formatted; MG_UNREADABLE where a device is too short, is in use
+ * Refused, and nothing is changed: MG_ALREADY_THERE where a file is there, or a device that is formatted; MG_UNREADABLE where a device is too short, read only, in use
  * on this machine, as by a mount, or is none; MG_BAD_ARGUMENT, and `*disk` names it, where its physical sectors are longer than `sector`, where it does not
  * begin at a multiple of that, or where it is one device with another disk. Where a later call fails, MG_UNREADABLE, what was made is undone. No gate is opened
  * before all devices are whole; a format that ends within that is finished by the same words. mg_cause says more. */

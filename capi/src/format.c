@@ -195,6 +195,8 @@ static int judge(struct plan *plan, unsigned disk, bool is_block) {
     status = fits(plan, disk);
     if (status == MG_OK && !is_read)
         status = refuse_place(MG_UNREADABLE, disk, "cannot be read");
+    if (status == MG_OK && device_is_read_only(plan->files[disk]))
+        status = refuse_place(MG_UNREADABLE, disk, "is read only");
     if (status != MG_OK)
         return status;
     found.size = plan->size;
