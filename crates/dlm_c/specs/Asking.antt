@@ -8,10 +8,13 @@ use Rattle.lock_command.specs.declared.number.TheConstants.{HOSTS}
 use Rattle.host.specs.declared.task.Task.TheVariants.{Submit}
 use Rattle.host.specs.Kept.{Kept, is_idle}
 use Rattle.session.specs.Beginnings as beginnings
-use Rattle.session.specs.Beginnings.{AsksAs, IsAnotherValue, IsNewClaim}
+use Rattle.session.specs.Beginnings.{AsksAs, IsAnotherValue, IsNewClaim, OnlyBegins}
 use Rattle.session.specs.Bounds.{IsPause, is_leaving, orders_left}
 use Rattle.session.specs.Keeping.{Keeps, KeepsRelease}
+use Rattle.session.specs.Moves.{GoesOn, KeepsGoal, KeepsValue}
+use Rattle.session.specs.Outcomes.{IsUnheard}
 use Rattle.session.specs.declared.beginning.Asker.{Asker}
+use Rattle.session.specs.declared.beginning.TheConstants.{LAST_TRIES}
 use Rattle.session.specs.declared.claim.Claim.{Claim}
 use Rattle.session.specs.declared.claim.Goal.{Goal}
 use Rattle.session.specs.declared.claim.Goal.TheVariants.{Take, Check, Give, GiveUp}
@@ -66,6 +69,7 @@ pub record IsLeftClaim (asking number : ℕ) (bytes : List ℕ) (wanted : Mode) 
   pub standing : c.standing ≡ Left
   pub unknown : (c.asked ≡ None) × (c.slot ≡ None) × (c.release ≡ None)
   pub idle : c.step ≡ step.Ended (Failed Waits)
+  pub nothing : (c.value ≡ None) × (c.over ≡ None) × (c.since ≡ 0) × (c.newest ≡ 0) × (c.request ≡ 0)
 
 -- there are such an asker, such a lock and such a name, and this is the mode of that number
 abbrev pub MayBeLeft : AskerNumbers → ℕ → List ℕ → ℕ → Mode → Type 0
@@ -101,7 +105,13 @@ StandsFor Check old new = is_leaving new ≡ false
 StandsFor Give old new = new ≡ Leaving
 StandsFor (GiveUp why) old new = new ≡ Leaving
 
--- What is asked began. What may be in the log stays known.
+-- What is to be stored then: a give stores this, and a lock that is given up nothing, unless a release of it may be in the log. Else it is the same.
+abbrev pub StoresFor : Goal → Option (List ℕ) → Claim → Claim → Type 0
+StoresFor Give given old new = new.value ≡ given
+StoresFor (GiveUp why) given old new = old.release ≡ None → new.value ≡ None
+StoresFor goal given old new = new.value ≡ old.value
+
+-- What is asked began, and nothing else changed. What may be in the log stays known.
 pub record BeginsGoal (numbers : AskerNumbers) (number : ℕ) (bytes : List ℕ) (old new : Claim) (status : ℤ) : Type 0 where
   pub told : status ≡ done
   pub may_ask : MayAsk numbers
@@ -111,7 +121,8 @@ pub record BeginsGoal (numbers : AskerNumbers) (number : ℕ) (bytes : List ℕ)
   pub asks : AsksAs (asker_of numbers) old new
   pub first : new.step ≡ first_step goal
   pub stands : StandsFor goal old.standing new.standing
-  pub value : goal ≡ Give → new.value ≡ stored number bytes
+  pub value : StoresFor goal (stored number bytes) old new
+  pub only : OnlyBegins goal (asker_of numbers) old new
   pub keeps : Keeps (record old { over = new.over }) new
   pub release : KeepsRelease old new
 
@@ -126,12 +137,17 @@ BeginsGoalOr numbers number bytes old new status =
 
 -- IT IS TO END SOON
 
--- The operation is to end soon: it was told to stop, or time is over. What may be in the log stays known.
+-- The operation is to end soon: it was told to stop, or time is over. It goes on as before, but that a pause ends, and leads to nothing for which something would
+-- have to be heard. What may be in the log stays known.
 pub record Stops (told : Bool) (old new : Claim) : Type 0 where
   pub over : new.over ≡ Some (if told then Stopped else TimeOver)
   pub soon : orders_left new ≤ 13
   pub no_pause : IsPause new.step → ⊥
-  pub goes_on : (IsPause old.step → ⊥) → new.step ≡ old.step
+  pub goes_on : (IsPause old.step → ⊥) → new ≡ record old { over = new.over; tries = LAST_TRIES }
+  pub unheard : IsPause old.step → IsUnheard new
+  pub moves : GoesOn (record old { over = new.over }) new
+  pub goal : KeepsGoal old new
+  pub value : KeepsValue old new
   pub keeps : Keeps (record old { over = new.over }) new
   pub release : KeepsRelease old new
 
