@@ -13,6 +13,8 @@ import subprocess
 import sys
 import time
 
+import heard  # noqa: F401
+
 mg_lock, dlm, library, work = map(os.path.abspath, sys.argv[1:])
 sys.path.insert(0, os.path.join(os.path.dirname(os.path.dirname(os.path.realpath(__file__))), "python"))
 from midgegalena import Refused, Session  # noqa: E402
@@ -20,8 +22,6 @@ from midgegalena import Refused, Session  # noqa: E402
 LOG_FULL = 9
 OPERATOR, HOLDER = "13", "5"  # hosts
 checks = failed = 0
-# Where this runs in the background it may be ignored, and what is ignored stays so.
-signal.signal(signal.SIGINT, signal.default_int_handler)
 
 
 def expect(well, what):

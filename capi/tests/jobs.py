@@ -12,6 +12,7 @@ import sys
 import time
 from pathlib import Path
 
+import heard  # noqa: F401
 from midgegalena import LOG_FULL, Refused, Session, format_images
 
 library, work = os.path.abspath(sys.argv[1]), Path(sys.argv[2]).absolute()

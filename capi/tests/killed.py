@@ -9,12 +9,12 @@ import sys
 import threading
 import time
 
+import heard  # noqa: F401
+
 sys.path.insert(0, os.path.join(os.path.dirname(os.path.dirname(os.path.realpath(__file__))), "python"))
 from midgegalena import EX, IN_DOUBT, NL, NO_MAJORITY, PR, InDoubt, Refused, Session, load, milliseconds  # noqa: E402
 
 library, folder = sys.argv[1:]
-# Where this runs in the background it may be ignored.
-signal.signal(signal.SIGINT, signal.default_int_handler)
 assert load(library).mg_format(os.fsencode(folder), 3, 128, 7, None) == 0
 
 

@@ -19,6 +19,8 @@ import subprocess
 import sys
 import time
 
+import heard  # noqa: F401
+
 mg_lock, dlm, work = map(os.path.abspath, sys.argv[1:4])
 rounds = int(sys.argv[4]) if len(sys.argv) > 4 else 4
 library = os.path.abspath(sys.argv[5]) if len(sys.argv) > 5 else None
@@ -30,8 +32,6 @@ sys.path.insert(0, package)
 from midgegalena import Session  # noqa: E402
 
 checks = failed = 0
-# Where this runs in the background SIGINT may be ignored, and what is ignored stays so.
-signal.signal(signal.SIGINT, signal.default_int_handler)
 
 
 def expect(well, what):

@@ -14,6 +14,8 @@ import subprocess
 import sys
 import time
 
+import heard  # noqa: F401
+
 mg_lock, dlm, work = map(os.path.abspath, sys.argv[1:])
 images = os.path.join(work, "images")
 checks = failed = 0
