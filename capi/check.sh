@@ -391,6 +391,12 @@ if command -v python3 > /dev/null; then
         tried "python, installed" env PYTHONDONTWRITEBYTECODE=1 python3 -m pip install -q --root-user-action=ignore --no-build-isolation --no-index --no-compile \
             --target "$work/python" "$here/python"
         package=$work/python
+        tried "python, from this folder" env PYTHONDONTWRITEBYTECODE=1 bash -c 'python3 -m pip install -q --root-user-action=ignore --no-build-isolation --no-index \
+            --prefix "$1/editable" --editable "$2" && python3 -c "import site, sys; site.addsitedir(sys.argv[1]); import midgegalena
+assert midgegalena.__file__.startswith(sys.argv[2])" "$(find "$1/editable" -name midgegalena.pth -printf %h)" "$2"' _ "$work" "$here/python"
+        tried "python, from its archive" env PYTHONDONTWRITEBYTECODE=1 bash -c 'cd -- "$2" && python3 -c "import sys, wheel_of; wheel_of.build_sdist(sys.argv[1])" "$1" &&
+            python3 -m pip install -q --root-user-action=ignore --no-build-isolation --no-index --no-compile --target "$1/unpacked" "$1"/midgegalena-*.tar.gz &&
+            diff -r "$1/python/midgegalena" "$1/unpacked/midgegalena"' _ "$work" "$here/python"
         tried "python, what is installed" test -f "$package/midgegalena/py.typed" -a -f "$package/midgegalena/__init__.py" -a ! -e "$here/python/build"
     else
         left_out "the package for Python as pip installs it: there is no pip"
@@ -407,6 +413,8 @@ if command -v python3 > /dev/null; then
     tried "what python says" diff "$work/said.txt" "$here/examples/python/turns.out"
     folder
     tried "python, killed" env PYTHONDONTWRITEBYTECODE=1 python3 "$here/tests/killed.py" "$PREFIX/lib/libmidgegalena.so" "$work/images"
+    folder
+    tried "python, package" env PYTHONDONTWRITEBYTECODE=1 python3 "$here/tests/python.py" "$PREFIX/lib/libmidgegalena.so" "$work/images"
     folder
     tried "python, jobs" env PYTHONDONTWRITEBYTECODE=1 PYTHONPATH="$package" python3 "$here/tests/jobs.py" "$PREFIX/lib/libmidgegalena.so" "$work/images" "${JOBS:-60}"
     tail -n 1 "$work/out.txt" >> "$work/restarted.txt"

@@ -12,19 +12,20 @@ import ctypes
 import math
 import os
 import sys
+import threading
 import time
 from contextlib import contextmanager, suppress
 from ctypes import CFUNCTYPE, POINTER, Structure, byref, c_char_p, c_int, c_int32, c_size_t, c_uint, c_uint8, c_uint32, c_uint64, c_void_p
 from types import TracebackType
-from typing import Any, Iterator, Optional, Tuple, Union
+from typing import Any, Callable, Iterator, Optional, Tuple, Union
 
 __all__ = [
-    "ALL", "CR", "CW", "EX", "IN_DOUBT", "KEEP", "LATE", "LOG_FULL", "NL", "NO_MAJORITY", "NO_SUCH_LOCK", "OK", "PR", "PW", "SHARE", "TIMED_OUT",
-    "Held", "InDoubt", "Lost", "Refused", "Session", "format_images", "load", "milliseconds",
+    "ALL", "CR", "CW", "EX", "IN_DOUBT", "KEEP", "LATE", "LOG_FULL", "NL", "NO_MAJORITY", "NO_SUCH_LOCK", "OK", "PR", "PW", "SHARE", "STOPPED",
+    "TIMED_OUT", "Held", "InDoubt", "Lost", "Refused", "Session", "Stopped", "format_images", "load", "milliseconds",
 ]
 
 NL, CR, CW, PR, PW, EX = range(6)
-OK, TIMED_OUT, IN_DOUBT, NO_MAJORITY, LOG_FULL, NO_SUCH_LOCK = 0, -2, -6, 7, 9, 12
+OK, TIMED_OUT, STOPPED, IN_DOUBT, NO_MAJORITY, LOG_FULL, NO_SUCH_LOCK = 0, -2, -5, -6, 7, 9, 12
 KEEP, SHARE, LATE, ALL = 1, 2, 4, 1
 VALID = 1
 LONGEST = 2**31 - 1  # milliseconds
@@ -87,19 +88,39 @@ class Refused(Exception):
         super().__init__(lib.mg_strerror(status).decode())
         self.status, self.lock = status, lock
 
+    def __reduce__(self) -> Tuple[Any, ...]:
+        """A pool hands it from process to process, and the library cannot go with it."""
+        return _made_again, (type(self), *self.args), self.__dict__
+
+
+def _made_again(kind: type[Refused], *words: str) -> Refused:
+    return kind.__new__(kind, *words)
+
 
 class Lost(Refused):
     """The lock was taken away while it was waited for or held."""
 
 
 class InDoubt(Refused):
-    """It is not known whether the lock stays in the table. The session's next call releases it, or give(why.lock) does."""
+    """It is not known whether the lock stays in the table. give(why.lock) releases it, or the next lock(), is_held() or recover()."""
+
+
+class Stopped(Refused):
+    """The event that lock() was given as `stop` was set."""
+
+
+def path_of(folder: Folder) -> bytes:
+    """Its path, for C. C ends a text at a zero byte, and would open another folder."""
+    path = os.fsencode(folder)
+    if b"\0" in path:
+        raise ValueError("embedded null byte")
+    return path
 
 
 def format_images(folder: Folder, disks: int = 3, slots: int = 4096, cluster: int = 1, library: Optional[str] = None) -> None:
     """Makes the images of a folder that is there and has none. Give each folder another cluster number."""
     lib = load(library)
-    status = lib.mg_format(os.fsencode(folder), disks, slots, cluster, None)
+    status = lib.mg_format(path_of(folder), disks, slots, cluster, None)
     if status != OK:
         raise Refused(lib, status)
 
@@ -140,8 +161,42 @@ class Held:
         self._leaves = kept
 
 
+_watched: set[Session] = set()
+_watching = threading.RLock()
+_keep: Optional[Callable[[sys.UnraisableHookArgs], Any]] = None
+_before = sys.unraisablehook
+
+
+def _watch(session: Session) -> None:
+    """What is raised as a pause of a wait begins, as by Ctrl-C, cannot be caught there. Python hands it to a hook, and from 3.13 on does not say
+    whose it is. Its trace does. While any session waits there is one hook."""
+    global _keep, _before
+    with _watching:
+        _watched.add(session)
+        if sys.unraisablehook is not _keep:
+            before = _before = sys.unraisablehook
+
+            def keep(told: sys.UnraisableHookArgs) -> None:
+                frame = told.exc_traceback.tb_frame if told.exc_traceback else None
+                if frame and frame.f_code is Session._rest.__code__:
+                    frame.f_locals["self"].why = told.exc_value
+                else:
+                    before(told)
+
+            sys.unraisablehook = _keep = keep
+
+
+def _watch_no_more(session: Session) -> None:
+    """If somebody has put another hook in the place of ours, that one stays."""
+    with _watching:
+        _watched.discard(session)
+        if not _watched and sys.unraisablehook is _keep:
+            sys.unraisablehook = _before
+
+
 class Session:
-    """Takes locks and gives them back. For one thread at a time.
+    """Takes locks and gives them back. For one thread at a time. A child of fork may use none of its parent's: it begins one of its own. A child
+    that leaves a `with` of its parent changes nothing.
 
     It begins by releasing what a former run of its host number left; with `keep` a lock takes that over, by name and mode. While it waits
     it looks, 1 ms after its first look, then twice as long after each, and at most `interval` milliseconds. With `late` a lock is there
@@ -150,11 +205,12 @@ class Session:
     def __init__(
         self, folder: Folder, host: int, share: bool = False, keep: bool = False, interval: int = 5, library: Optional[str] = None, late: bool = False
     ) -> None:
-        self.lib, self.handle = load(library), c_void_p()
+        self.lib, self._handle, self._process = load(library), c_void_p(), os.getpid()
         self.why: Optional[BaseException] = None
+        self._stop: Optional[threading.Event] = None
         # What could not be given back, with the bytes that it leaves.
         self.left: dict[int, Optional[bytes]] = {}
-        self._check(self.lib.mg_begin(os.fsencode(folder), host, SHARE * share | KEEP * keep | LATE * late, byref(self.handle), None))
+        self._check(self.lib.mg_begin(path_of(folder), host, SHARE * share | KEEP * keep | LATE * late, byref(self._handle), None))
         # Kept as long as the library may call it.
         self.rest = Rest(self._rest)
         self._check(self.lib.mg_set_rest(self.handle, self.rest, None))
@@ -170,57 +226,70 @@ class Session:
     def __exit__(self, kind: Optional[type[BaseException]], why: Optional[BaseException], trace: Optional[TracebackType]) -> None:
         self.close()
 
+    def _is_ours(self) -> bool:
+        return os.getpid() == self._process
+
+    @property
+    def handle(self) -> c_void_p:
+        """For C. In a child of fork it would work on the parent's locks."""
+        if not self._is_ours():
+            raise RuntimeError("a child of fork may use no session of its parent")
+        return self._handle
+
     def close(self) -> None:
-        self.lib.mg_end(self.handle)
-        self.handle = c_void_p()
+        if self._is_ours():
+            self.lib.mg_end(self._handle)
+        self._handle = c_void_p()
 
     def set_interval(self, interval: int) -> None:
         """The longest pause between two looks of a wait, 1 to 60,000 milliseconds."""
         self._check(self.lib.mg_set_interval(self.handle, interval))
 
     def _rest(self, _: Any, milliseconds: int) -> bool:
-        """A pause of a wait. What is raised within it, as by Ctrl-C, ends the wait."""
+        """A pause of a wait. What is raised within it, as by Ctrl-C, ends the wait, and so does the event that lock() was given."""
         try:
-            if self.why is None:
-                time.sleep(milliseconds / 1000)
+            if self.why is not None:
+                return True
+            if self._stop is not None:
+                return self._stop.wait(milliseconds / 1000)
+            time.sleep(milliseconds / 1000)
         except BaseException as why:
             self.why = why
         return self.why is not None
 
     @contextmanager
-    def _caught(self) -> Iterator[None]:
-        """What is raised as a pause begins cannot be caught there. Python hands it to a hook."""
-        hook, self.why = sys.unraisablehook, None
-
-        def keep(told: sys.UnraisableHookArgs) -> None:
-            if told.object == self._rest:
-                self.why = told.exc_value
-            else:
-                hook(told)
-
-        sys.unraisablehook = keep
+    def _caught(self, stop: Optional[threading.Event]) -> Iterator[None]:
+        self.why, self._stop = None, stop
         try:
+            _watch(self)
             yield
         finally:
-            sys.unraisablehook = hook
+            _watch_no_more(self)
 
     def _check(self, status: int, lock: int = 0) -> None:
         if status != OK:
-            raise {NO_SUCH_LOCK: Lost, IN_DOUBT: InDoubt}.get(status, Refused)(self.lib, status, lock)
+            raise {NO_SUCH_LOCK: Lost, IN_DOUBT: InDoubt, STOPPED: Stopped}.get(status, Refused)(self.lib, status, lock)
 
     @contextmanager
-    def lock(self, name: str, mode: int = EX, timeout: Optional[float] = None) -> Iterator[Held]:
+    def lock(
+        self, name: str, mode: int = EX, timeout: Optional[float] = None, stop: Optional[threading.Event] = None
+    ) -> Iterator[Held]:
         """Holds a lock on a name, and gives a Held. With a timeout, in seconds, it raises TimeoutError where it was not granted by
-        then; a timeout of 0 does not wait at all, and without one it waits without an end. If the lock was taken away meanwhile it raises
-        Lost at the end. What could not be given back is given back first, which may wait a minute."""
-        length = milliseconds(timeout)
+        then; a timeout of 0 does not wait at all, and without one it waits without an end. Where another thread sets the event `stop` meanwhile
+        it raises Stopped. If the lock was taken away meanwhile it raises Lost at the end. What could not be given back is given back first,
+        which may wait a minute."""
+        length, letters = milliseconds(timeout), name.encode()
+        if b"\0" in letters:
+            raise ValueError("embedded null byte")
+        if stop is not None and stop.is_set():
+            raise Stopped(self.lib, STOPPED)
         for lock in list(self.left):
             with suppress(Refused):
                 self.give(lock)
         view, held, status = HeldView(), None, OK
         try:
-            with self._caught():
-                status = self.lib.mg_take(self.handle, name.encode(), mode, length, byref(view))
+            with self._caught(stop):
+                status = self.lib.mg_take(self.handle, letters, mode, length, byref(view))
             if self.why is not None:
                 raise self.why from (InDoubt(self.lib, status, view.lock) if status == IN_DOUBT else None)
             if status == TIMED_OUT:
@@ -229,8 +298,8 @@ class Session:
             held = Held(view)
             yield held
         finally:
-            # Ctrl-C may come as soon as it is taken.
-            if view.lock and status == OK:
+            # Ctrl-C may come as soon as it is taken. In a child of fork the lock is the parent's.
+            if view.lock and status == OK and self._is_ours():
                 self.give(view.lock, held.leaves if held else None)
 
     def give(self, lock: int, leaves: Optional[bytes] = None) -> None:
@@ -247,7 +316,8 @@ class Session:
         self._check(self.lib.mg_mark_taken(self.handle))
 
     def is_held(self, held: Held) -> bool:
-        """Whether nobody has taken the lock away, as far as a look tells."""
+        """Whether nobody has taken the lock away, as far as a look tells. It sees nothing after a command that has no mark: call recover() before
+        it to be sure."""
         status: int = self.lib.mg_check(self.handle, held.lock)
         if status not in (OK, NO_SUCH_LOCK):
             self._check(status, held.lock)
@@ -279,7 +349,8 @@ class Session:
         return count.value
 
     def recover(self, all_of_them: bool = False) -> int:
-        """Releases what processes of this host number that are gone have left, and tells how many locks."""
+        """Releases what processes of this host number that are gone have left, with `share` only what they took with `share`, or as mg-lock does.
+        Tells how many locks."""
         count = c_uint()
         self._check(self.lib.mg_recover(self.handle, ALL * all_of_them, byref(count)))
         return count.value
