@@ -75,6 +75,11 @@ tried "sessions, built" cc -std=c99 $common "$here/tests/sessions.c" $flags -o "
 folder
 tried "sessions" "$work/sessions" "$work/images"
 
+# Signs of life that are removed, or links, at a bad moment.
+tried "signs, built" cc -std=c99 $common -Wl,--wrap=flock "$here/tests/signs.c" "$PREFIX/lib/libmidgegalena.a" -o "$work/signs"
+folder
+tried "signs" "$work/signs" "$work/images"
+
 # Commands that return before they are marked.
 tried "late, built" cc -std=c99 $common "$here/tests/late.c" $flags -o "$work/late"
 folder

@@ -39,7 +39,7 @@
 #include <time.h>
 #include <unistd.h>
 
-enum { FIRST_CLIENT = 240, FIRST_LOCK = 1536, LOCKS_OF_A_HOST = 4000, NO_SIGN = -1, LEAST_FILE = 3 };
+enum { FIRST_CLIENT = 240, FIRST_LOCK = 1536, LOCKS_OF_A_HOST = 4000, NO_SIGN = -1, LEAST_FILE = 3, MOST_REMOVALS = 100 };
 enum { PATIENCE = 60000, LITTLE_PATIENCE = 5000, GRACE = 100, FIRST_INTERVAL = 5, SHORT_PAUSE = 20, LONGEST_PAUSE = 200 }; /* milliseconds */
 
 static const struct claim_value NO_VALUE = {{0}};
@@ -252,12 +252,13 @@ static bool path_of_sign(const struct mg_session *session, unsigned number, uint
     return false;
 }
 
-/* Locks a file, which is made where `makes`. NO_SIGN with EWOULDBLOCK: somebody has it. */
-static int take_file(const char *path, bool makes) {
+/* Locks what is at the path now. It follows no link, which may lead to what is no sign, and waits for nobody, as opening a pipe would. */
+static int lock_file(const char *path, bool makes) {
+    const int how = O_CLOEXEC | O_NOCTTY | O_NOFOLLOW | O_NONBLOCK;
     int file, low, done;
-    file = open(path, O_RDWR | O_CLOEXEC | O_NOCTTY | (makes ? O_CREAT : 0), 0666);
+    file = open(path, O_RDWR | how | (makes ? O_CREAT : 0), 0666);
     if (file < 0 && errno == EACCES)
-        file = open(path, O_RDONLY | O_CLOEXEC | O_NOCTTY);
+        file = open(path, O_RDONLY | how);
     if (file >= 0 && file < LEAST_FILE) {
         low = file;
         file = fcntl(low, F_DUPFD_CLOEXEC, LEAST_FILE);
@@ -275,6 +276,24 @@ static int take_file(const char *path, bool makes) {
         return NO_SIGN;
     }
     return file;
+}
+
+/* Whether the path still leads to this file. */
+static bool is_at(const char *path, int file) {
+    struct stat ours, there;
+    return fstat(file, &ours) == 0 && lstat(path, &there) == 0 && ours.st_dev == there.st_dev && ours.st_ino == there.st_ino;
+}
+
+/* Locks a file, which is made where `makes`. NO_SIGN with EWOULDBLOCK: somebody has it. One that was removed before it was locked is nobody's sign. */
+static int take_file(const char *path, bool makes) {
+    for (int tries = 0; tries < MOST_REMOVALS; tries++) {
+        int file = lock_file(path, makes);
+        if (file == NO_SIGN || is_at(path, file))
+            return file;
+        close(file);
+    }
+    errno = ESTALE;
+    return NO_SIGN;
 }
 
 /* The same of a lock's sign. ENOMEM: there is no memory for its path. */
