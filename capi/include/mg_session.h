@@ -88,7 +88,7 @@ int mg_take(struct mg_session *session, const char *name, int mode, int timeout,
 int mg_give(struct mg_session *session, unsigned lock, const void *value);
 
 /* With MG_LATE: marks what mg_take has left without a mark. MG_OK also where there is nothing to mark. Else why it was not marked: the lock is held all the
- * same. */
+ * same. Call it again: what was refused is still to be marked. */
 int mg_mark_taken(struct mg_session *session);
 
 /* Looks whether a lock that was taken is still there: MG_OK, or MG_NO_SUCH_LOCK after a purge. Where the folder's link has moved it

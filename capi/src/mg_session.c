@@ -67,6 +67,7 @@ struct mg_session {
     struct mg_host *eye;  /* with MG_SHARE, to look */
     bool is_worn;         /* the host is to be opened anew */
     bool has_unwanted;    /* an entry is UNWANTED, or was */
+    bool has_unmarked;    /* a mark was refused, and was not made up for */
     unsigned number, flags;
     unsigned stay; /* locks of processes that are gone, which could not be released */
     uint64_t request; /* the last */
@@ -171,17 +172,6 @@ static int mark_all(struct mg_host *host, int64_t until) {
     return status;
 }
 
-/* The same, and with MG_SHARE it waits for its turn, unless the number is another machine's. */
-static int begin_talk(struct mg_session *session, int64_t until, int *disk) {
-    (void)mg_mark_taken(session);
-    for (;;) {
-        int status = open_once(session, disk);
-        bool may_pass = status == MG_OUTRUN || (status == MG_HOST_IN_USE && is_shared(session) && errno != EREMOTE);
-        if (!may_pass || pause_for(session, 1 + any_below(16), until, false) != MG_OK)
-            return status;
-    }
-}
-
 /* An image that failed is given up by its host, and a full log may be renewed. */
 static void wear(struct mg_session *session, int status) {
     session->is_worn |= status == MG_NO_MAJORITY || status == MG_LOG_FULL || status == MG_BROKEN;
@@ -191,6 +181,29 @@ static void end_talk(struct mg_session *session) {
     if (is_shared(session)) {
         mg_close(session->host);
         session->host = NULL;
+    }
+}
+
+/* Marks what the host that is open has left without a mark. */
+static int mark_taken(struct mg_session *session) {
+    int status;
+    if ((session->flags & MG_LATE) == 0 || !session->host)
+        return MG_OK;
+    status = mg_mark_now(session->host);
+    session->has_unmarked |= status != MG_OK;
+    wear(session, status);
+    end_talk(session);
+    return status;
+}
+
+/* The same, and with MG_SHARE it waits for its turn, unless the number is another machine's. */
+static int begin_talk(struct mg_session *session, int64_t until, int *disk) {
+    (void)mark_taken(session);
+    for (;;) {
+        int status = open_once(session, disk);
+        bool may_pass = status == MG_OUTRUN || (status == MG_HOST_IN_USE && is_shared(session) && errno != EREMOTE);
+        if (!may_pass || pause_for(session, 1 + any_below(16), until, false) != MG_OK)
+            return status;
     }
 }
 
@@ -550,7 +563,7 @@ static void operate(struct mg_session *session, struct entry *entry, struct work
     struct due_order *order = &work->end;
     bool is_over = false;
     if (!work->is_part)
-        (void)mg_mark_taken(session);
+        (void)mark_taken(session);
     for (;;) {
         if (!is_over && milliseconds() >= end_of(entry, work)) {
             dlm_c_stop(&entry->claim, false);
@@ -797,13 +810,18 @@ int mg_take(struct mg_session *session, const char *name, int mode, int timeout,
     }
 }
 
+/* What a host could not mark, which is closed perhaps by now, is marked by a recovery. */
 int mg_mark_taken(struct mg_session *session) {
+    int64_t until = milliseconds() + LITTLE_PATIENCE;
     int status;
     if (!session)
         return MG_BAD_ARGUMENT;
-    if ((session->flags & MG_LATE) == 0 || !session->host)
-        return MG_OK;
-    status = mg_mark_now(session->host);
+    if (!session->has_unmarked)
+        return mark_taken(session);
+    status = begin_talk(session, until, NULL);
+    if (status == MG_OK)
+        status = mark_all(session->host, until);
+    session->has_unmarked = status != MG_OK;
     wear(session, status);
     end_talk(session);
     return status;

@@ -295,7 +295,7 @@ char *path_of(const char *folder, const char *name, int number, const char *end)
 
 /* ---- a host ---- */
 
-enum { FIRST_TRIES = 8, NONE_DUE = -1 };
+enum { FIRST_TRIES = 8 };
 
 /* LOOKS: without a number, so no call of it writes. TAKES: only to make the number this machine's. */
 enum way { WORKS, LOOKS, TAKES };
@@ -314,7 +314,7 @@ struct mg_host {
     struct row row;
     int64_t took;         /* the last attempt, in microseconds */
     bool marks_late;
-    int32_t due; /* the slot of a command that is to be marked, or NONE_DUE */
+    int32_t due, due_end; /* the slots of commands that are to be marked, and others between; none where they are the same */
     int faults[MG_DISKS]; /* MG_OK, or why the image is not used, or that a call on it failed */
     struct mg_image_view images[MG_DISKS];
     int errors[MG_DISKS]; /* errno, where an image could not be opened or read */
@@ -374,12 +374,18 @@ static int carry_out(struct mg_host *host, int32_t begun, struct answer *answer)
     return status_of(dlm_c_answer(&host->handle, answer));
 }
 
-/* Marks the command that is to be marked, if one is. It stands in the log whether or not that comes to its end. */
+/* Marks what is to be marked. It stands in the log whether or not that comes to its end. With late marks what was refused is still to be marked. */
 static int mark_due(struct mg_host *host) {
     struct answer marked;
-    int32_t slot = host->due;
-    host->due = NONE_DUE;
-    return slot == NONE_DUE ? MG_OK : carry_out(host, dlm_c_mark(&host->handle, (uint32_t)slot), &marked);
+    int status = MG_OK;
+    while (host->due < host->due_end && status == MG_OK) {
+        status = carry_out(host, dlm_c_mark(&host->handle, (uint32_t)host->due), &marked);
+        if (status == MG_OK)
+            host->due++;
+    }
+    if (!host->marks_late)
+        host->due = host->due_end;
+    return status;
 }
 
 /* Notes why images are not used, by what the proved library says of their first bytes. */
@@ -624,7 +630,6 @@ static int open_folder(const char *folder, unsigned number, enum way way, struct
     host->tries = FIRST_TRIES;
     host->only_looks = way == LOOKS;
     host->lock = NO_FILE;
-    host->due = NONE_DUE;
     for (unsigned k = 0; k < MG_DISKS; k++) {
         host->files[k] = NO_FILE;
         host->images[k].disk = k;
@@ -709,7 +714,7 @@ int mg_set_late_marks(struct mg_host *host, int late) {
 
 int mg_mark_now(struct mg_host *host) { return host ? mark_due(host) : MG_BAD_ARGUMENT; }
 
-bool is_unmarked(const struct mg_host *host) { return host->due != NONE_DUE; }
+bool is_unmarked(const struct mg_host *host) { return host->due < host->due_end; }
 
 /* ---- waiting ---- */
 
@@ -768,7 +773,11 @@ static int carry_out_once(struct mg_host *host, int32_t begun, struct answer *an
 
 /* Marks a command that is acknowledged, or leaves that to the next call. */
 static int mark_in_time(struct mg_host *host, int32_t slot, bool is_waited_for) {
-    host->due = slot;
+    bool is_alone = !is_unmarked(host);
+    if (is_alone || slot < host->due)
+        host->due = slot;
+    if (is_alone || slot >= host->due_end)
+        host->due_end = slot + 1;
     return host->marks_late && !is_waited_for ? MG_OK : mark_due(host);
 }
 

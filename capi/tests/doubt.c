@@ -310,6 +310,43 @@ static void takes_what_was_kept(int timeout) {
     mg_end(session);
 }
 
+/* ---- marks that are refused ---- */
+
+/* Only once a command is marked mg_mark_taken says so, however often it was refused before; and so does mg_mark_now of two commands. */
+static void marks_again(unsigned flags, int calls) {
+    const char *path = new_folder();
+    struct mg_session *session = begun(path, 0, flags | MG_LATE);
+    struct mg_host *eye, *host;
+    struct mg_held held;
+    uint64_t learned;
+    int status;
+    snprintf(tried, sizeof tried, "a mark that is refused after %d calls, flags %u", calls, flags);
+    IS(mg_open_to_look(path, &eye, NULL), MG_OK);
+    held = taken(session, "db", MG_EX);
+    for (int times = 0; times < 3; times++) {
+        fail_after(calls);
+        expect(mg_mark_taken(session) != MG_OK, "refused, and it said MG_OK");
+        expect(end_faults(), "no call failed");
+    }
+    IS(mg_mark_taken(session), MG_OK);
+    IS(mg_look(eye, &learned), MG_OK);
+    expect(learned == 1, "it said MG_OK, and a look learns %d commands", (int)learned);
+    IS(mg_give(session, held.lock, NULL), MG_OK);
+    mg_end(session);
+
+    IS(mg_open(path, 1, &host, NULL), MG_OK);
+    IS(mg_set_late_marks(host, 1), MG_OK);
+    IS(mg_enqueue(host, 1, 1, 1, MG_EX, "one", 0, NULL), MG_OK);
+    fail_after(calls);
+    expect(mg_mark_now(host) != MG_OK, "refused, and it said MG_OK");
+    expect(end_faults(), "no call failed");
+    status = mg_mark_now(host);
+    IS(mg_look(eye, &learned), MG_OK);
+    expect((status == MG_OK) == (learned == 3), "mg_mark_now said %d, and a look learns %d commands", status, (int)learned);
+    mg_close(host);
+    mg_close(eye);
+}
+
 /* ---- each place of failure in turn ---- */
 
 /* How many places there are: the fault comes ever later, until it is not met any more. */
@@ -338,6 +375,9 @@ int main(int argc, char **argv) {
     deaths = tried_throughout(gives_what_was_purged, MG_SHARE, 0);
     takes_what_was_kept(0);
     takes_what_was_kept(1000);
+    for (int calls = 0; calls < 6; calls++)
+        for (unsigned flags = 0; flags <= MG_SHARE; flags += MG_SHARE)
+            marks_again(flags, calls);
     printf("doubt: %ld gives and %ld takes whose disks fail, %ld deaths, %d failures\n", gives, takes, deaths, failures);
     return failures != 0;
 }
