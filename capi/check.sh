@@ -335,9 +335,12 @@ done
 # The program mg-lock. MG_LOCK: turns of each of eight processes.
 if command -v python3 > /dev/null && [[ -x $dlm ]]; then
     mkdir -- "$work/mg-lock"
-    tried "answers, built" cc -std=c99 $common -Wl,--wrap=mg_take,--wrap=mg_give "$here/src/"{mg-lock,status}.c "$here/tests/answers.c" "$PREFIX/lib/libmidgegalena.a" -o "$work/answers"
+    tried "answers, built" cc -std=c99 $common -Wl,--wrap=mg_take,--wrap=mg_give,--wrap=fdatasync,--wrap=clock_gettime "$here/src/"{mg-lock,status}.c "$here/tests/answers.c" "$PREFIX/lib/libmidgegalena.a" -o "$work/answers"
     tried "mg-lock" env PYTHONDONTWRITEBYTECODE=1 python3 "$here/tests/mg_lock.py" "$PREFIX/bin/mg-lock" "$dlm" "$work/mg-lock" "${MG_LOCK:-3}" \
         "$PREFIX/lib/libmidgegalena.so" "$work/answers"
+    tail -n 1 "$work/out.txt" >> "$work/restarted.txt"
+    mkdir -- "$work/signals"
+    tried "signals" env PYTHONDONTWRITEBYTECODE=1 python3 "$here/tests/signals.py" "$PREFIX/bin/mg-lock" "$dlm" "$work/signals" "$work/answers"
     tail -n 1 "$work/out.txt" >> "$work/restarted.txt"
 else
     left_out "mg-lock: there is no Python, or dlm is not built"

@@ -126,6 +126,10 @@ int mg_set_interval(struct mg_session *session, int milliseconds);
 /* What mg_take calls to pause, in place of a sleep. Where it returns anything but 0, mg_take gives up: MG_STOPPED. NULL: sleep. */
 int mg_set_rest(struct mg_session *session, int (*rest)(void *with, int milliseconds), void *with);
 
+/* Whether the session has the host number now, 1 or 0; with MG_SHARE only while a call works on the images. Where that function is called in the midst
+ * of such work, a process that stops there keeps the number from others. */
+int mg_has_number(const struct mg_session *session);
+
 /* ---- what a session stands on ---- */
 
 /* To look (mg_look) and to show the table. Submit nothing by it. It is the session's, and may be another one after each call. */

@@ -14,17 +14,21 @@
 #include <errno.h>
 #include <fcntl.h>
 #include <getopt.h>
+#include <paths.h>
 #include <signal.h>
 #include <stdarg.h>
 #include <stdbool.h>
 #include <stdio.h>
 #include <stdlib.h>
 #include <string.h>
+#include <sys/prctl.h>
+#include <sys/syscall.h>
 #include <sys/wait.h>
 #include <time.h>
 #include <unistd.h>
 
 enum { FAILED = 125, CANNOT_RUN = 126, NOT_FOUND = 127, LOWEST_SIGN = 100, FEW_OF_SLOTS = 20 };
+enum { MOMENT = 2, MOMENTS = 6, LATE = 5000 }; /* milliseconds, and how many moments */
 
 static const char *const MODES[] = {"NL", "CR", "CW", "PR", "PW", "EX"};
 static const int SIGNALS[] = {SIGHUP, SIGINT, SIGQUIT, SIGTERM, SIGUSR1, SIGUSR2};
@@ -32,7 +36,7 @@ static const int SIGNALS[] = {SIGHUP, SIGINT, SIGQUIT, SIGTERM, SIGUSR1, SIGUSR2
 /* What is asked for. */
 static struct {
     const char *folder, *name;
-    char **command;
+    char **words, **command;
     unsigned host;
     int mode, conflict, interval, check, timeout; /* milliseconds, below 0: none */
     bool closes, prints, verbose, recovers, all, shows, as_json;
@@ -40,7 +44,9 @@ static struct {
 
 static int64_t begun;    /* when, in milliseconds */
 static sigset_t ends;    /* the signals that end a wait, and that are handed on to a command */
-static int ended;        /* by such a signal; 0: not */
+static sigset_t heard;   /* these, and those of job control */
+static int ended;        /* by a signal that ends a wait; 0: not */
+static int cause;        /* the errno of the session's last call */
 static struct mg_held db; /* the lock */
 
 /* ---- saying ---- */
@@ -66,6 +72,8 @@ static const char *told(int status) {
     }
     if (status == MG_HOST_IN_USE && mg_machine_of(asked.folder, asked.host, machine, sizeof machine) == MG_OK && machine[0])
         snprintf(text, sizeof text, "%d %s (the host number is of machine %s, and in use)", status, mg_name(status), machine);
+    else if (status == MG_NO_LOCK)
+        snprintf(text, sizeof text, "%d %s (the host number, or the sign of life of a lock, cannot be locked: %s)", status, mg_name(status), strerror(cause));
     else if (status > 0)
         snprintf(text, sizeof text, "%d %s (%s)", status, mg_name(status), mg_strerror(status));
     else
@@ -83,13 +91,34 @@ static double seconds_since_begin(void) { return (double)(milliseconds() - begun
 
 /* ---- signals ---- */
 
-/* What the session calls to pause: until a signal that ends the wait. */
+/* The next of these signals within so many milliseconds, below 0 without an end; else 0. */
+static int next_of(const sigset_t *awaited, int64_t length, siginfo_t *what) {
+    const struct timespec time = {(time_t)(length / 1000), (long)(length % 1000) * 1000000};
+    int signal = length < 0 ? sigwaitinfo(awaited, what) : sigtimedwait(awaited, what, &time);
+    return signal > 0 ? signal : 0;
+}
+
+/* Stops as the terminal wanted it, until somebody has this go on. */
+static void suspend(void) {
+    sigset_t one;
+    sigemptyset(&one);
+    sigaddset(&one, SIGTSTP);
+    raise(SIGTSTP);
+    sigprocmask(SIG_UNBLOCK, &one, NULL);
+    sigprocmask(SIG_BLOCK, &one, NULL);
+}
+
+/* What the session calls to pause: until a signal that ends the wait. It stops only where it keeps the host number from nobody. */
 static int rest(void *with, int length) {
-    struct timespec time = {length / 1000, (long)(length % 1000) * 1000000};
-    (void)with;
+    static bool is_to_stop;
     if (!ended) {
-        int signal = sigtimedwait(&ends, NULL, &time);
-        ended = signal > 0 ? signal : 0;
+        int signal = next_of(&heard, length, NULL);
+        is_to_stop = signal == SIGTSTP || (is_to_stop && signal != SIGCONT);
+        ended = signal == SIGTSTP || signal == SIGCONT ? 0 : signal;
+    }
+    if (is_to_stop && !mg_has_number(with)) {
+        is_to_stop = false;
+        suspend();
     }
     return ended;
 }
@@ -105,7 +134,10 @@ static void block_signals(sigset_t *before) {
         if (sigaction(SIGNALS[i], NULL, &now) == 0 && now.sa_handler != SIG_IGN)
             sigaddset(&ends, SIGNALS[i]);
     }
-    blocked = ends;
+    heard = ends;
+    sigaddset(&heard, SIGTSTP);
+    sigaddset(&heard, SIGCONT);
+    blocked = heard;
     sigaddset(&blocked, SIGCHLD);
     sigaddset(&blocked, SIGPIPE);
     sigprocmask(SIG_BLOCK, &blocked, before);
@@ -121,6 +153,76 @@ static int end_by(int number) {
     raise(number);
     sigprocmask(SIG_UNBLOCK, &one, NULL);
     return 128 + number;
+}
+
+/* ---- whether a signal reached the whole process group ---- */
+
+/* The witness is a process of this group that does nothing. With all signals blocked it keeps each one that reaches it. What reached this process and the
+ * witness reached the command, too. It has none of the files of this process, so it keeps neither a lock nor a pipe, and it ends with this process. */
+static pid_t witness = -1;
+static uint64_t reached; /* signals that were found there, a bit for each */
+
+/* Where there can be none, what is sent to the group reaches the command twice. */
+static void begin_witness(void) {
+    pid_t parent = getpid();
+    witness = fork();
+    if (witness != 0)
+        return;
+#ifdef SYS_close_range
+    (void)syscall(SYS_close_range, 0, ~0U, 0);
+#endif
+    /* So that it is not found by the name of this program, and sent what is meant for that. */
+    (void)prctl(PR_SET_NAME, "lock-witness");
+    for (char **word = asked.words; *word; word++)
+        memset(*word, 0, strlen(*word));
+    (void)prctl(PR_SET_PDEATHSIG, SIGKILL);
+    while (getppid() == parent)
+        pause();
+    _exit(0);
+}
+
+static void end_witness(void) {
+    if (witness > 0 && kill(witness, SIGKILL) == 0)
+        waitpid(witness, NULL, 0);
+    witness = -1;
+}
+
+/* The signals that have reached it. */
+static uint64_t found_there(void) {
+    char path[64], line[256];
+    unsigned long long found = 0;
+    FILE *from;
+    snprintf(path, sizeof path, "/proc/%d/status", (int)witness);
+    from = fopen(path, "re");
+    while (from && fgets(line, sizeof line, from))
+        if (sscanf(line, "ShdPnd: %llx", &found) == 1)
+            break;
+    if (from)
+        fclose(from);
+    return found;
+}
+
+/* Whether a signal that came here reached the group. Not all get it in the very same moment, and one that comes twice meanwhile counts as one. */
+static bool reached_group(int number, pid_t child) {
+    const struct timespec moment = {0, MOMENT * 1000000};
+    const uint64_t bit = (uint64_t)1 << (number - 1);
+    sigset_t one;
+    if (witness < 0 || getpgid(child) != getpgrp())
+        return false;
+    for (int tries = 0; (reached & bit) == 0 && tries < MOMENTS; tries++) {
+        if (tries > 0)
+            nanosleep(&moment, NULL);
+        reached |= found_there();
+    }
+    if ((reached & bit) == 0)
+        return false;
+    end_witness();
+    begin_witness();
+    reached &= ~bit;
+    sigemptyset(&one);
+    sigaddset(&one, number);
+    (void)next_of(&one, 0, NULL);
+    return true;
 }
 
 /* ---- the command ---- */
@@ -161,7 +263,7 @@ static void become_command(int gate, int sign, const sigset_t *before) {
     while (read(gate, &none, 1) < 0 && errno == EINTR)
         ;
     close(gate);
-    if (!asked.closes && sign >= 0 && fcntl(sign, F_DUPFD, LOWEST_SIGN) < 0)
+    if (sign >= 0 && fcntl(sign, F_DUPFD, LOWEST_SIGN) < 0)
         fcntl(sign, F_SETFD, 0);
     sigprocmask(SIG_SETMASK, before, NULL);
     execvp(asked.command[0], asked.command);
@@ -173,64 +275,91 @@ static void become_command(int gate, int sign, const sigset_t *before) {
 /* Signals that came before the child was there did not reach it, not even a terminal's. Until these are handed on it waits, with all
  * blocked: so one that did reach it meanwhile is the same as the one that is handed on. */
 static void hand_on_earlier(pid_t child) {
-    const struct timespec now = {0, 0};
     int signal;
-    while ((signal = sigtimedwait(&ends, NULL, &now)) > 0)
+    while ((signal = next_of(&ends, 0, NULL)) > 0) {
+        (void)reached_group(signal, child);
         kill(child, signal);
+    }
 }
 
-/* Waits for the command, or without one for a signal. Hands signals on, and ends the command once the lock was taken away. */
+/* What a terminal sends, or somebody sends to the process group, reaches the command by itself. */
+static void hand_on(const siginfo_t *what, pid_t child) {
+    bool is_sent = what->si_code == SI_USER || what->si_code == SI_QUEUE || what->si_code == SI_TKILL;
+    if (!reached_group(what->si_signo, child) && is_sent)
+        kill(child, what->si_signo);
+}
+
+/* Looks whether the lock was taken away, and ends the command then. */
+static bool has_lost(struct mg_session *session, pid_t child) {
+    if (mg_check(session, db.lock) != MG_NO_SUCH_LOCK)
+        return false;
+    say("the lock on %s was taken away", asked.name);
+    if (child > 0)
+        kill(child, SIGTERM);
+    return true;
+}
+
+/* Waits for the command, or without one for a signal. */
 static int attend(struct mg_session *session, pid_t child, bool *lost) {
-    const struct timespec pause = {asked.check, 0};
-    sigset_t awaited = ends;
+    int64_t looks = milliseconds() + 1000 * (int64_t)asked.check;
+    sigset_t awaited = heard;
     sigaddset(&awaited, SIGCHLD);
     for (;;) {
         siginfo_t what;
+        int64_t left = asked.check > 0 && !*lost ? looks - milliseconds() : -1;
         int status, signal;
         if (child > 0 && waitpid(child, &status, WNOHANG) == child)
             return WIFEXITED(status) ? WEXITSTATUS(status) : 128 + WTERMSIG(status);
-        signal = asked.check > 0 && !*lost ? sigtimedwait(&awaited, &what, &pause) : sigwaitinfo(&awaited, &what);
-        if (signal < 0 && errno == EAGAIN && mg_check(session, db.lock) == MG_NO_SUCH_LOCK) {
-            *lost = true;
-            say("the lock on %s was taken away", asked.name);
+        if (asked.check > 0 && !*lost && left <= 0) {
+            *lost = has_lost(session, child);
+            looks = milliseconds() + 1000 * (int64_t)asked.check;
+            if (*lost && child < 0)
+                return 0;
+            continue;
+        }
+        signal = next_of(&awaited, left, &what);
+        if (signal == SIGTSTP)
+            suspend();
+        else if (sigismember(&ends, signal) == 1) {
             if (child < 0)
                 return 0;
-            kill(child, SIGTERM);
-        } else if (signal > 0 && signal != SIGCHLD) {
-            if (child < 0)
-                return 0;
-            /* A terminal's signal reaches the command by itself. */
-            if (what.si_code == SI_USER || what.si_code == SI_QUEUE || what.si_code == SI_TKILL)
-                kill(child, signal);
+            hand_on(&what, child);
         }
     }
 }
 
-static int run(struct mg_session *session, const sigset_t *before, bool *lost) {
-    pid_t child = -1;
-    int gate[2];
-    put_environment();
-    if (asked.command[0]) {
-        child = pipe(gate) == 0 ? fork() : -1;
-        if (child < 0) {
-            say("no process for the command: %s", strerror(errno));
-            return FAILED;
-        }
-        if (child == 0) {
-            close(gate[1]);
-            become_command(gate[0], mg_sign_of(session, db.lock), before);
-        }
-        close(gate[0]);
-        hand_on_earlier(child);
-        close(gate[1]);
+static int run_command(struct mg_session *session, const sigset_t *before, bool *lost) {
+    int gate[2], status, sign = asked.closes ? -1 : mg_sign_of(session, db.lock);
+    pid_t child;
+    begin_witness();
+    child = pipe(gate) == 0 ? fork() : -1;
+    if (child < 0) {
+        say("no process for the command: %s", strerror(errno));
+        end_witness();
+        return FAILED;
     }
-    return attend(session, child, lost);
+    if (child == 0) {
+        close(gate[1]);
+        become_command(gate[0], sign, before);
+    }
+    close(gate[0]);
+    hand_on_earlier(child);
+    close(gate[1]);
+    status = attend(session, child, lost);
+    end_witness();
+    return status;
+}
+
+static int run(struct mg_session *session, const sigset_t *before, bool *lost) {
+    put_environment();
+    return asked.command[0] ? run_command(session, before, lost) : attend(session, -1, lost);
 }
 
 /* ---- what is asked ---- */
 
 static void usage(FILE *where) {
     fputs("usage: mg-lock [OPTION]... FOLDER HOST NAME [--] [COMMAND [ARGUMENT]...]\n"
+          "       mg-lock [OPTION]... FOLDER HOST NAME -c LINE\n"
           "       mg-lock --recover [--all] FOLDER HOST\n"
           "       mg-lock --status [--json] FOLDER\n"
           "Runs COMMAND while it holds a lock on NAME, through host HOST of the images in FOLDER.\n"
@@ -246,11 +375,12 @@ static void usage(FILE *where) {
           "  -o, --close            COMMAND does not keep the lock if mg-lock is killed\n"
           "  -k, --check SECONDS    look so often whether the lock was taken away, and end COMMAND then\n"
           "  -i, --interval MS      longest pause between looks (5)\n"
-          "  -r, --recover          release what processes that are gone have left, and no more\n"
+          "  -r, --recover          release what mg-locks that are gone have left, and no more\n"
           "  -a, --all              with -r: all locks of this host; only when its machine has just started\n"
           "      --status           print slots, disks, host numbers in use here, and locks; it only looks\n"
           "      --json             with --status: for programs\n"
           "      --verbose          say how long it waited\n"
+          "  -c, --command LINE     after NAME: the shell runs LINE, which is one word\n"
           "  -h, --help; -V, --version\n"
           "\n"
           "Exit status: that of COMMAND, 128 + N if signal N ended it; 1 (-E) not granted; 125 mg-lock failed, or the\n"
@@ -377,6 +507,22 @@ static bool may_be(int words) {
     return words >= 3 && !asked.all && !asked.as_json;
 }
 
+/* The shell is to run this one word. */
+static int by_shell(char **line) {
+    static char option[] = "-c";
+    static char *words[4];
+    const char *shell = getenv("SHELL");
+    if (!line[0] || line[1])
+        return refuse("-c takes one word, and it is the last", NULL);
+    words[0] = strdup(shell && shell[0] ? shell : _PATH_BSHELL);
+    words[1] = option;
+    words[2] = line[0];
+    if (!words[0])
+        return refuse(strerror(errno), NULL);
+    asked.command = words;
+    return 0;
+}
+
 static int read_arguments(int argc, char **argv) {
     int host, status = read_options(argc, argv);
     if (status != 0)
@@ -397,7 +543,11 @@ static int read_arguments(int argc, char **argv) {
         return 0;
     asked.name = argv[2];
     asked.command = argv + 3;
-    if (asked.command[0] && strcmp(asked.command[0], "--") == 0)
+    if (!asked.command[0])
+        return 0;
+    if (strcmp(asked.command[0], "-c") == 0 || strcmp(asked.command[0], "--command") == 0)
+        return by_shell(asked.command + 1);
+    if (strcmp(asked.command[0], "--") == 0)
         asked.command++;
     return 0;
 }
@@ -405,6 +555,7 @@ static int read_arguments(int argc, char **argv) {
 static int recover(struct mg_session *session) {
     unsigned released;
     int status = mg_recover(session, asked.all ? MG_ALL : 0, &released);
+    cause = errno;
     if (mg_stay(session) > 0)
         say("%u locks whose processes are gone stay in the table", mg_stay(session));
     if (status != MG_OK)
@@ -434,6 +585,7 @@ static void say_what_stays(int status) {
 /* MG_OK, or MG_NO_SUCH_LOCK where it was taken away before. */
 static int give_back(struct mg_session *session) {
     int status = mg_give(session, db.lock, NULL);
+    cause = errno;
     if (status != MG_OK && status != MG_NO_SUCH_LOCK)
         say_what_stays(status);
     return status;
@@ -465,13 +617,23 @@ static void warn_of_end(struct mg_session *session) {
         say("%u of %u slots of the log of %s are left, and a run takes two", (unsigned)db.slots_left, (unsigned)facts.slots, asked.folder);
 }
 
+/* Whether it was granted so late that it is not wanted any more, as where this process was stopped meanwhile. */
+static bool is_late(void) { return asked.timeout > 0 && milliseconds() > begun + asked.timeout + LATE; }
+
 static int take_and_run(struct mg_session *session, const sigset_t *before) {
     bool lost = false;
     int result, status = mg_take(session, asked.name, asked.mode, asked.timeout, &db);
+    cause = errno;
     /* Not so long as to run what is not wanted any more. */
     if (status == MG_OK && has_ended()) {
         (void)give_back(session);
         status = MG_STOPPED;
+    }
+    if (status == MG_OK && is_late()) {
+        status = give_back(session);
+        if (status != MG_OK && status != MG_NO_SUCH_LOCK)
+            return FAILED;
+        status = MG_TIMED_OUT;
     }
     if (status != MG_OK)
         return decline(status);
@@ -491,6 +653,7 @@ int main(int argc, char **argv) {
     struct mg_session *session;
     sigset_t before;
     int status = read_arguments(argc, argv);
+    asked.words = argv;
     if (status != 0)
         return status < 0 ? 0 : status;
     if (asked.shows)
@@ -498,10 +661,11 @@ int main(int argc, char **argv) {
     begun = milliseconds();
     block_signals(&before);
     status = mg_begin(asked.folder, asked.host, MG_SHARE, &session, NULL);
+    cause = errno;
     if (status != MG_OK)
         return refuse(told(status), NULL);
     (void)mg_set_interval(session, asked.interval);
-    (void)mg_set_rest(session, rest, NULL);
+    (void)mg_set_rest(session, rest, session);
     status = asked.recovers ? recover(session) : take_and_run(session, &before);
     mg_end(session);
     return status;

@@ -999,7 +999,9 @@ int mg_begin(const char *folder, unsigned host, unsigned flags, struct mg_sessio
     session->folder = from_root(folder);
     status = session->folder ? begin(session, disk) : MG_NO_MEMORY;
     if (status != MG_OK) {
+        int cause = errno;
         mg_end(session);
+        errno = cause;
         return status;
     }
     *out = session;
@@ -1031,6 +1033,8 @@ int mg_set_rest(struct mg_session *session, int (*rest)(void *with, int millisec
     session->with = with;
     return MG_OK;
 }
+
+int mg_has_number(const struct mg_session *session) { return session && session->host; }
 
 int mg_host_of(struct mg_session *session, struct mg_host **host) {
     if (host)
