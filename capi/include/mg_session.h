@@ -33,8 +33,8 @@ struct mg_session;
 /* The locks that a former run left are kept. mg_take then takes such a lock first, where name and mode are the same. Not with MG_SHARE. */
 #define MG_KEEP 1u
 
-/* The session has the host number only while a call works on the images, so any number of processes share it. Each of its calls
- * releases what processes with MG_SHARE left that are gone. A call learns the whole log anew, so this is for short programs. */
+/* The session has the host number only while a call works on the images, so any number of processes share it. mg_take and mg_recover
+ * release what processes with MG_SHARE left that are gone. A call learns the whole log anew, so this is for short programs. */
 #define MG_SHARE 2u
 
 /* With any of these: mg_take returns as soon as its command is acknowledged, and before that is marked, a third of its syncs earlier. Call mg_mark_taken
@@ -43,9 +43,9 @@ struct mg_session;
  * after two to four seconds. */
 #define MG_LATE 4u
 
-/* Opens the folder for a host number, learns all, and releases what former runs of this host number left. Without MG_SHARE the
- * number is the session's own until mg_end, and MG_HOST_IN_USE says that another process has it, or on devices that several machines
- * use another machine: then errno is EREMOTE, and no call waits for it. At MG_OK `*out` is a session,
+/* Opens the folder for a host number. With MG_SHARE that is all. Without it, it learns all, and releases what former runs of this host
+ * number left; the number is the session's own until mg_end. MG_HOST_IN_USE says that another process has it, or on devices that several
+ * machines use another machine: then errno is EREMOTE, and no call waits for it. MG_NO_LOCK: errno says why. At MG_OK `*out` is a session,
  * which is to be ended; else it is NULL. Where such locks could not be released it says why, as MG_LOG_FULL. `disk` as in mg_open.
  *
  * Each lock of a session has a sign of life, the file mg-lock.SET.HOST.LOCK in the folder, where SET is its cluster number. The session
@@ -53,8 +53,8 @@ struct mg_session;
  * not remove signs. */
 int mg_begin(const char *folder, unsigned host, unsigned flags, struct mg_session **out, int *disk);
 
-/* Ends a session. NULL is nothing. Locks that were not given stay in the log. The next session of this host number releases
- * them. */
+/* Ends a session. NULL is nothing. Locks that were not given stay in the log. The next mg_begin of this host number without MG_SHARE
+ * releases them. Those that were taken with MG_SHARE are also released by the next mg_take or mg_recover with MG_SHARE. */
 void mg_end(struct mg_session *session);
 
 /* ---- take and give ---- */
@@ -70,12 +70,13 @@ struct mg_held {
 
 /* Takes a lock on a name, and waits `timeout` milliseconds at most: 0 takes it at once or not at all, below 0 waits without an
  * end. MG_OK: the lock is held. MG_IN_DOUBT: it was given up, and what asked for it or releases it may come into the log, or
- * stands there; `held->lock` is its number. The session's next call releases it, and so does mg_give; the next session of the
- * host number does if this one ends. With any other number nothing is held and nothing waits; `held->lock` is 0.
+ * stands there; `held->lock` is its number. Each mg_take, mg_give, mg_check and mg_recover of the session tries to release it. If this
+ * session ends before, it is left as any lock that was not given. With any other number nothing is held and nothing waits; `held->lock` is 0.
  *
- * MG_TIMED_OUT: others have it. MG_NO_SUCH_LOCK: it was purged while it waited. MG_STOPPED: mg_set_rest. MG_HOST_IN_USE: somebody
- * has the host number for so long. MG_LOG_FULL, MG_NO_MAJORITY, MG_TABLE_FULL and others as of mg_enqueue. If the log gets full
- * while it waits it goes on waiting, and once that is renewed it waits in the new folder.
+ * MG_TIMED_OUT: it was not granted in time, as where others have it. MG_NO_SUCH_LOCK: it was purged while it waited. MG_STOPPED:
+ * mg_set_rest. MG_HOST_IN_USE: somebody has the host number for so long. MG_NO_LOCK: errno says why. MG_LOG_FULL, MG_NO_MAJORITY,
+ * MG_TABLE_FULL and others as of mg_enqueue. If the log gets full while it waits it goes on waiting, and once that is renewed it waits in
+ * the new folder.
  *
  * `held->slot` is a fencing token: of those that hold MG_EX on a name in turn, each has a greater slot than the one before it. In
  * a renewed folder slots begin anew, and `cluster` tells the two apart. */
@@ -91,9 +92,9 @@ int mg_give(struct mg_session *session, unsigned lock, const void *value);
  * same. Call it again: what was refused is still to be marked. */
 int mg_mark_taken(struct mg_session *session);
 
-/* Looks whether a lock that was taken is still there: MG_OK, or MG_NO_SUCH_LOCK after a purge. Where the folder's link has moved it
- * looks in the folder to which that leads. As each look it sees nothing behind a command that has no mark, until somebody recovers:
- * call mg_recover before it to be sure. */
+/* Looks whether a lock that was taken was purged: MG_NO_SUCH_LOCK, or MG_OK where no look has seen that. It may be seen late: a look sees nothing
+ * after a command that has no mark, until somebody recovers, so call mg_recover before it to be sure. Where the folder's link has moved it looks
+ * in the folder to which that leads. */
 int mg_check(struct mg_session *session, unsigned lock);
 
 /* ---- of other hosts, and of other processes ---- */
@@ -109,8 +110,9 @@ int mg_purge_dead(struct mg_session *session, unsigned victim, unsigned *purged)
  * process of this host number can be alive: when its machine has just started. */
 #define MG_ALL 1u
 
-/* Releases what processes of this host number that are gone have left, and marks what has no mark. `*released`, where it is not
- * NULL, becomes the number of locks. Where some of them could not be released it says why, and mg_stay how many. */
+/* Releases what processes of this host number that are gone have left, a session with MG_SHARE only what was taken with MG_SHARE, and marks what
+ * has no mark. `*released`, where it is not NULL, becomes the number of locks. Where some of them could not be released it says why, and
+ * mg_stay how many. */
 int mg_recover(struct mg_session *session, unsigned flags, unsigned *released);
 
 /* How many locks of processes that are gone could not be released, when that was tried last: by mg_recover, or by mg_take. A table that could not
