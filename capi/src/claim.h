@@ -84,12 +84,13 @@ void dlm_c_forget(struct claim *claim);
 void dlm_c_pass_left(struct cleanup *cleanup, uint32_t lock);
 int32_t dlm_c_settle_left(struct claim *claim, struct cleanup *cleanup);
 
-/* By a host: of midgegalena.c. Commands of others are marked until it is time, in milliseconds of CLOCK_MONOTONIC. The host's own is marked at once where
+/* By a host: of midgegalena.c. Commands of others are marked for so many milliseconds, once they are learned. The host's own is marked at once where
  * somebody may wait for it, else perhaps later. A lock 0 is none: all are passed, or the purge is to be submitted. `ours` has MG_LOCKS numbers. */
 int64_t microseconds(void);
 void sleep_for(int64_t length);
 int64_t pause_after(const struct mg_host *host, unsigned outrun);
-int learn_all(struct mg_host *host, int64_t until);
+int learn_all(struct mg_host *host, int64_t length);
+bool has_images_of(const struct mg_host *host, const char *folder);
 int sign_name(struct mg_host *host, unsigned number, uint32_t lock, char *into, size_t room);
 int claim_submits(struct claim *claim, struct mg_host *host, bool is_waited_for);
 bool is_unmarked(const struct mg_host *host);

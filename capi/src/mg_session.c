@@ -155,7 +155,7 @@ static int open_once(struct mg_session *session, int *disk) {
     if (status == MG_OK)
         (void)mg_set_late_marks(session->host, (session->flags & MG_LATE) != 0);
     if (status == MG_OK)
-        status = is_shared(session) ? mg_look(session->host, NULL) : learn_all(session->host, milliseconds() + LONGEST_PAUSE);
+        status = is_shared(session) ? mg_look(session->host, NULL) : learn_all(session->host, LONGEST_PAUSE);
     if (status != MG_OK) {
         mg_close(session->host);
         session->host = NULL;
@@ -575,7 +575,7 @@ static void operate(struct mg_session *session, struct entry *entry, struct work
         switch (order->kind) {
         case TO_OPEN: host = open_for(session, entry, work, false); break;
         case TO_OPEN_TO_LOOK: host = open_for(session, entry, work, true); break;
-        case TO_LEARN: host = tell_learned(session, entry, host, learn_all(host, milliseconds() + LONGEST_PAUSE)); break;
+        case TO_LEARN: host = tell_learned(session, entry, host, learn_all(host, LONGEST_PAUSE)); break;
         case TO_LOOK: host = tell_learned(session, entry, host, mg_look(host, NULL)); break;
         case TO_TIDY: host = tidy(session, entry, work); break;
         case TO_TAKE_SIGN: take_sign_for(session, entry, host, order->lock); break;

@@ -975,24 +975,26 @@ int mg_refresh(struct mg_host *host, uint64_t *learned) {
     return status;
 }
 
-/* Learns all that was acknowledged, and marks what it has learned so, until it is time. */
-static int learn_and_mark(struct mg_host *host, int64_t until, struct answer *answer) {
+/* Learns all that was acknowledged, and marks what it has learned so: one command, and then more for so many milliseconds. */
+static int learn_and_mark(struct mg_host *host, int64_t length, struct answer *answer) {
     struct answer marked;
     uint64_t first, end;
+    int64_t learned;
     int status = look(host, answer);
     if (status != MG_OK)
         return status;
     first = learned_by(host);
     status = carry_out(host, dlm_c_recover(&host->handle, host->tries), answer);
     end = learned_by(host);
-    for (uint64_t slot = first; slot < end && milliseconds() < until; slot++)
+    learned = milliseconds();
+    for (uint64_t slot = first; slot < end && (slot == first || milliseconds() - learned < length); slot++)
         (void)carry_out(host, dlm_c_mark(&host->handle, (uint32_t)slot), &marked);
     return status;
 }
 
-int learn_all(struct mg_host *host, int64_t until) {
+int learn_all(struct mg_host *host, int64_t length) {
     struct answer answer;
-    return learn_and_mark(host, until, &answer);
+    return learn_and_mark(host, length, &answer);
 }
 
 int mg_mark(struct mg_host *host, uint64_t *learned) {
