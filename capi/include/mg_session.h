@@ -50,7 +50,10 @@ struct mg_session;
  *
  * Each lock of a session has a sign of life, the file mg-lock.SET.HOST.LOCK in the folder, where SET is its cluster number. The session
  * has it locked (flock) as long as it has the lock. What former runs left are the locks whose signs are there, and locked by nobody. Do
- * not remove signs. */
+ * not remove signs.
+ *
+ * Where the folder is a link, each call works in the folder to which that leads. A folder whose cluster number is lower than that of one
+ * before it is refused, MG_WRONG_HEADER. */
 int mg_begin(const char *folder, unsigned host, unsigned flags, struct mg_session **out, int *disk);
 
 /* Ends a session. NULL is nothing. Locks that were not given stay in the log. The next mg_begin of this host number without MG_SHARE

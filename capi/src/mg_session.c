@@ -63,6 +63,7 @@ struct mg_session {
     char *at;             /* where it led to */
     dev_t device;         /* which folder that is */
     ino_t inode;
+    uint64_t set;         /* the greatest cluster number of a folder that it led to */
     struct mg_host *host; /* of a talk */
     struct mg_host *eye;  /* with MG_SHARE, to look */
     bool is_worn;         /* the host is to be opened anew */
@@ -117,14 +118,23 @@ static void close_all(struct mg_session *session) {
     session->host = session->eye = NULL;
 }
 
+/* Whether the folder leads where it led, as a path without a link does, and to the images that are open: it may be used again for a later set. */
+static bool is_where_it_was(const struct mg_session *session) {
+    struct mg_host *open = session->host ? session->host : session->eye;
+    struct stat there;
+    if (!session->at)
+        return false;
+    if (strcmp(session->at, session->folder) != 0 &&
+        !(stat(session->folder, &there) == 0 && there.st_dev == session->device && there.st_ino == session->inode))
+        return false;
+    return !open || has_images_of(open, session->at);
+}
+
 /* Finds where the folder leads to. Where that has moved, what was open is closed: the log was renewed. */
 static int follow(struct mg_session *session) {
     struct stat there;
     char *at;
-    /* A path without a link leads where it led. */
-    if (session->at && strcmp(session->at, session->folder) == 0)
-        return MG_OK;
-    if (session->at && stat(session->folder, &there) == 0 && there.st_dev == session->device && there.st_ino == session->inode)
+    if (is_where_it_was(session))
         return MG_OK;
     at = realpath(session->folder, NULL);
     if (!at)
@@ -141,6 +151,18 @@ static int follow(struct mg_session *session) {
     return MG_OK;
 }
 
+/* Sets have rising numbers, and what claims know is of the last one. */
+static int accept_set(struct mg_session *session, struct mg_host *host) {
+    struct mg_host_view facts = {0, 0, 0, 0, 0, 0};
+    int status = mg_host_facts(host, &facts);
+    if (status != MG_OK)
+        return status;
+    if (facts.cluster < session->set)
+        return MG_WRONG_HEADER;
+    session->set = facts.cluster;
+    return MG_OK;
+}
+
 /* Opens the folder under the host number, unless it is open there. What it has learned then is all, or with MG_SHARE what marks tell. */
 static int open_once(struct mg_session *session, int *disk) {
     int status = follow(session);
@@ -152,6 +174,8 @@ static int open_once(struct mg_session *session, int *disk) {
         return status;
     session->is_worn = false;
     status = mg_open(session->at, session->number, &session->host, disk);
+    if (status == MG_OK)
+        status = accept_set(session, session->host);
     if (status == MG_OK)
         (void)mg_set_late_marks(session->host, (session->flags & MG_LATE) != 0);
     if (status == MG_OK)
@@ -207,13 +231,23 @@ static int begin_talk(struct mg_session *session, int64_t until, int *disk) {
     }
 }
 
+static int open_eye(struct mg_session *session, int *disk) {
+    int status = mg_open_to_look(session->at, &session->eye, disk);
+    if (status == MG_OK)
+        status = accept_set(session, session->eye);
+    if (status != MG_OK) {
+        mg_close(session->eye);
+        session->eye = NULL;
+    }
+    return status;
+}
+
 /* What a wait looks by: with MG_SHARE without the host number. */
 static int open_to_look(struct mg_session *session, struct mg_host **looks) {
     int status = is_shared(session) ? follow(session) : open_once(session, NULL);
-    *looks = NULL;
     if (status == MG_OK && is_shared(session) && !session->eye)
-        status = mg_open_to_look(session->at, &session->eye, NULL);
-    *looks = is_shared(session) ? session->eye : session->host;
+        status = open_eye(session, NULL);
+    *looks = status != MG_OK ? NULL : is_shared(session) ? session->eye : session->host;
     return status;
 }
 
@@ -973,7 +1007,7 @@ static int begin(struct mg_session *session, int *disk) {
     if (status != MG_OK)
         return status;
     if (is_shared(session))
-        return mg_open_to_look(session->at, &session->eye, disk);
+        return open_eye(session, disk);
     if (session->flags & MG_KEEP)
         status = keep_left(session);
     return status == MG_OK ? release_left(session, false, milliseconds() + PATIENCE, false).status : status;

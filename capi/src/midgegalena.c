@@ -295,7 +295,7 @@ char *path_of(const char *folder, const char *name, int number, const char *end)
 
 /* ---- a host ---- */
 
-enum { FIRST_TRIES = 8 };
+enum { FIRST_TRIES = 8, FIRST_BYTES = 64 };
 
 /* LOOKS: without a number, so no call of it writes. TAKES: only to make the number this machine's. */
 enum way { WORKS, LOOKS, TAKES };
@@ -318,6 +318,7 @@ struct mg_host {
     int faults[MG_DISKS]; /* MG_OK, or why the image is not used, or that a call on it failed */
     struct mg_image_view images[MG_DISKS];
     int errors[MG_DISKS]; /* errno, where an image could not be opened or read */
+    uint8_t first[MG_DISKS][FIRST_BYTES]; /* of a block device, its header's numbers among them */
 };
 
 static bool is_shared(const struct mg_host *host, unsigned disk) { return host->how[disk].sector_size != 0; }
@@ -642,6 +643,8 @@ static int open_folder(const char *folder, unsigned number, enum way way, struct
     free(followed);
     if (status == MG_OK)
         note_faults(host, images);
+    for (unsigned k = 0; status == MG_OK && k < MG_DISKS; k++)
+        memcpy(host->first[k], images->all[k].bytes, FIRST_BYTES);
     free(images);
     if (disk)
         *disk = at_fault;
@@ -657,6 +660,32 @@ static int open_folder(const char *folder, unsigned number, enum way way, struct
 
 int mg_open(const char *folder, unsigned number, struct mg_host **out, int *disk) {
     return open_folder(folder, number, WORKS, out, disk);
+}
+
+/* Whether an image that is open is the one at this path. A block device may have got another header, of a later set. */
+static bool is_image_at(const struct mg_host *host, unsigned disk, const struct stat *there) {
+    uint8_t first[FIRST_BYTES];
+    struct stat ours;
+    if (fstat(host->files[disk], &ours) != 0)
+        return true;
+    if (!S_ISBLK(ours.st_mode))
+        return ours.st_dev == there->st_dev && ours.st_ino == there->st_ino;
+    if (!S_ISBLK(there->st_mode) || ours.st_rdev != there->st_rdev)
+        return false;
+    return is_shared(host, disk) || !read_whole(host->files[disk], first, sizeof first, 0) || memcmp(first, host->first[disk], sizeof first) == 0;
+}
+
+/* Whether the images that are open are the folder's: the first one that is found there tells. */
+bool has_images_of(const struct mg_host *host, const char *folder) {
+    for (unsigned k = 0; k < MG_DISKS; k++) {
+        struct stat there;
+        char *path = host->files[k] != NO_FILE ? path_of(folder, "disk", (int)k, ".img") : NULL;
+        bool is_found = path && stat(path, &there) == 0;
+        free(path);
+        if (is_found)
+            return is_image_at(host, k, &there);
+    }
+    return true;
 }
 
 /* A look learns what marks say, whoever set them, so it does not matter under which number. */

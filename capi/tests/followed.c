@@ -1,6 +1,6 @@
 /*
  * A log was filled and renewed, and the link to it was moved: the very next call of a session is of the new folder, whatever call it is,
- * and whether or not the slots that filled the log have marks.
+ * and whether or not the slots that filled the log have marks. Also where that is the old folder again, used for a later set.
  *
  *   followed FOLDER DLM      an empty folder, and the program that fills and renews
  */
@@ -163,6 +163,48 @@ static void tells(struct mg_session *session, const struct mg_held *held) {
     expect(facts.cluster == NEW, "mg_host_of has cluster %ld", (long)facts.cluster);
 }
 
+/* ---- the old folder is used again, while the session does nothing ---- */
+
+enum { LATER = 9 };
+
+/* Set NEW is filled, and renewed to set LATER in the old folder, whose files are removed before. There host 0 is purged, and somebody else takes db. */
+static void use_again(void) {
+    char name[2000];
+    struct mg_host *host;
+    struct mg_answer answer;
+    snprintf(name, sizeof name, "cd '%s' && rm disk*.img renewed host*.lock", at_old);
+    IS(system(name), 0);
+    run("fill '%s' %d", at_new, OPERATOR);
+    run("renew '%s' %d '%s' 3 128 %d", at_new, OPERATOR, at_old, LATER);
+    snprintf(name, sizeof name, "%s.next", at_link);
+    IS(symlink(strrchr(at_old, '/') + 1, name), 0);
+    IS(rename(name, at_link), 0);
+    host = opened(at_old, ANOTHER);
+    IS(mg_purge(host, CLIENT, 2, 0, &answer), MG_OK);
+    IS(answer.purged, 1);
+    IS(mg_enqueue(host, CLIENT, 3, 2, MG_EX, "db", 0, &answer), MG_OK);
+    IS(answer.reply, MG_GRANTED);
+    mg_close(host);
+}
+
+static void used_again(unsigned flags) {
+    struct mg_held held, other;
+    struct mg_session *session = begun(flags, &held);
+    int status;
+    snprintf(tried, sizeof tried, "%s, the old folder is used again", flags ? "MG_SHARE" : "own number");
+    renew(true);
+    use_again();
+    status = mg_check(session, held.lock);
+    expect(status == MG_NO_SUCH_LOCK, "mg_check of a lock that was purged, and that another host has, said %d", status);
+    status = mg_take(session, "db", MG_EX, 0, &other);
+    expect(status == MG_TIMED_OUT, "mg_take of what another host has said %d", status);
+    status = mg_take(session, "free", MG_EX, 0, &other);
+    expect(status == MG_OK && other.cluster == LATER, "mg_take said %d, in cluster %ld", status, (long)other.cluster);
+    status = mg_give(session, held.lock, NULL);
+    expect(status == MG_NO_SUCH_LOCK, "mg_give of the lock that was purged said %d", status);
+    mg_end(session);
+}
+
 int main(int argc, char **argv) {
     static void (*const calls[])(struct mg_session *, const struct mg_held *) = {takes, checks, checks_in_vain, gives, purges, tells};
     if (argc != 3)
@@ -180,5 +222,7 @@ int main(int argc, char **argv) {
                 mg_end(session);
             }
         }
+    for (unsigned flags = 0; flags <= MG_SHARE; flags += MG_SHARE)
+        used_again(flags);
     return failures != 0;
 }
