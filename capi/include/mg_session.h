@@ -57,7 +57,8 @@ struct mg_session;
 int mg_begin(const char *folder, unsigned host, unsigned flags, struct mg_session **out, int *disk);
 
 /* Ends a session. NULL is nothing. Locks that were not given stay in the log. The next mg_begin of this host number without MG_SHARE
- * releases them. Those that were taken with MG_SHARE are also released by the next mg_take or mg_recover with MG_SHARE. */
+ * releases them. Those that were taken with MG_SHARE are also released by the next mg_take or mg_recover with MG_SHARE.
+ * In what mg_set_rest has it call it does nothing. */
 void mg_end(struct mg_session *session);
 
 /* ---- take and give ---- */
@@ -128,7 +129,8 @@ unsigned mg_stay(const struct mg_session *session);
  * not called. Where no look has learned anything for two seconds, or by chance up to four, it recovers, as mg_wait does. */
 int mg_set_interval(struct mg_session *session, int milliseconds);
 
-/* What mg_take calls to pause, in place of a sleep. Where it returns anything but 0, mg_take gives up: MG_STOPPED. NULL: sleep. */
+/* What mg_take calls to pause, in place of a sleep. Where it returns anything but 0, mg_take gives up: MG_STOPPED, and it is called no more.
+ * NULL: sleep. It may not use the session: each call that works on the images is MG_BUSY then. */
 int mg_set_rest(struct mg_session *session, int (*rest)(void *with, int milliseconds), void *with);
 
 /* Whether the session has the host number now, 1 or 0; with MG_SHARE only while a call works on the images. Where that function is called in the midst

@@ -56,6 +56,7 @@ enum mg_outcome {
     MG_ONLY_LOOKS = -4,   /* the handle is of mg_open_to_look, and the call is more than a look. Nothing was done */
     MG_STOPPED = -5,      /* mg_take: it was told to stop (mg_set_rest) */
     MG_IN_DOUBT = -6,     /* mg_take, mg_give: it is not known whether the lock is, or stays, in the table (mg_session.h) */
+    MG_BUSY = -7,         /* a call of the session is under way: this one came from what mg_set_rest has it call. Nothing was done */
 
     /* The host refused the operation. The command is not acknowledged, and may be in the log all the same: ask again with the
      * same request number */

@@ -69,6 +69,8 @@ struct mg_session {
     bool is_worn;         /* the host is to be opened anew */
     bool has_unwanted;    /* an entry is UNWANTED, or was */
     bool has_unmarked;    /* a mark was refused, and was not made up for */
+    bool is_told;         /* to stop, in the take that is under way */
+    bool is_resting;      /* by the caller's function */
     unsigned number, flags;
     unsigned stay; /* locks of processes that are gone, which could not be released */
     uint64_t request; /* the last */
@@ -90,7 +92,15 @@ static unsigned any_below(unsigned bound) {
     return part % bound;
 }
 
-/* MG_OK after so long, or at `until`; MG_TIMED_OUT where that is past. A wait that may be stopped pauses as the caller wants it. */
+/* Pauses by the caller's function. Whether the caller wants it to go on. */
+static bool rests(struct mg_session *session, int64_t length) {
+    session->is_resting = true;
+    session->is_told = session->rest(session->with, (int)length) != 0;
+    session->is_resting = false;
+    return !session->is_told;
+}
+
+/* MG_OK after so long, or at `until`; MG_TIMED_OUT where that is past. A wait that may be stopped pauses as the caller wants it, until it is told to stop. */
 static int pause_for(struct mg_session *session, int64_t length, int64_t until, bool stops) {
     int64_t left = until - milliseconds();
     if (left <= 0)
@@ -100,9 +110,9 @@ static int pause_for(struct mg_session *session, int64_t length, int64_t until, 
     if (stops && session->rest) {
         /* By short pauses: only between two of them the caller is asked. */
         for (; length > SHORT_PAUSE; length -= SHORT_PAUSE)
-            if (session->rest(session->with, SHORT_PAUSE) != 0)
+            if (!rests(session, SHORT_PAUSE))
                 return MG_STOPPED;
-        return session->rest(session->with, (int)length) == 0 ? MG_OK : MG_STOPPED;
+        return rests(session, length) ? MG_OK : MG_STOPPED;
     }
     sleep_for(length * 1000);
     return MG_OK;
@@ -811,6 +821,8 @@ int mg_take(struct mg_session *session, const char *name, int mode, int timeout,
         *held = NOTHING_HELD;
     if (!session || !held || !is_name(name) || mode < MG_NL || mode > MG_EX)
         return MG_BAD_ARGUMENT;
+    if (session->is_resting)
+        return MG_BUSY;
     memset(&work, 0, sizeof work);
     work.until = timeout < 0 ? INT64_MAX : milliseconds() + (timeout == 0 ? LITTLE_PATIENCE : timeout);
     work.stops = true;
@@ -850,6 +862,8 @@ int mg_mark_taken(struct mg_session *session) {
     int status;
     if (!session)
         return MG_BAD_ARGUMENT;
+    if (session->is_resting)
+        return MG_BUSY;
     if (!session->has_unmarked)
         return mark_taken(session);
     status = begin_talk(session, until, NULL);
@@ -870,6 +884,8 @@ int mg_check(struct mg_session *session, unsigned lock) {
     int status;
     if (!session)
         return MG_BAD_ARGUMENT;
+    if (session->is_resting)
+        return MG_BUSY;
     release_unwanted(session, milliseconds() + LITTLE_PATIENCE, false, false);
     if (!entry || entry->state != OURS)
         return MG_NO_SUCH_LOCK;
@@ -921,6 +937,8 @@ int mg_purge_dead(struct mg_session *session, unsigned victim, unsigned *purged)
         *purged = 0;
     if (!session || victim >= MG_HOSTS || victim == session->number)
         return MG_BAD_ARGUMENT;
+    if (session->is_resting)
+        return MG_BUSY;
     status = begin_talk(session, milliseconds() + PATIENCE, NULL);
     if (status != MG_OK)
         return status;
@@ -964,6 +982,8 @@ int mg_recover(struct mg_session *session, unsigned flags, unsigned *released) {
         *released = 0;
     if (!session || (flags & ~MG_ALL) != 0)
         return MG_BAD_ARGUMENT;
+    if (session->is_resting)
+        return MG_BUSY;
     status = recover(session, milliseconds() + PATIENCE, (flags & MG_ALL) != 0, &count);
     if (released)
         *released = count;
@@ -1043,7 +1063,7 @@ int mg_begin(const char *folder, unsigned host, unsigned flags, struct mg_sessio
 }
 
 void mg_end(struct mg_session *session) {
-    if (!session)
+    if (!session || session->is_resting)
         return;
     close_all(session);
     for (size_t i = 0; i < MG_LOCKS; i++)
@@ -1075,7 +1095,7 @@ int mg_host_of(struct mg_session *session, struct mg_host **host) {
         *host = NULL;
     if (!session || !host)
         return MG_BAD_ARGUMENT;
-    return open_to_look(session, host);
+    return session->is_resting ? MG_BUSY : open_to_look(session, host);
 }
 
 int mg_sign_of(struct mg_session *session, unsigned lock) {

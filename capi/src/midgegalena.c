@@ -153,6 +153,7 @@ static const struct meaning MEANINGS[] = {
     {MG_BROKEN, "", "the handle is in no state that it should be in; close it"},
     {MG_ONLY_LOOKS, "", "the handle was opened to look; nothing was done"},
     {MG_STOPPED, "", "it was told to stop; nothing is held"},
+    {MG_BUSY, "", "a call of the session is under way; what mg_set_rest has it call may not use it, and nothing was done"},
     {MG_IN_DOUBT, "", "it is not known whether the lock stays in the table; the session keeps it, and releases it later"},
     {MG_OUTRUN, "Outrun", "another host's greater ballot was read at the last try; ask again, with the same request number"},
     {MG_NO_MAJORITY, "NoMajority",

@@ -502,6 +502,75 @@ static void purged_in_full(const char *name, unsigned flags) {
     mg_end(session);
 }
 
+/* What a wait calls to pause uses the session: it is refused, and the wait goes on. */
+static struct {
+    struct mg_session *session;
+    uint32_t lock;
+    int count;
+} pause_uses;
+
+static int uses(void *with, int length) {
+    struct mg_session *session = pause_uses.session;
+    struct mg_host *host;
+    struct mg_held held;
+    (void)with;
+    (void)length;
+    IS(mg_take(session, "more", MG_EX, 0, &held), MG_BUSY);
+    IS(held.lock, 0);
+    IS(mg_give(session, pause_uses.lock, NULL), MG_BUSY);
+    IS(mg_check(session, pause_uses.lock), MG_BUSY);
+    IS(mg_mark_taken(session), MG_BUSY);
+    IS(mg_recover(session, 0, NULL), MG_BUSY);
+    IS(mg_purge_dead(session, 2, NULL), MG_BUSY);
+    IS(mg_host_of(session, &host), MG_BUSY);
+    IS(host == NULL, 1);
+    mg_end(session);
+    return ++pause_uses.count == 3;
+}
+
+static void used_while_it_rests(const char *name, unsigned flags) {
+    const char *path = folder(name, 64, 7);
+    struct mg_session *session = begun(path, 0, flags), *other = begun(path, 1, 0);
+    struct mg_held a, b;
+    IS(mg_take(other, "db", MG_EX, 0, &b), MG_OK);
+    IS(mg_take(session, "a", MG_EX, 0, &a), MG_OK);
+    pause_uses.session = session;
+    pause_uses.lock = a.lock;
+    pause_uses.count = 0;
+    IS(mg_set_rest(session, uses, NULL), MG_OK);
+    IS(mg_take(session, "db", MG_EX, -1, &b), MG_STOPPED);
+    IS(pause_uses.count, 3);
+    IS(mg_check(session, a.lock), MG_OK);
+    IS(mg_give(session, a.lock, NULL), MG_OK);
+    IS(locks_of(path), 1);
+    mg_end(session);
+    mg_end(other);
+}
+
+/* The link comes to lead back to a folder with a lower cluster number: what is known of the later one is not looked for there. */
+static void led_back(const char *name, unsigned flags) {
+    char from[40], link[300], next[300];
+    struct mg_session *session;
+    struct mg_held a, b;
+    snprintf(from, sizeof from, "%s_later", name);
+    (void)folder(from, 64, 8);
+    (void)folder(name, 64, 7);
+    snprintf(link, sizeof link, "%s/%s_current", work, name);
+    snprintf(next, sizeof next, "%s/%s_next", work, name);
+    IS(symlink(from, link), 0);
+    session = begun(link, 0, flags);
+    IS(mg_take(session, "db", MG_EX, 0, &a), MG_OK);
+    IS(symlink(name, next), 0);
+    IS(rename(next, link), 0);
+    IS(mg_check(session, a.lock), MG_WRONG_HEADER);
+    IS(mg_take(session, "other", MG_EX, 0, &b), MG_WRONG_HEADER);
+    IS(symlink(from, next), 0);
+    IS(rename(next, link), 0);
+    IS(mg_check(session, a.lock), MG_OK);
+    IS(mg_give(session, a.lock, NULL), MG_OK);
+    mg_end(session);
+}
+
 /* The link comes to lead to a folder that knows nothing of our lock, and another process has its number, name and mode there. */
 static void anothers_number(void) {
     char link[300], next[300], sign[400];
@@ -709,6 +778,10 @@ int main(int argc, char **argv) {
     full();
     purged_in_full("purged_full", 0);
     purged_in_full("purged_full_shared", MG_SHARE);
+    for (unsigned flags = 0; flags <= MG_SHARE; flags += MG_SHARE) {
+        used_while_it_rests(flags ? "resting_shared" : "resting", flags);
+        led_back(flags ? "back_shared" : "back", flags);
+    }
     anothers_number();
     elsewhere();
     last_number();
