@@ -76,9 +76,9 @@ folder
 tried "sessions" "$work/sessions" "$work/images"
 
 # Signs of life that are removed, or links, at a bad moment.
-tried "signs, built" cc -std=c99 $common -Wl,--wrap=flock "$here/tests/signs.c" "$PREFIX/lib/libmidgegalena.a" -o "$work/signs"
+tried "files of signs, built" cc -std=c99 $common -Wl,--wrap=flock "$here/tests/sign_files.c" "$PREFIX/lib/libmidgegalena.a" -o "$work/sign_files"
 folder
-tried "signs" "$work/signs" "$work/images"
+tried "files of signs" "$work/sign_files" "$work/images"
 
 # Commands that return before they are marked.
 tried "late, built" cc -std=c99 $common "$here/tests/late.c" $flags -o "$work/late"

@@ -45,8 +45,9 @@ struct mg_session;
 
 /* Opens the folder for a host number. With MG_SHARE that is all. Without it, it learns all, and releases what former runs of this host
  * number left; the number is the session's own until mg_end. MG_HOST_IN_USE says that another process has it, or on devices that several
- * machines use another machine: then errno is EREMOTE, and no call waits for it. MG_NO_LOCK: errno says why. At MG_OK `*out` is a session,
- * which is to be ended; else it is NULL. Where such locks could not be released it says why, as MG_LOG_FULL. `disk` as in mg_open.
+ * machines use another machine: then errno is EREMOTE, and no call waits for it. At MG_OK `*out` is a session, which is to be ended; else
+ * it is NULL. Where such locks could not be released it says why, as MG_LOG_FULL. MG_NO_LOCK: the number, or the sign of life of such a
+ * lock, cannot be locked for another cause than that somebody has it; errno tells, as EMFILE or EACCES. `disk` as in mg_open.
  *
  * Each lock of a session has a sign of life, the file mg-lock.SET.HOST.LOCK in the folder, where SET is its cluster number. The session
  * has it locked (flock) as long as it has the lock. What former runs left are the locks whose signs are there, and locked by nobody. Do
@@ -104,7 +105,8 @@ int mg_check(struct mg_session *session, unsigned lock);
 /* ---- of other hosts, and of other processes ---- */
 
 /* Takes away all locks of a host whose processes are gone: only while it has the number of that host, so that nobody works under
- * it, and each lock that a session took has a sign of life that nobody has. Else MG_HOST_IN_USE, and nothing is done. This knows
+ * it, and each lock that a session took has a sign of life that nobody has. Else MG_HOST_IN_USE, or MG_NO_LOCK where that cannot be
+ * seen (see errno), and nothing is done. This knows
  * of processes that the locks of the folder's file system reach, those of one machine. It does not know of a script that took a
  * lock by dlm and goes on.
  * `*purged`, where it is not NULL, becomes the number of locks. */
@@ -116,11 +118,11 @@ int mg_purge_dead(struct mg_session *session, unsigned victim, unsigned *purged)
 
 /* Releases what processes of this host number that are gone have left, a session with MG_SHARE only what was taken with MG_SHARE, and marks what
  * has no mark. `*released`, where it is not NULL, becomes the number of locks. Where some of them could not be released it says why, and
- * mg_stay how many. */
+ * mg_stay how many; so also where a sign of life cannot be looked at, MG_NO_LOCK: see errno. */
 int mg_recover(struct mg_session *session, unsigned flags, unsigned *released);
 
-/* How many locks of processes that are gone could not be released, when that was tried last: by mg_recover, or by mg_take. A table that could not
- * be read to its end counts as one more. */
+/* How many locks of processes that are gone, or may be, could not be released, when that was tried last: by mg_recover, mg_take or mg_give. A table that
+ * could not be read to its end counts as one more. */
 unsigned mg_stay(const struct mg_session *session);
 
 /* ---- waiting ---- */

@@ -47,6 +47,10 @@ static const struct claim_value NO_VALUE = {{0}};
 /* OURS: taken, or being taken. KEPT: a former run left it. UNWANTED: to be released once that can be done. */
 enum state { FREE, OURS, KEPT, UNWANTED };
 
+/* Whose a sign of life is: this session's, which has locked it; another process's; nobody's, since it is not there; or that could not be seen, and errno
+ * tells why. */
+enum owner { MINE, OTHERS, NOBODYS, UNKNOWN };
+
 struct entry {
     enum state state;
     struct claim claim;
@@ -72,7 +76,8 @@ struct mg_session {
     bool is_told;         /* to stop, in the take that is under way */
     bool is_resting;      /* by the caller's function */
     unsigned number, flags;
-    unsigned stay; /* locks of processes that are gone, which could not be released */
+    unsigned stay; /* locks of processes that are gone, or may be, which could not be released */
+    int cause;     /* errno, where the sign of life of one of these could not be locked */
     uint64_t request; /* the last */
     int interval;
     int (*rest)(void *with, int milliseconds);
@@ -309,75 +314,88 @@ static bool path_of_sign(const struct mg_session *session, unsigned number, uint
     return false;
 }
 
-/* Locks what is at the path now. It follows no link, which may lead to what is no sign, and waits for nobody, as opening a pipe would. */
-static int lock_file(const char *path, bool makes) {
-    const int how = O_CLOEXEC | O_NOCTTY | O_NOFOLLOW | O_NONBLOCK;
-    int file, low, done;
-    file = open(path, O_RDWR | how | (makes ? O_CREAT : 0), 0666);
-    if (file < 0 && errno == EACCES)
-        file = open(path, O_RDONLY | how);
-    if (file >= 0 && file < LEAST_FILE) {
-        low = file;
-        file = fcntl(low, F_DUPFD_CLOEXEC, LEAST_FILE);
-        close(low);
-    }
-    if (file < 0)
-        return NO_SIGN;
-    do
-        done = flock(file, LOCK_EX | LOCK_NB);
-    while (done != 0 && errno == EINTR);
-    if (done != 0) {
-        int cause = errno;
-        close(file);
-        errno = cause;
-        return NO_SIGN;
-    }
+/* It follows no link, which may lead to what is no sign, and waits for nobody, as opening a pipe would. */
+static int open_sign(const char *path, int flags) {
+    int file = open(path, flags | O_CLOEXEC | O_NOCTTY | O_NOFOLLOW | O_NONBLOCK, 0666), low = file;
+    if (file < 0 || file >= LEAST_FILE)
+        return file;
+    file = fcntl(low, F_DUPFD_CLOEXEC, LEAST_FILE);
+    close(low);
     return file;
 }
 
-/* Whether the path still leads to this file. */
-static bool is_at(const char *path, int file) {
+static bool is_same(const struct stat *one, const struct stat *other) { return one->st_dev == other->st_dev && one->st_ino == other->st_ino; }
+
+/* Whether the file has this name no more: somebody removed it before it was locked. */
+static bool is_removed(int file, const char *path) {
     struct stat ours, there;
-    return fstat(file, &ours) == 0 && lstat(path, &there) == 0 && ours.st_dev == there.st_dev && ours.st_ino == there.st_ino;
+    if (stat(path, &there) != 0)
+        return errno == ENOENT;
+    return fstat(file, &ours) == 0 && !is_same(&ours, &there);
 }
 
-/* Locks a file, which is made where `makes`. NO_SIGN with EWOULDBLOCK: somebody has it. One that was removed before it was locked is nobody's sign. */
-static int take_file(const char *path, bool makes) {
-    for (int tries = 0; tries < MOST_REMOVALS; tries++) {
-        int file = lock_file(path, makes);
-        if (file == NO_SIGN || is_at(path, file))
-            return file;
-        close(file);
+static enum owner take_once(const char *path, bool makes, int *sign) {
+    int file = open_sign(path, O_RDWR | (makes ? O_CREAT : 0)), done, cause;
+    if (file < 0 && errno == EACCES)
+        file = open_sign(path, O_RDONLY);
+    if (file < 0)
+        return errno == ENOENT && !makes ? NOBODYS : UNKNOWN;
+    do
+        done = flock(file, LOCK_EX | LOCK_NB);
+    while (done != 0 && errno == EINTR);
+    if (done == 0 && !is_removed(file, path)) {
+        *sign = file;
+        return MINE;
     }
-    errno = ESTALE;
-    return NO_SIGN;
+    cause = errno;
+    close(file);
+    errno = cause;
+    if (done == 0)
+        return NOBODYS;
+    return cause == EWOULDBLOCK ? OTHERS : UNKNOWN;
 }
 
-/* The same of a lock's sign. ENOMEM: there is no memory for its path. */
-static int take_sign(const struct mg_session *session, unsigned number, uint32_t lock, bool makes) {
-    char path[4200];
-    return path_of_sign(session, number, lock, path, sizeof path) ? take_file(path, makes) : NO_SIGN;
+/* Locks a file, which is made where `makes`, and tells whose it is. Where it is not this session's, `*sign` is NO_SIGN. */
+static enum owner take_file(const char *path, bool makes, int *sign) {
+    enum owner owner;
+    *sign = NO_SIGN;
+    do
+        owner = take_once(path, makes, sign);
+    while (owner == NOBODYS && makes);
+    return owner;
 }
+
+/* The same of a lock's sign. UNKNOWN with ENOMEM: there is no memory for its path. */
+static enum owner take_sign(const struct mg_session *session, unsigned number, uint32_t lock, bool makes, int *sign) {
+    char path[4200];
+    *sign = NO_SIGN;
+    return path_of_sign(session, number, lock, path, sizeof path) ? take_file(path, makes, sign) : UNKNOWN;
+}
+
+/* Why a sign is UNKNOWN, by session->cause. */
+static int unknown(const struct mg_session *session) { return session->cause == ENOMEM ? MG_NO_MEMORY : MG_NO_LOCK; }
 
 /* Whether the entry's sign is ours in the folder that is open. In a renewed folder it is linked, or is made anew, in a talk: so nobody finds it before it
  * is locked. A child that has the first one keeps the lock if this process is killed, so then there is no other one. */
 static bool keeps_sign(struct mg_session *session, struct entry *entry) {
     struct stat ours, there;
     char path[4200];
+    enum owner owner;
     int sign;
     if (entry->lock == 0 || entry->sign == NO_SIGN || set_of(session) == entry->sign_of)
         return true;
-    path_of_sign(session, session->number, entry->lock, path, sizeof path);
+    if (!path_of_sign(session, session->number, entry->lock, path, sizeof path))
+        return true;
     if (stat(path, &there) != 0) {
-        if (entry->is_lent || !session->host)
+        if (errno != ENOENT || entry->is_lent || !session->host)
             return true;
-    } else if (fstat(entry->sign, &ours) == 0 && ours.st_dev == there.st_dev && ours.st_ino == there.st_ino) {
+    } else if (fstat(entry->sign, &ours) == 0 && is_same(&ours, &there)) {
         entry->sign_of = set_of(session);
         return true;
     }
-    sign = take_file(path, true);
-    if (sign == NO_SIGN)
-        return errno != EWOULDBLOCK;
+    owner = take_file(path, true, &sign);
+    if (owner != MINE)
+        return owner != OTHERS;
     close(entry->sign);
     entry->sign = sign;
     entry->sign_of = set_of(session);
@@ -420,8 +438,7 @@ static void remove_old_signs(struct mg_session *session) {
         if (!is_old_sign(session, found->d_name))
             continue;
         (void)snprintf(path, sizeof path, "%s/%s", session->at, found->d_name);
-        sign = take_file(path, false);
-        if (sign == NO_SIGN)
+        if (take_file(path, false, &sign) != MINE)
             continue;
         (void)unlink(path);
         close(sign);
@@ -443,8 +460,7 @@ static bool holds_nobodys(struct mg_session *session, struct mg_host *looks, con
             continue;
         if (is_shared(session) && !was_shared(view->lock))
             continue;
-        sign = take_sign(session, session->number, view->lock, false);
-        if (sign == NO_SIGN)
+        if (take_sign(session, session->number, view->lock, false, &sign) != MINE)
             continue;
         close(sign);
         return true;
@@ -460,6 +476,10 @@ struct work {
     bool stops;
     bool is_part; /* of another operation, whose talk goes on */
     bool is_take; /* it may be marked later, and its talk ends then */
+    bool is_over; /* it was told to end soon */
+    bool is_vain; /* the host number is another machine's, or was somebody else's for too long */
+    int64_t in_use_since; /* the host number is somebody else's, and nothing goes on without it; 0: it is not */
+    int cause;            /* errno, where the folder could not be opened */
     struct due_order end;
     unsigned released;
     uint32_t slots_left;
@@ -468,6 +488,7 @@ struct work {
 
 static void release_unwanted(struct mg_session *session, int64_t until, bool is_part, bool stops);
 static struct cleanup release_left(struct mg_session *session, bool all, int64_t until, bool stops);
+static bool release_some(struct mg_session *session, const char *name, int64_t last, struct work *work);
 
 static struct asker asker_of(const struct mg_session *session) {
     struct asker asker = {0, 0, 0, 0, 0};
@@ -486,17 +507,20 @@ static void free_entry(struct entry *entry) {
     entry->sign = NO_SIGN;
 }
 
-static void take_sign_for(struct mg_session *session, struct entry *entry, struct mg_host *host, uint32_t lock) {
-    int sign = entry_of(session, lock) ? NO_SIGN : take_sign(session, session->number, lock, true);
-    if (sign != NO_SIGN) {
+static void take_sign_for(struct mg_session *session, struct entry *entry, struct work *work, struct mg_host *host, uint32_t lock) {
+    int sign = NO_SIGN;
+    switch (entry_of(session, lock) ? OTHERS : take_sign(session, session->number, lock, true, &sign)) {
+    case MINE:
         entry->lock = lock;
         entry->sign = sign;
         entry->sign_of = set_of(session);
         claim_hears(&entry->claim, host, SIGN_IS_OURS, 0, false);
-    } else if (entry_of(session, lock) || errno == EWOULDBLOCK)
-        claim_hears(&entry->claim, host, SIGN_IS_HELD, 0, false);
-    else
-        (void)dlm_c_hear_alone(&entry->claim, errno == ENOMEM ? IS_CLOSED : SIGN_FAILED, MG_NO_MEMORY);
+        break;
+    case OTHERS: claim_hears(&entry->claim, host, SIGN_IS_HELD, 0, false); break;
+    default:
+        work->cause = errno;
+        (void)dlm_c_hear_alone(&entry->claim, work->cause == ENOMEM ? IS_CLOSED : SIGN_FAILED, MG_NO_MEMORY);
+    }
 }
 
 static void drop_sign(struct mg_session *session, struct entry *entry, struct mg_host *host, const struct due_order *order) {
@@ -622,7 +646,7 @@ static void operate(struct mg_session *session, struct entry *entry, struct work
         case TO_LEARN: host = tell_learned(session, entry, host, learn_all(host, LONGEST_PAUSE)); break;
         case TO_LOOK: host = tell_learned(session, entry, host, mg_look(host, NULL)); break;
         case TO_TIDY: host = tidy(session, entry, work); break;
-        case TO_TAKE_SIGN: take_sign_for(session, entry, host, order->lock); break;
+        case TO_TAKE_SIGN: take_sign_for(session, entry, work, host, order->lock); break;
         case TO_DROP_SIGN: drop_sign(session, entry, host, order); break;
         case TO_SUBMIT: wear(session, claim_submits(&entry->claim, host, order->amount == 1)); break;
         case TO_REST:
@@ -702,28 +726,54 @@ static void release_one(struct mg_session *session, const struct mg_lock_view *v
     free_entry(&entry);
 }
 
-/* Releases in a talk what processes that are gone have left, and tells how many were released, how many stay, and why. */
-static struct cleanup release_left(struct mg_session *session, bool all, int64_t until, bool stops) {
-    struct cleanup locks = locks_of(session, session->number, !all && is_shared(session) ? SHARED_LOCKS : ALL_LOCKS);
+/* Releases in a talk the next one of the locks that processes which are gone have left, on this name or on any. False: there is none. */
+static bool release_next(struct mg_session *session, bool all, const char *name, int64_t until, bool stops, struct cleanup *locks) {
+    struct mg_lock_view view;
     uint32_t ours[MG_LOCKS];
+    int sign, status;
     for (size_t i = 0; i < MG_LOCKS; i++)
         ours[i] = session->entries[i].state == FREE ? 0 : session->entries[i].lock;
-    for (;;) {
-        struct mg_lock_view view;
-        int sign, status = session->host ? next_left(session->host, &locks, ours, &view) : MG_NO_MAJORITY;
-        if (status != MG_OK) {
-            locks.stay++;
-            locks.status = status;
-        }
-        session->stay = locks.stay;
-        if (status != MG_OK || view.lock == 0)
-            return locks;
-        sign = take_sign(session, session->number, view.lock, all);
-        if (sign == NO_SIGN)
-            dlm_c_pass_left(&locks, view.lock);
-        else
-            release_one(session, &view, sign, until, stops, &locks);
+    status = session->host ? next_left(session->host, locks, ours, &view) : MG_NO_MAJORITY;
+    if (status != MG_OK) {
+        locks->stay++;
+        locks->status = status;
     }
+    if (status != MG_OK || view.lock == 0)
+        return false;
+    switch (name && strcmp(view.name, name) != 0 ? OTHERS : take_sign(session, session->number, view.lock, all, &sign)) {
+    case MINE: release_one(session, &view, sign, until, stops, locks); break;
+    case UNKNOWN:
+        session->cause = errno;
+        locks->stay++;
+        locks->status = unknown(session);
+        dlm_c_pass_left(locks, view.lock);
+        break;
+    default: dlm_c_pass_left(locks, view.lock);
+    }
+    return true;
+}
+
+static enum kind kind_of(const struct mg_session *session, bool all) { return !all && is_shared(session) ? SHARED_LOCKS : ALL_LOCKS; }
+
+/* Releases in a talk what processes that are gone have left, and tells how many were released, how many stay, and why. */
+static struct cleanup release_left(struct mg_session *session, bool all, int64_t until, bool stops) {
+    struct cleanup locks = locks_of(session, session->number, kind_of(session, all));
+    while (release_next(session, all, NULL, until, stops, &locks))
+        ;
+    session->stay = locks.stay;
+    return locks;
+}
+
+/* The same on one name, or on any where it is NULL, as a part of an operation. None is begun after `last`, or once the caller has said stop. Whether it has gone
+ * over all of them. */
+static bool release_some(struct mg_session *session, const char *name, int64_t last, struct work *work) {
+    struct cleanup locks = locks_of(session, session->number, kind_of(session, false));
+    bool goes_on = true;
+    while (goes_on && milliseconds() < last && !(work->stops && session->is_told))
+        goes_on = release_next(session, false, name, work->until, work->stops, &locks);
+    work->released += locks.released;
+    session->stay = locks.stay;
+    return !goes_on;
 }
 
 /* ---- give ---- */
@@ -739,6 +789,12 @@ static int begin_to_give(struct mg_session *session, struct entry *entry, const 
     if (value)
         memcpy(stored.bytes, value, sizeof stored.bytes);
     return dlm_c_begin(&entry->claim, &asker, value ? GIVE_VALUE : GIVE, &stored);
+}
+
+/* For MG_HOST_IN_USE and MG_NO_LOCK. */
+static void tell_cause(int cause) {
+    if (cause != 0)
+        errno = cause;
 }
 
 /* How an operation on a lock that was held has ended. */
@@ -913,9 +969,11 @@ static int purge(struct mg_session *session, unsigned victim, unsigned *purged) 
         if (status != MG_OK || is_purged)
             return status;
         if (lock != 0) {
-            int sign = take_sign(session, victim, lock, false);
-            if (sign == NO_SIGN)
-                return errno == ENOMEM ? MG_NO_MEMORY : MG_HOST_IN_USE;
+            int sign;
+            enum owner owner = take_sign(session, victim, lock, false, &sign);
+            session->cause = errno;
+            if (owner != MINE)
+                return owner == UNKNOWN ? unknown(session) : MG_HOST_IN_USE;
             close(sign);
             dlm_c_pass_left(&locks, lock);
             continue;
@@ -945,6 +1003,7 @@ int mg_purge_dead(struct mg_session *session, unsigned victim, unsigned *purged)
     status = mg_open(session->at, victim, &dead, NULL);
     if (status == MG_OK)
         status = mark_all(session->host, milliseconds() + PATIENCE);
+    session->cause = errno;
     if (status == MG_OK)
         status = purge(session, victim, &count);
     mg_close(dead);
@@ -952,6 +1011,7 @@ int mg_purge_dead(struct mg_session *session, unsigned victim, unsigned *purged)
         *purged = count;
     wear(session, status);
     end_talk(session);
+    tell_cause(session->cause);
     return status;
 }
 
@@ -972,6 +1032,7 @@ static int recover(struct mg_session *session, int64_t until, bool all, unsigned
     }
     wear(session, status);
     end_talk(session);
+    tell_cause(session->cause);
     return status;
 }
 
@@ -1001,9 +1062,13 @@ static int keep_left(struct mg_session *session) {
     struct mg_lock_view view;
     int status = next_left(session->host, &locks, none, &view);
     for (size_t i = 0; i < MG_LOCKS && status == MG_OK && view.lock != 0;) {
-        int sign = take_sign(session, session->number, view.lock, false);
-        if (sign != NO_SIGN)
+        int sign;
+        enum owner owner = take_sign(session, session->number, view.lock, false, &sign);
+        session->cause = errno;
+        if (owner == MINE)
             status = enter_left(session, &session->entries[i++], &view, sign);
+        else if (owner == UNKNOWN)
+            return unknown(session);
         dlm_c_pass_left(&locks, view.lock);
         if (status == MG_OK)
             status = next_left(session->host, &locks, none, &view);
@@ -1024,6 +1089,7 @@ static char *from_root(const char *folder) {
 
 static int begin(struct mg_session *session, int *disk) {
     int status = is_shared(session) ? follow(session) : begin_talk(session, milliseconds() + LITTLE_PATIENCE, disk);
+    session->cause = errno;
     if (status != MG_OK)
         return status;
     if (is_shared(session))
@@ -1053,7 +1119,7 @@ int mg_begin(const char *folder, unsigned host, unsigned flags, struct mg_sessio
     session->folder = from_root(folder);
     status = session->folder ? begin(session, disk) : MG_NO_MEMORY;
     if (status != MG_OK) {
-        int cause = errno;
+        int cause = session->cause != 0 ? session->cause : errno;
         mg_end(session);
         errno = cause;
         return status;

@@ -1,86 +1,160 @@
 /*
- * Signs of life that somebody removes, or puts a link in the place of, at a bad moment: a session's sign is the file of that name, it makes no other
- * file, and it says why it has none. Linked with the archive and --wrap=flock.
+ * Signs of life that cannot be looked at, as where no descriptor is left or another user made them. Nobody takes that for a lock that is somebody's, or for one
+ * that was taken away: each call says so, and what stays is counted. Linked with -Wl,--wrap=open,--wrap=stat.
  *
  *   signs FOLDER      an empty folder
  */
 #include <mg_session.h>
 
 #include <errno.h>
-#include <stdbool.h>
-#include <stdlib.h>
-#include <sys/file.h>
+#include <fcntl.h>
+#include <signal.h>
+#include <stdarg.h>
 #include <sys/stat.h>
+#include <sys/wait.h>
 #include <unistd.h>
 
 #include "expect.h"
 
-int __real_flock(int file, int operation);
-int __wrap_flock(int file, int operation);
+int __real_open(const char *path, int flags, ...);
+int __real_stat(const char *path, struct stat *facts);
 
-static int removals; /* so many signs are removed just before they are locked */
+static const char *work;
+static int refusal = 0; /* why signs cannot be opened and looked at; 0: they can */
 
-int __wrap_flock(int file, int operation) {
-    char at[64], path[500] = "";
-    snprintf(at, sizeof at, "/proc/self/fd/%d", file);
-    if (readlink(at, path, sizeof path - 1) > 0 && strstr(path, "/mg-lock.") && removals > 0) {
-        removals--;
-        IS(unlink(path), 0);
-    }
-    return __real_flock(file, operation);
+static int is_refused(const char *path) {
+    if (refusal == 0 || !strstr(path, "/mg-lock."))
+        return 0;
+    errno = refusal;
+    return 1;
 }
 
-/* Whether the sign of a lock of host 0 is there by its name, and is the session's. */
-static bool has_sign(const char *folder, struct mg_session *session, unsigned lock) {
-    char path[500];
-    struct stat ours, there;
-    snprintf(path, sizeof path, "%s/mg-lock.7.0.%u", folder, lock);
-    return fstat(mg_sign_of(session, lock), &ours) == 0 && lstat(path, &there) == 0 && ours.st_ino == there.st_ino;
+int __wrap_open(const char *path, int flags, ...) {
+    mode_t mode = 0;
+    va_list rest;
+    va_start(rest, flags);
+    if (flags & O_CREAT)
+        mode = va_arg(rest, mode_t);
+    va_end(rest);
+    return is_refused(path) ? -1 : __real_open(path, flags, mode);
 }
 
-static void removed(const char *folder, struct mg_session *session) {
+int __wrap_stat(const char *path, struct stat *facts) { return is_refused(path) ? -1 : __real_stat(path, facts); }
+
+static const char *folder(const char *name, uint64_t cluster) {
+    static char paths[8][300];
+    static int count = 0;
+    char *path = paths[count++ % 8];
+    snprintf(path, sizeof paths[0], "%s/%s", work, name);
+    IS(mkdir(path, 0777), 0);
+    IS(mg_format(path, 3, 64, cluster, NULL), MG_OK);
+    return path;
+}
+
+/* A process of host 0 takes db, and is killed. */
+static void leave(const char *path, unsigned flags) {
+    struct mg_session *session;
     struct mg_held held;
-    for (int times = 0; times < 4; times++) {
-        removals = times;
-        IS(mg_take(session, "db", MG_EX, 0, &held), MG_OK);
-        IS(removals, 0);
-        IS(has_sign(folder, session, held.lock), true);
-        IS(mg_give(session, held.lock, NULL), MG_OK);
+    pid_t child = fork();
+    if (child == 0) {
+        if (mg_begin(path, 0, flags, &session, NULL) == MG_OK && mg_take(session, "db", MG_EX, 0, &held) == MG_OK)
+            raise(SIGKILL);
+        _exit(1);
     }
+    IS(waitpid(child, NULL, 0), child);
 }
 
-/* Where each number that comes next has a link in the place of a sign. */
-static void linked(const char *folder, struct mg_session *session) {
-    char path[500], made[500];
+/* What a call says, with errno, where signs are refused for this cause. */
+#define SAYS(cause, call, status)  \
+    do {                           \
+        refusal = (cause);         \
+        errno = 0;                 \
+        IS(call, status);          \
+        IS(errno, cause);          \
+        refusal = 0;               \
+    } while (0)
+
+static void left_over(const char *name, int cause, unsigned flags) {
+    const char *path = folder(name, 7);
+    struct mg_session *session, *other;
     struct mg_held held;
-    snprintf(made, sizeof made, "%s/made", folder);
-    for (int makes = 1; makes >= 0; makes--) {
-        for (unsigned lock = 1536; lock < 1700; lock++) {
-            snprintf(path, sizeof path, "%s/mg-lock.7.0.%u", folder, lock);
-            if (makes)
-                (void)symlink(made, path);
-            else
-                (void)unlink(path);
+    unsigned released = 9;
+    leave(path, flags);
+    SAYS(cause, mg_begin(path, 0, 0, &session, NULL), MG_NO_LOCK);
+    if (flags == 0)
+        SAYS(cause, mg_begin(path, 0, MG_KEEP, &session, NULL), MG_NO_LOCK);
+    IS(mg_begin(path, 0, MG_SHARE, &session, NULL), MG_OK);
+    for (unsigned all = 0; all <= MG_ALL; all += MG_ALL)
+        if (all || flags == MG_SHARE) {
+            SAYS(cause, mg_recover(session, all, &released), MG_NO_LOCK);
+            IS(released, 0);
+            IS(mg_stay(session), 1);
         }
-        errno = 0;
-        IS(mg_take(session, "db", MG_EX, 0, &held), makes ? MG_NO_LOCK : MG_OK);
-        IS(!makes || errno == ELOOP, true);
-        IS(access(made, F_OK), -1);
-    }
-    IS(has_sign(folder, session, held.lock), true);
+    SAYS(cause, mg_take(session, "other", MG_EX, 0, &held), MG_NO_LOCK);
+    IS(mg_begin(path, 1, 0, &other, NULL), MG_OK);
+    SAYS(cause, mg_purge_dead(other, 0, &released), MG_NO_LOCK);
+    IS(released, 0);
+    mg_end(other);
+    IS(mg_recover(session, MG_ALL, &released), MG_OK);
+    IS(released, 1);
+    IS(mg_stay(session), 0);
+    mg_end(session);
+}
+
+/* The lock is carried into a later set, and its sign is linked there, as a renewal does it; then that cannot be looked at. (No renewal here.) */
+static void carried(void) {
+    const char *old = folder("old", 7), *next = folder("next", 8);
+    char link_to[300], moved[300], sign[400], linked[400];
+    struct mg_session *session;
+    struct mg_host *host;
+    struct mg_held held;
+    snprintf(link_to, sizeof link_to, "%s/current", work);
+    snprintf(moved, sizeof moved, "%s/moved", work);
+    IS(symlink("old", link_to), 0);
+    IS(mg_begin(link_to, 0, 0, &session, NULL), MG_OK);
+    IS(mg_take(session, "db", MG_EX, 0, &held), MG_OK);
+    snprintf(sign, sizeof sign, "%s/mg-lock.7.0.%u", old, (unsigned)held.lock);
+    snprintf(linked, sizeof linked, "%s/mg-lock.8.0.%u", next, (unsigned)held.lock);
+    IS(link(sign, linked), 0);
+    IS(mg_open(next, 0, &host, NULL), MG_OK);
+    IS(mg_enqueue(host, 240, 1, held.lock, MG_EX, "db", 0, NULL), MG_OK);
+    mg_close(host);
+    IS(symlink("next", moved), 0);
+    IS(rename(moved, link_to), 0);
+    refusal = EIO;
+    IS(mg_check(session, held.lock), MG_OK);
+    refusal = 0;
     IS(mg_give(session, held.lock, NULL), MG_OK);
+    IS(access(linked, F_OK), -1);
+    mg_end(session);
+}
+
+/* A sign that is a link is nobody's: what it leads to is neither made nor locked. */
+static void linked(void) {
+    const char *path = folder("linked", 7);
+    char sign[400], target[400];
+    struct mg_session *session;
+    struct mg_held held;
+    snprintf(sign, sizeof sign, "%s/mg-lock.7.0.1539", path);
+    snprintf(target, sizeof target, "%s/made", work);
+    IS(symlink(target, sign), 0);
+    IS(mg_begin(path, 0, MG_SHARE, &session, NULL), MG_OK);
+    IS(mg_take(session, "db", MG_EX, 0, &held), MG_NO_LOCK);
+    IS(access(target, F_OK), -1);
+    mg_end(session);
 }
 
 int main(int argc, char **argv) {
-    struct mg_session *session;
     if (argc != 2)
         return 2;
-    IS(mg_format(argv[1], 3, 128, 7, NULL), MG_OK);
-    for (unsigned flags = 0; flags <= MG_SHARE; flags += MG_SHARE) {
-        IS(mg_begin(argv[1], 0, flags, &session, NULL), MG_OK);
-        removed(argv[1], session);
-        linked(argv[1], session);
-        mg_end(session);
-    }
+    work = argv[1];
+    left_over("files", EMFILE, 0);
+    left_over("files_shared", EMFILE, MG_SHARE);
+    left_over("rights", EACCES, 0);
+    left_over("rights_shared", EACCES, MG_SHARE);
+    carried();
+    linked();
+    if (failures == 0)
+        puts("signs: as they should be");
     return failures != 0;
 }
