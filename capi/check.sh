@@ -353,9 +353,26 @@ if command -v python3 > /dev/null && [[ -x $dlm ]]; then
     tail -n 1 "$work/out.txt" >> "$work/restarted.txt"
 fi
 
-# Device calls that fail, and processes that die, in the midst of a take or a give; and how late a take comes back.
+# Many that wait under one host number end at once: on the file system of this folder, and in memory.
+if command -v python3 > /dev/null; then
+    mkdir -- "$work/at_once"
+    works=("$work/at_once")
+    if memory=$(mktemp -d -p /dev/shm 2> /dev/null); then
+        trap 'rm -rf -- "$work" "$memory"' EXIT
+        works+=("$memory")
+    fi
+    tried "turns" env PYTHONDONTWRITEBYTECODE=1 python3 "$here/tests/turns.py" "$PREFIX/bin/mg-lock" "$PREFIX/lib/libmidgegalena.so" "${works[@]}"
+    tail -n 1 "$work/out.txt" >> "$work/restarted.txt"
+fi
+
+# Signs of life that cannot be opened, or looked at.
+tried "signs, built" cc -std=c99 $common -Wl,--wrap=open,--wrap=stat "$here/tests/signs.c" "$PREFIX/lib/libmidgegalena.a" -o "$work/signs"
+folder
+tried "signs" "$work/signs" "$work/images"
+
+# Device calls that fail, and processes that die, in the midst of a take or a give; how long calls last, and how late a take comes back.
 faults=(-Wl,--wrap=open,--wrap=pread,--wrap=pwrite,--wrap=fdatasync,--wrap=nanosleep,--wrap=clock_gettime)
-for program in doubt over; do
+for program in doubt in_time over; do
     tried "$program, built" cc -std=c99 $common "${faults[@]}" "$here/tests/$program.c" "$here/tests/device_faults.c" "$PREFIX/lib/libmidgegalena.a" -o "$work/$program"
     folder
     tried "$program" "$work/$program" "$work/images"
@@ -597,6 +614,8 @@ if command -v valgrind > /dev/null; then
     tried "valgrind sessions" "${checks_memory[@]}" "$work/sessions" "$work/images"
     folder
     tried "valgrind late" "${checks_memory[@]}" "$work/late" "$work/images"
+    folder
+    tried "valgrind signs" "${checks_memory[@]}" --child-silent-after-fork=yes "$work/signs" "$work/images"
     folder
     in_folder ./format images 64
     for option in -n "-w 1" --recover; do

@@ -33,8 +33,8 @@ struct mg_session;
 /* The locks that a former run left are kept. mg_take then takes such a lock first, where name and mode are the same. Not with MG_SHARE. */
 #define MG_KEEP 1u
 
-/* The session has the host number only while a call works on the images, so any number of processes share it. mg_take and mg_recover
- * release what processes with MG_SHARE left that are gone. A call learns the whole log anew, so this is for short programs. */
+/* The session has the host number only while a call works on the images, so any number of processes share it. Who takes a lock, or gives
+ * one back, releases what processes with MG_SHARE left that are gone. A call learns the whole log anew, so this is for short programs. */
 #define MG_SHARE 2u
 
 /* With any of these: mg_take returns as soon as its command is acknowledged, and before that is marked, a third of its syncs earlier. Call mg_mark_taken
@@ -78,10 +78,16 @@ struct mg_held {
  * stands there; `held->lock` is its number. Each mg_take, mg_give, mg_check and mg_recover of the session tries to release it. If this
  * session ends before, it is left as any lock that was not given. With any other number nothing is held and nothing waits; `held->lock` is 0.
  *
- * MG_TIMED_OUT: it was not granted in time, as where others have it. MG_NO_SUCH_LOCK: it was purged while it waited. MG_STOPPED:
- * mg_set_rest. MG_HOST_IN_USE: somebody has the host number for so long. MG_NO_LOCK: errno says why. MG_LOG_FULL, MG_NO_MAJORITY,
- * MG_TABLE_FULL and others as of mg_enqueue. If the log gets full while it waits it goes on waiting, and once that is renewed it waits in
- * the new folder.
+ * A lock that was asked for is released before MG_TIMED_OUT or MG_STOPPED comes back. That takes a command's time, and with MG_SHARE
+ * the host number. Where others have that, or are quicker, it tries for five seconds more, and is in doubt after that.
+ *
+ * MG_TIMED_OUT: it was not granted in time, as where others have it. MG_NO_SUCH_LOCK: it was purged while it waited. MG_STOPPED: mg_set_rest.
+ * MG_HOST_IN_USE: somebody has the host number for so long, at most a minute; at once where it is another machine's, and errno is
+ * EREMOTE. MG_NO_LOCK: see errno, of its sign of life. MG_LOG_FULL, MG_NO_MAJORITY, MG_TABLE_FULL and others as of mg_enqueue. If the
+ * log gets full while it waits it goes on waiting, and once that is renewed it waits in the new folder.
+ *
+ * First it releases what processes that are gone have left: on this name all, on others as much as it can in 200 milliseconds, or in
+ * half of its time if that is shorter.
  *
  * `held->slot` is a fencing token: of those that hold MG_EX on a name in turn, each has a greater slot than the one before it. In
  * a renewed folder slots begin anew, and `cluster` tells the two apart. */
@@ -90,7 +96,11 @@ int mg_take(struct mg_session *session, const char *name, int mode, int timeout,
 /* Gives a lock back. Where `value` is not NULL its MG_VALUE_LENGTH bytes are kept with the name, if the lock holds MG_PW or MG_EX.
  * MG_NO_SUCH_LOCK: the lock had been taken away, by a purge, or is none of this session's. MG_IN_DOUBT: its release may stand in
  * the log; call again with the same value, for another one is MG_BAD_ARGUMENT by then. After any other number the lock is still
- * the session's: call again. It waits up to a minute for disks, for a full log to be renewed, and with MG_SHARE for the number. */
+ * the session's, and nothing is stored: call again. It waits up to a minute for disks, for a full log to be renewed, and with
+ * MG_SHARE for the number.
+ *
+ * A lock that mg_take left in doubt was never held. So a value with it is MG_BAD_ARGUMENT, MG_OK says that it is in the table no more,
+ * and it is waited for the number alone. */
 int mg_give(struct mg_session *session, unsigned lock, const void *value);
 
 /* With MG_LATE: marks what mg_take has left without a mark. MG_OK also where there is nothing to mark. Else why it was not marked: the lock is held all the

@@ -72,6 +72,7 @@ enum goal { TAKE_LEFT = 1, TAKE_LEFT_AT_ONCE, CHECK, GIVE, GIVE_VALUE, GIVE_UP }
 enum event { IS_OPEN = 1, HAS_LEARNED, HAS_REPLIED, IS_REFUSED, SIGN_IS_OURS, SIGN_IS_HELD, SIGN_IS_DROPPED };
 enum event_alone { IS_CLOSED = 1, HAS_RESTED, SIGN_FAILED };
 enum kind { ALL_LOCKS, SHARED_LOCKS, LOCKS_ALONE };
+enum standing { LEAVES = 5 }; /* of claim_view: its lock is to be released. The others do not matter here */
 
 int32_t dlm_c_take(struct claim *claim, const struct asker *asker, const uint8_t *name, size_t length, uint32_t mode, bool waits);
 int32_t dlm_c_left(struct claim *claim, const struct asker *asker, uint32_t lock, const uint8_t *name, size_t length, uint32_t mode, uint64_t set);

@@ -591,8 +591,10 @@ static int give_back(struct mg_session *session) {
     return status;
 }
 
-/* The status where the lock was not granted. Where it may stay that is no conflict. */
-static int decline(int status) {
+/* The status where the lock was not granted. Where it may stay it is given back once more, and if it may stay all the same that is no conflict. */
+static int decline(struct mg_session *session, int status) {
+    if (status == MG_IN_DOUBT && mg_give(session, db.lock, NULL) == MG_OK)
+        status = asked.timeout < 0 ? MG_STOPPED : MG_TIMED_OUT;
     if (status == MG_IN_DOUBT)
         say_what_stays(status);
     if (has_ended())
@@ -636,7 +638,7 @@ static int take_and_run(struct mg_session *session, const sigset_t *before) {
         status = MG_TIMED_OUT;
     }
     if (status != MG_OK)
-        return decline(status);
+        return decline(session, status);
     if (db.released > 0)
         say("released %u locks whose processes are gone", (unsigned)db.released);
     if (asked.verbose)

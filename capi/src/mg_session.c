@@ -39,8 +39,8 @@
 #include <time.h>
 #include <unistd.h>
 
-enum { FIRST_CLIENT = 240, FIRST_LOCK = 1536, LOCKS_OF_A_HOST = 4000, NO_SIGN = -1, LEAST_FILE = 3, MOST_REMOVALS = 100 };
-enum { PATIENCE = 60000, LITTLE_PATIENCE = 5000, GRACE = 100, FIRST_INTERVAL = 5, SHORT_PAUSE = 20, LONGEST_PAUSE = 200 }; /* milliseconds */
+enum { FIRST_CLIENT = 240, FIRST_LOCK = 1536, LOCKS_OF_A_HOST = 4000, NO_SIGN = -1, LEAST_FILE = 3 };
+enum { PATIENCE = 60000, LITTLE_PATIENCE = 5000, GRACE = 100, FIRST_INTERVAL = 5, SHORT_PAUSE = 20, LONGEST_PAUSE = 200, TIDY_TIME = 200 }; /* milliseconds */
 
 static const struct claim_value NO_VALUE = {{0}};
 
@@ -112,7 +112,7 @@ static int pause_for(struct mg_session *session, int64_t length, int64_t until, 
         return MG_TIMED_OUT;
     if (length > left)
         length = left;
-    if (stops && session->rest) {
+    if (stops && session->rest && !session->is_told) {
         /* By short pauses: only between two of them the caller is asked. */
         for (; length > SHORT_PAUSE; length -= SHORT_PAUSE)
             if (!rests(session, SHORT_PAUSE))
@@ -538,11 +538,18 @@ static int64_t end_of(const struct entry *entry, const struct work *work) {
     return entry->lock == 0 && work->until < INT64_MAX - GRACE ? work->until + GRACE : work->until;
 }
 
+/* Tells the claim to end soon, once: where the caller says so, its time is over, or there is no host number for it. */
+static void stop_in_time(struct mg_session *session, struct entry *entry, struct work *work) {
+    bool is_told = work->stops && session->is_told;
+    if (work->is_over || !(is_told || work->is_vain || milliseconds() >= end_of(entry, work)))
+        return;
+    dlm_c_stop(&entry->claim, is_told);
+    work->is_over = true;
+}
+
+/* A pause that is cut short is told by stop_in_time. */
 static void rest(struct mg_session *session, struct entry *entry, const struct work *work, int64_t length) {
-    int status = pause_for(session, length, end_of(entry, work), work->stops);
-    if (status == MG_STOPPED)
-        dlm_c_stop(&entry->claim, true);
-    else if (status == MG_OK)
+    if (pause_for(session, length, end_of(entry, work), work->stops) == MG_OK)
         (void)dlm_c_hear_alone(&entry->claim, HAS_RESTED, 0);
 }
 
@@ -553,26 +560,36 @@ static void yield(struct mg_session *session, struct entry *entry, struct mg_hos
     rest(session, entry, work, length / 1000);
 }
 
+/* Whether somebody else has the host number, and may let go of it in time. */
+static bool is_in_use(struct work *work, int status, bool is_remote) {
+    int64_t now = milliseconds();
+    if (status != MG_HOST_IN_USE)
+        work->in_use_since = 0;
+    else if (work->in_use_since == 0)
+        work->in_use_since = now;
+    work->is_vain |= status == MG_HOST_IN_USE && (is_remote || now - work->in_use_since >= PATIENCE);
+    return status == MG_HOST_IN_USE && !work->is_vain;
+}
+
 /* Opens the folder under the host number. With MG_SHARE it waits for its turn, but shortly: whoever waits for a lock has to look meanwhile. */
-static int open_in_turn(struct mg_session *session, struct entry *entry, const struct work *work) {
+static int open_in_turn(struct mg_session *session, struct work *work) {
     int64_t until = milliseconds() + LONGEST_PAUSE;
     for (;;) {
-        int paused, status = open_once(session, NULL);
-        if (status != MG_HOST_IN_USE || !is_shared(session))
-            return status;
-        paused = pause_for(session, 1 + any_below(16), until, work->stops);
-        if (paused == MG_STOPPED)
-            dlm_c_stop(&entry->claim, true);
-        if (paused != MG_OK)
+        int status = open_once(session, NULL);
+        work->cause = errno;
+        if (!is_shared(session) || !is_in_use(work, status, work->cause == EREMOTE) ||
+            pause_for(session, 1 + any_below(16), until, work->stops) != MG_OK)
             return status;
     }
 }
 
-static struct mg_host *open_for(struct mg_session *session, struct entry *entry, const struct work *work, bool to_look) {
+static struct mg_host *open_for(struct mg_session *session, struct entry *entry, struct work *work, bool to_look) {
     struct mg_host *host = NULL;
-    int status = to_look ? open_to_look(session, &host) : open_in_turn(session, entry, work);
+    int status = to_look ? open_to_look(session, &host) : open_in_turn(session, work);
     if (!to_look)
         host = session->host;
+    else
+        work->in_use_since = 0; /* it waits on by looks */
     if (status != MG_OK) {
         if (to_look)
             close_all(session); /* an image that failed is given up by its handle */
@@ -598,16 +615,28 @@ static struct mg_host *tell_learned(struct mg_session *session, struct entry *en
     return NULL;
 }
 
-/* The folder may have been opened anew meanwhile, or be closed. */
+/* Releases what processes that are gone have left: for a short time on any name, since the rest is for later talks, and then on this one, for that is in the
+ * way. The folder may have been opened anew meanwhile, or be closed. */
 static struct mg_host *tidy(struct mg_session *session, struct entry *entry, struct work *work) {
+    int64_t now, left;
     release_unwanted(session, work->until, true, work->stops);
-    if (session->host)
-        work->released += release_left(session, false, work->until, work->stops).released;
+    now = milliseconds();
+    left = work->until - now;
+    if (session->host && !release_some(session, NULL, now + (left < 2 * TIDY_TIME ? left / 2 : TIDY_TIME), work) && session->host)
+        (void)release_some(session, entry->name, work->until, work);
     if (session->host)
         claim_hears(&entry->claim, session->host, HAS_LEARNED, 0, false);
     else
         (void)dlm_c_hear_alone(&entry->claim, IS_CLOSED, MG_NO_MAJORITY);
     return session->host;
+}
+
+/* Who gives a lock back releases what others of the number have left meanwhile, for a short time. */
+static void release_others(struct mg_session *session) {
+    struct work work;
+    memset(&work, 0, sizeof work);
+    work.until = milliseconds() + LITTLE_PATIENCE;
+    (void)release_some(session, NULL, milliseconds() + TIDY_TIME, &work);
 }
 
 /* What the operation has come to, by the host that was heard last. */
@@ -621,22 +650,21 @@ static void conclude(struct mg_session *session, struct entry *entry, struct mg_
         work->slots_left = (uint32_t)(facts.slots - facts.learned);
     if (host && work->end.outcome == IS_HELD)
         (void)mg_value(host, entry->lock, &work->value);
-    if (!work->is_part && !(work->is_take && work->end.outcome == IS_HELD && session->host && is_unmarked(session->host)))
-        end_talk(session);
+    if (work->is_part || (work->is_take && work->end.outcome == IS_HELD && session->host && is_unmarked(session->host)))
+        return;
+    if (is_shared(session) && session->host && view.standing == LEAVES && (work->end.outcome == IS_GIVEN || work->end.outcome == IS_NOT_HELD))
+        release_others(session);
+    end_talk(session);
 }
 
 /* Does what the claim orders, until its operation has ended. */
 static void operate(struct mg_session *session, struct entry *entry, struct work *work) {
     struct mg_host *host = work->is_part ? session->host : NULL;
     struct due_order *order = &work->end;
-    bool is_over = false;
     if (!work->is_part)
         (void)mark_taken(session);
     for (;;) {
-        if (!is_over && milliseconds() >= end_of(entry, work)) {
-            dlm_c_stop(&entry->claim, false);
-            is_over = true;
-        }
+        stop_in_time(session, entry, work);
         memset(order, 0, sizeof *order);
         if (dlm_c_order(&entry->claim, order) != 0)
             order->outcome = HAS_FAILED, order->status = MG_BROKEN, order->kind = TO_END;
@@ -809,13 +837,7 @@ static int settle(struct entry *entry, const struct work *work) {
 }
 
 /* For a minute it waits for disks, and for a full log to be renewed. */
-int mg_give(struct mg_session *session, unsigned lock, const void *value) {
-    struct entry *entry = session ? entry_of(session, lock) : NULL;
-    int64_t until = milliseconds() + PATIENCE;
-    if (!session)
-        return MG_BAD_ARGUMENT;
-    if (!entry || entry->state == KEPT)
-        return MG_NO_SUCH_LOCK;
+static int give(struct mg_session *session, struct entry *entry, const void *value, int64_t until) {
     for (;;) {
         struct work work;
         int status = begin_to_give(session, entry, value);
@@ -825,11 +847,38 @@ int mg_give(struct mg_session *session, unsigned lock, const void *value) {
         work.until = until;
         operate(session, entry, &work);
         status = settle(entry, &work);
-        if (status != MG_LOG_FULL || !is_link(session->folder) || pause_for(session, LONGEST_PAUSE, until, false) != MG_OK) {
-            release_unwanted(session, milliseconds() + LITTLE_PATIENCE, false, false);
+        tell_cause(work.cause);
+        if (status != MG_LOG_FULL || !is_link(session->folder) || pause_for(session, LONGEST_PAUSE, until, false) != MG_OK)
             return status;
-        }
     }
+}
+
+/* What a take gave up was never held, and stores nothing. */
+static int give_unwanted(struct mg_session *session, struct entry *entry, int64_t until) {
+    struct work work;
+    if (give_up(session, entry, &work, until, false, false) != MG_OK)
+        return MG_BROKEN;
+    if (work.end.outcome != IS_NOT_HELD)
+        return MG_IN_DOUBT;
+    free_entry(entry);
+    return MG_OK;
+}
+
+int mg_give(struct mg_session *session, unsigned lock, const void *value) {
+    struct entry *entry = session ? entry_of(session, lock) : NULL;
+    int64_t until = milliseconds() + PATIENCE;
+    int status, cause;
+    if (!session || (value && entry && entry->state == UNWANTED))
+        return MG_BAD_ARGUMENT;
+    if (session->is_resting)
+        return MG_BUSY;
+    if (!entry || entry->state == KEPT)
+        return MG_NO_SUCH_LOCK;
+    status = entry->state == UNWANTED ? give_unwanted(session, entry, until) : give(session, entry, value, until);
+    cause = errno;
+    release_unwanted(session, milliseconds() + LITTLE_PATIENCE, false, false);
+    errno = cause;
+    return status;
 }
 
 /* ---- take ---- */
@@ -868,8 +917,48 @@ static int begin_to_take(struct mg_session *session, struct entry *entry, bool w
     return dlm_c_take(&entry->claim, &asker, (const uint8_t *)entry->name, strlen(entry->name), (uint32_t)entry->mode, waits);
 }
 
-int mg_take(struct mg_session *session, const char *name, int mode, int timeout, struct mg_held *held) {
+/* The take has ended in doubt: somebody had the host number just then, or other hosts were quicker. Its lock is released once more, by an operation of its
+ * own, which may wait a little. */
+static int end_in_doubt(struct mg_session *session, struct entry *entry, const struct work *take) {
+    struct work work;
+    entry->state = UNWANTED;
+    session->has_unwanted = true;
+    if (give_up(session, entry, &work, milliseconds() + LITTLE_PATIENCE, false, false) != MG_OK || work.end.outcome != IS_NOT_HELD)
+        return MG_IN_DOUBT;
+    free_entry(entry);
+    if (session->is_told)
+        return MG_STOPPED;
+    return milliseconds() >= take->until || take->end.status == MG_OUTRUN ? MG_TIMED_OUT : take->end.status;
+}
+
+static int take(struct mg_session *session, struct entry *entry, struct work *work, struct mg_held *held) {
     struct claim_view view = {0, 0, 0, -1, 0, 0};
+    int status;
+    entry->state = OURS;
+    operate(session, entry, work);
+    (void)dlm_c_show(&entry->claim, &view);
+    switch (work->end.outcome) {
+    case IS_HELD:
+        held->lock = entry->lock;
+        held->slot = view.slot;
+        held->cluster = view.set;
+        held->slots_left = work->slots_left;
+        held->released = work->released;
+        held->value = work->value;
+        return MG_OK;
+    case IS_IN_DOUBT:
+        status = end_in_doubt(session, entry, work);
+        if (status == MG_IN_DOUBT)
+            held->lock = entry->lock;
+        return status;
+    default:
+        free_entry(entry);
+        tell_cause(work->cause);
+        return work->end.status == MG_OUTRUN ? MG_TIMED_OUT : work->end.status;
+    }
+}
+
+int mg_take(struct mg_session *session, const char *name, int mode, int timeout, struct mg_held *held) {
     struct entry *entry;
     struct work work;
     int status;
@@ -883,33 +972,14 @@ int mg_take(struct mg_session *session, const char *name, int mode, int timeout,
     work.until = timeout < 0 ? INT64_MAX : milliseconds() + (timeout == 0 ? LITTLE_PATIENCE : timeout);
     work.stops = true;
     work.is_take = true;
+    session->is_told = false;
     entry = entry_for(session, name, mode);
     if (!entry)
         return MG_TABLE_FULL;
     status = begin_to_take(session, entry, timeout != 0);
     if (status != MG_OK)
         return status < MG_OK ? MG_BAD_ARGUMENT : status;
-    entry->state = OURS;
-    operate(session, entry, &work);
-    (void)dlm_c_show(&entry->claim, &view);
-    switch (work.end.outcome) {
-    case IS_HELD:
-        held->lock = entry->lock;
-        held->slot = view.slot;
-        held->cluster = view.set;
-        held->slots_left = work.slots_left;
-        held->released = work.released;
-        held->value = work.value;
-        return MG_OK;
-    case IS_IN_DOUBT:
-        entry->state = UNWANTED;
-        session->has_unwanted = true;
-        held->lock = entry->lock;
-        return MG_IN_DOUBT;
-    default:
-        free_entry(entry);
-        return work.end.status == MG_OUTRUN ? MG_TIMED_OUT : work.end.status;
-    }
+    return take(session, entry, &work, held);
 }
 
 /* What a host could not mark, which is closed perhaps by now, is marked by a recovery. */
@@ -927,7 +997,8 @@ int mg_mark_taken(struct mg_session *session) {
         status = mark_all(session->host, until);
     session->has_unmarked = status != MG_OK;
     wear(session, status);
-    end_talk(session);
+    if (status == MG_OK)
+        end_talk(session);
     return status;
 }
 

@@ -31,6 +31,7 @@ static enum { NONE, FAILURE, DEATH } fault = NONE;
 static long calls_left;
 static bool was_due;
 static struct timespec skipped; /* so much of the clock */
+static bool skips_all;
 static struct timespec sync_length;
 
 static void begin_faults(int which, long calls) {
@@ -41,6 +42,8 @@ static void begin_faults(int which, long calls) {
 
 void fail_after(long calls) { begin_faults(FAILURE, calls); }
 void die_after(long calls) { begin_faults(DEATH, calls); }
+
+void skip_sleeps(bool skips) { skips_all = skips; }
 
 void set_sync(long microseconds) { sync_length.tv_nsec = microseconds * 1000; }
 
@@ -105,7 +108,7 @@ int __wrap_fdatasync(int file) {
 }
 
 int __wrap_nanosleep(const struct timespec *length, struct timespec *left) {
-    if (fault != FAILURE || calls_left > 0)
+    if (!skips_all && (fault != FAILURE || calls_left > 0))
         return __real_nanosleep(length, left);
     skipped.tv_sec += length->tv_sec + (skipped.tv_nsec + length->tv_nsec) / 1000000000;
     skipped.tv_nsec = (skipped.tv_nsec + length->tv_nsec) % 1000000000;

@@ -13,6 +13,9 @@ void die_after(long calls);
 /* Ends that. Whether a call was due that failed. */
 bool end_faults(void);
 
+/* From now on, or no more: what sleeps comes back at once, with the clock as late as after the sleep. */
+void skip_sleeps(bool skips);
+
 /* How long each sync of an image lasts from now on, if this process has written to it: not at all at first, whatever the disk is. */
 void set_sync(long microseconds);
 

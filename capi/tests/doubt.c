@@ -243,6 +243,38 @@ static bool takes_while_disks_fail(unsigned flags, int next, long calls) {
     return failed;
 }
 
+/* It was never held, so a give stores nothing of it, whatever it says. Whether a device call of the take failed. */
+static bool gives_what_was_refused(unsigned flags, int next, long calls) {
+    static int count = 0;
+    const char *path = folder(), *seen;
+    struct mg_session *keeper = begun(path, 2, 0), *session = begun(path, 0, flags), *other = begun(path, 1, 0);
+    struct mg_held held;
+    char name[MG_NAME_LENGTH + 1];
+    bool failed;
+    int said, given = MG_BAD_ARGUMENT;
+    (void)next;
+    snprintf(tried, sizeof tried, "give after a refused take, flags %u, disks fail after %ld calls", flags, calls);
+    snprintf(name, sizeof name, "doubted%d", count++);
+    (void)taken(keeper, name, MG_NL);
+    fail_after(calls);
+    said = mg_take(session, name, MG_EX, 0, &held);
+    if (said == IN_DOUBT)
+        given = mg_give(session, held.lock, ONE);
+    failed = end_faults();
+    if (said == IN_DOUBT) {
+        expect(given == MG_BAD_ARGUMENT, "mg_give of a value, and of a lock that was never held, said %d", given);
+        given = mg_give(session, held.lock, NULL);
+        expect(given == MG_OK, "mg_give of it without a value said %d", given);
+        seen = read_by(other, name);
+        expect(is(seen, "neither"), "another host read %s", told(seen));
+    } else if (said == MG_OK)
+        expect(mg_give(session, held.lock, NULL) == MG_OK, "it was taken, and not given back");
+    mg_end(other);
+    mg_end(session);
+    mg_end(keeper);
+    return failed;
+}
+
 /* ---- a wait that gives up in a full log ---- */
 
 struct filling {
@@ -280,6 +312,29 @@ static void gives_up_in_a_full_log(unsigned flags, int stops) {
            "mg_take said %d and named lock %u, and its lock waits in the table", said, (unsigned)held.lock);
     mg_end(session);
     mg_end(holder);
+}
+
+/* ---- a mark that fails ---- */
+
+/* It is said again as long as the command has none. A call that opens the folder anew makes it. */
+static void marks_while_disks_fail(unsigned flags) {
+    const char *path = new_folder();
+    struct mg_session *session = begun(path, 0, MG_LATE | flags);
+    struct mg_host *eye;
+    uint64_t learned = 0;
+    snprintf(tried, sizeof tried, "mark, flags %u", flags);
+    (void)taken(session, "db", MG_EX);
+    fail_after(0);
+    for (int i = 0; i < 2; i++)
+        expect(mg_mark_taken(session) == MG_NO_MAJORITY, "mg_mark_taken did not say that its calls failed");
+    (void)end_faults();
+    expect(mg_recover(session, 0, NULL) == MG_OK, "mg_recover did not say MG_OK then");
+    expect(mg_mark_taken(session) == MG_OK, "mg_mark_taken did not say MG_OK then");
+    IS(mg_open_to_look(path, &eye, NULL), MG_OK);
+    IS(mg_look(eye, &learned), MG_OK);
+    expect(learned == 1, "mg_mark_taken said MG_OK, and %d commands have a mark", (int)learned);
+    mg_close(eye);
+    mg_end(session);
 }
 
 /* ---- a lock of a former run that was purged, and that another host has now ---- */
@@ -369,8 +424,10 @@ int main(int argc, char **argv) {
         gives += tried_throughout(gives_while_disks_fail, flags, 0);
         for (int next = 0; next < NEXT_CALLS; next++)
             takes += tried_throughout(takes_while_disks_fail, flags, next);
+        takes += tried_throughout(gives_what_was_refused, flags, 0);
         for (int stops = 0; stops < 2; stops++)
             gives_up_in_a_full_log(flags, stops);
+        marks_while_disks_fail(flags);
     }
     deaths = tried_throughout(gives_what_was_purged, MG_SHARE, 0);
     takes_what_was_kept(0);

@@ -273,12 +273,16 @@ def answers():
     folder()
     stays = "mg-lock: the lock \\d+ on db {}; the next mg-lock or mg_take under host 0 releases it, once the log can be written\n"
     doubt, lost = stays.format("may stay in the table: its release was not acknowledged"), stays.format("stays in the table: 7 NoMajority .*")
-    for given, status, said in ((["TAKE=-6"], 125, doubt), (["TAKE=-6", "STOPPED="], -signal.SIGTERM, doubt), (["GIVE=7"], 125, lost), (["GIVE=-6"], 125, doubt),
+    for given, status, said in ((["TAKE=-6", "GIVE=-6"], 125, doubt), (["TAKE=-6", "GIVE=-6", "STOPPED="], -signal.SIGTERM, doubt), (["GIVE=7"], 125, lost), (["GIVE=-6"], 125, doubt),
                                 (["GIVE=7", "STOPPED="], -signal.SIGTERM, lost), (["TAKE=36"], 125, "mg-lock: 36 HostInUse .*\n"), (["TAKE=-2"], 75, "")):
         told = subprocess.run(["env", *given, with_answers, "-n", "-E", "75", images, "0", "db", "--", "true"], capture_output=True, text=True)
         expect(told.returncode == status and re.fullmatch(said, told.stderr), f"{given}: {told}")
         told = run("-n", images, 0, "db", "--", "true")
         expect(told.returncode == 0 and told.stderr == "mg-lock: released 1 locks whose processes are gone\n", f"{given}: the next: {told}")
+    # What is in doubt is given back once more, and nothing of it stays.
+    for given, status in ((["TAKE=-6"], 75), (["TAKE=-6", "STOPPED="], -signal.SIGTERM)):
+        told = subprocess.run(["env", *given, with_answers, "-n", "-E", "75", images, "0", "db", "--", "true"], capture_output=True, text=True)
+        expect(told.returncode == status and told.stderr == "" and "granted" not in table(), f"{given}, and it is given back: {told}")
     told = subprocess.run(["env", "GIVE=7", with_answers, images, "0", "db", "--", "sh", "-c", "exit 3"], capture_output=True, text=True)
     expect(told.returncode == 3 and re.fullmatch(lost, told.stderr), f"a command's own status, and what stays: {told}")
     told = subprocess.run(["env", "STOPPED=", with_answers, images, "0", "db", "--", "true"], capture_output=True, text=True)

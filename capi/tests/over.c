@@ -1,5 +1,6 @@
 /*
- * How late a take comes back whose time is up, or which is told to stop, while five other hosts take and give without a pause.
+ * How late a take comes back whose time is up, or which is told to stop, while five other hosts take and give without a pause. Each leaves the queue. And one
+ * that is told once is told, also while it releases what others left.
  * Linked as device_faults.c says: a sync of what was written lasts as long as SYNC, whatever the disk is.
  *
  *   over FOLDER      an empty folder
@@ -27,7 +28,7 @@
 #define MOSTLY 1000 /* when nine of ten takes have ended, also where the machine has other work */
 #define ALWAYS 8000 /* when each has ended */
 
-enum { HOSTS = 5, FIRST_HOST = 2, TAKES = 20, SECONDS = 6, SLOTS = 2048, FEW_SLOTS = 500, MILLION = 1000000, IN_DOUBT = -6 };
+enum { HOSTS = 5, FIRST_HOST = 2, TAKES = 20, SECONDS = 6, SLOTS = 2048, FEW_SLOTS = 500, MILLION = 1000000, LEFT = 20, PAUSES = 4 };
 
 /* Slots that are left in the log, as the busy hosts know it. */
 static volatile uint32_t *slots_left;
@@ -45,7 +46,7 @@ static void works(const char *folder, unsigned host) {
     char name[MG_NAME_LENGTH + 1];
     int status = mg_begin(folder, host, 0, &session, NULL);
     snprintf(name, sizeof name, "work%u", host);
-    while (status == MG_OK || status == MG_TIMED_OUT || status == IN_DOUBT) {
+    while (status == MG_OK || status == MG_TIMED_OUT || status == MG_IN_DOUBT) {
         status = mg_take(session, name, MG_EX, 1000, &held);
         if (status == MG_OK) {
             *slots_left = held.slots_left;
@@ -62,12 +63,28 @@ struct scene {
     struct mg_session *holder;
 };
 
-static void begin(struct scene *scene) {
+/* A process of host 1 that takes many locks on db, and is killed. */
+static void leave(const char *folder, int many) {
+    struct mg_session *session;
+    struct mg_held held;
+    pid_t child = fork();
+    if (child == 0) {
+        IS(mg_begin(folder, 1, MG_SHARE, &session, NULL), MG_OK);
+        while (many-- > 0)
+            IS(mg_take(session, "db", MG_NL, 0, &held), MG_OK);
+        raise(SIGKILL);
+    }
+    waitpid(child, NULL, 0);
+}
+
+static void begin(struct scene *scene, int left) {
     static int count = 0;
     struct mg_held held;
     snprintf(scene->folder, sizeof scene->folder, "%s/%d", work, count++);
     IS(mkdir(scene->folder, 0777), 0);
     IS(mg_format(scene->folder, 3, SLOTS, 7, NULL), MG_OK);
+    if (left > 0)
+        leave(scene->folder, left);
     IS(mg_begin(scene->folder, 0, 0, &scene->holder, NULL), MG_OK);
     IS(mg_take(scene->holder, "db", MG_EX, 0, &held), MG_OK);
     *slots_left = SLOTS;
@@ -111,7 +128,7 @@ static int64_t take(struct mg_session *session, bool stops) {
     IS(mg_set_rest(session, stops ? rest : NULL, &stops_at), MG_OK);
     status = mg_take(session, "db", MG_EX, stops ? -1 : ENDS, &held);
     began = milliseconds() - began;
-    if (status != (stops ? MG_STOPPED : MG_TIMED_OUT) && status != IN_DOUBT) {
+    if (status != (stops ? MG_STOPPED : MG_TIMED_OUT)) {
         printf("a take of what another host holds said %d\n", status);
         failures++;
     }
@@ -123,7 +140,7 @@ static void try_takes(const char *kind, unsigned flags, bool stops) {
     struct mg_session *session;
     int64_t worst = 0, until = milliseconds() + SECONDS * 1000;
     int takes = 0, late = 0;
-    begin(&scene);
+    begin(&scene, 0);
     IS(mg_begin(scene.folder, 1, flags, &session, NULL), MG_OK);
     while (takes < TAKES && milliseconds() < until) {
         int64_t lasted = take(session, stops);
@@ -133,7 +150,7 @@ static void try_takes(const char *kind, unsigned flags, bool stops) {
         if (*slots_left < FEW_SLOTS) {
             mg_end(session);
             end(&scene);
-            begin(&scene);
+            begin(&scene, 0);
             IS(mg_begin(scene.folder, 1, flags, &session, NULL), MG_OK);
         }
     }
@@ -144,6 +161,31 @@ static void try_takes(const char *kind, unsigned flags, bool stops) {
     if (10 * late > takes || worst > ALWAYS) {
         puts("    too late");
         failures++;
+    }
+}
+
+/* Says stop in one pause, and in no other. */
+static int stops_once(void *with, int length) {
+    usleep((useconds_t)length * 1000);
+    return --*(int *)with == 0;
+}
+
+static void try_once(unsigned flags) {
+    for (int pause = 1; pause <= PAUSES; pause++) {
+        struct scene scene;
+        struct mg_session *session;
+        struct mg_held held;
+        int status, pauses = pause;
+        begin(&scene, LEFT);
+        IS(mg_begin(scene.folder, 1, flags, &session, NULL), MG_OK);
+        IS(mg_set_rest(session, stops_once, &pauses), MG_OK);
+        status = mg_take(session, "db", MG_EX, 3000, &held);
+        if (status != MG_STOPPED) {
+            printf("told to stop in pause %d alone: mg_take said %d\n", pause, status);
+            failures++;
+        }
+        mg_end(session);
+        end(&scene);
     }
 }
 
@@ -159,5 +201,6 @@ int main(int argc, char **argv) {
         try_takes("own number", 0, stops);
         try_takes("MG_SHARE", MG_SHARE, stops);
     }
+    try_once(MG_SHARE);
     return failures != 0;
 }
