@@ -326,12 +326,12 @@ static int open_sign(const char *path, int flags) {
 
 static bool is_same(const struct stat *one, const struct stat *other) { return one->st_dev == other->st_dev && one->st_ino == other->st_ino; }
 
-/* Whether the file has this name no more: somebody removed it before it was locked. */
+/* Whether the file has this name no more: somebody removed it before it was locked. In another folder it may have one. */
 static bool is_removed(int file, const char *path) {
     struct stat ours, there;
-    if (stat(path, &there) != 0)
-        return errno == ENOENT;
-    return fstat(file, &ours) == 0 && !is_same(&ours, &there);
+    if (fstat(file, &ours) != 0 || ours.st_nlink == 1)
+        return false;
+    return ours.st_nlink == 0 || (stat(path, &there) == 0 ? !is_same(&ours, &there) : errno == ENOENT);
 }
 
 static enum owner take_once(const char *path, bool makes, int *sign) {

@@ -319,6 +319,7 @@ struct mg_host {
     int faults[MG_DISKS]; /* MG_OK, or why the image is not used, or that a call on it failed */
     struct mg_image_view images[MG_DISKS];
     int errors[MG_DISKS]; /* errno, where an image could not be opened or read */
+    struct stat facts[MG_DISKS];          /* of the files, when they were opened */
     uint8_t first[MG_DISKS][FIRST_BYTES]; /* of a block device, its header's numbers among them */
 };
 
@@ -465,6 +466,7 @@ static bool find_image(struct mg_host *host, const char *folder, unsigned disk, 
     *file = open_file(path, flags);
     if (*file != NO_FILE && fstat(*file, &facts) == 0) {
         off_t size = S_ISBLK(facts.st_mode) ? lseek(*file, 0, SEEK_END) : facts.st_size;
+        host->facts[disk] = facts;
         if (size >= 0) {
             image->is_device = S_ISBLK(facts.st_mode) ? 1 : 0;
             image->size = (uint64_t)size;
@@ -665,13 +667,11 @@ int mg_open(const char *folder, unsigned number, struct mg_host **out, int *disk
 
 /* Whether an image that is open is the one at this path. A block device may have got another header, of a later set. */
 static bool is_image_at(const struct mg_host *host, unsigned disk, const struct stat *there) {
+    const struct stat *ours = &host->facts[disk];
     uint8_t first[FIRST_BYTES];
-    struct stat ours;
-    if (fstat(host->files[disk], &ours) != 0)
-        return true;
-    if (!S_ISBLK(ours.st_mode))
-        return ours.st_dev == there->st_dev && ours.st_ino == there->st_ino;
-    if (!S_ISBLK(there->st_mode) || ours.st_rdev != there->st_rdev)
+    if (!S_ISBLK(ours->st_mode))
+        return ours->st_dev == there->st_dev && ours->st_ino == there->st_ino;
+    if (!S_ISBLK(there->st_mode) || ours->st_rdev != there->st_rdev)
         return false;
     return is_shared(host, disk) || !read_whole(host->files[disk], first, sizeof first, 0) || memcmp(first, host->first[disk], sizeof first) == 0;
 }
