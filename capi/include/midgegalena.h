@@ -26,9 +26,9 @@ extern "C" {
 
 /* The library's numbers: an increase of the first breaks programs, an increase of the second adds to what there is. */
 #define MG_VERSION_MAJOR 0
-#define MG_VERSION_MINOR 6
+#define MG_VERSION_MINOR 7
 
-/* "0.6", of the library that is linked. */
+/* "0.7", of the library that is linked. */
 const char *mg_version(void);
 
 /* ---- limits ---- */
