@@ -1,5 +1,5 @@
 #!/usr/bin/env bash
-# Faults of files: a full disk, an image that can only be read, one that is cut off, also while a command is submitted, one of
+# Faults of files: full disks, an image that can only be read, one that is cut off, also while a command is submitted, one of
 # zeros and one of another cluster, marks that are missing or damaged. Each is told by the right refusal, and nothing is lost on the others.
 set -uo pipefail
 
@@ -41,11 +41,24 @@ poke() {
 
 held=$'recovered 1\ndb\n  granted 1 1 0 EX'
 
-# A full disk: what was made stays, and the folder is not formatted.
+# A full disk: what was made is removed, and the same words make the images once there is room.
 mkdir -- "$work/full"
 expect "format on a full disk" 1 "dlm: 26 Unreadable disk0" limited 48 "$program" format "$work/full" 3 16 7
-expect "half a format" 1 "dlm: 24 NotFormatted disk0" "$program" table "$work/full" 0
-expect "format again" 1 "dlm: 29 AlreadyThere" "$program" format "$work/full" 3 16 7
+expect "what is left of it" 0 "" ls -A -- "$work/full"
+expect "a table of it" 1 "dlm: 26 Unreadable disk0" "$program" table "$work/full" 0
+expect "format again" 0 "formatted 3 disks, 16 slots" "$program" format "$work/full" 3 16 7
+
+# A disk that is full at the third image: the two before it are no cluster either.
+mkdir -- "$work/small"
+if mount -t tmpfs -o size=200k small "$work/small" 2>/dev/null; then
+    expect "format on a disk with room for two images" 1 "dlm: 26 Unreadable disk2" "$program" format "$work/small" 3 16 7
+    expect "what is left of them" 0 "" ls -A -- "$work/small"
+    expect "a table of them" 1 "dlm: 26 Unreadable disk0" "$program" table "$work/small" 0
+    expect "two images" 0 "formatted 2 disks, 16 slots" "$program" format "$work/small" 2 16 7
+    umount -- "$work/small"
+else
+    echo "left out: faults.sh, a disk that is full at the third image: no root, or no tmpfs"
+fi
 
 # No write gets through, on any disk.
 fresh

@@ -11,10 +11,11 @@ states, so that losses come upon losses.
                   [--forget WHAT] [--format] [--migrate] [--renew]
 
 In each step so many hosts submit at once (none given: one to four), some of which end in the midst. `--format` begins with losses
-within `dlm format`, `--migrate` with losses within `dlm migrate` over three disks. There a run may also be ended, and another one
-follows, as after a loss; power is lost within that one too. In each state no command opens less than the whole log; a further run
-finishes, or moves the log anew, at the latest once the new images are removed; and once a run has told that it moved the log or
-finished, all images are complete and open.
+within `dlm format`: no state shows a log before all images are whole, and the same words finish it, or make the images once these are
+removed. `--migrate` begins with losses within `dlm migrate` over three disks. There a run may also be ended, and another one follows, as
+after a loss; power is lost within that one too. In each state no command opens less than the whole log; a further run finishes, or moves
+the log anew, at the latest once the new images are removed; and once a run has told that it moved the log or finished, all images are
+complete and open.
 
 `--renew` does so within `dlm renew`, onto three disks, and within `dlm fill`. There the old folder has its table in each state. The new one has
 this table, or reads as none. Once a new image was made, other words are refused in each state, so `renewed` names the new set by then.
@@ -388,15 +389,16 @@ class Walk:
         return self.random.randbytes(n)
 
     def formats(self):
-        """Power is lost within `dlm format`: then the folder is refused, or has an empty log over a majority; once it was told that the
-        images are made, the log is empty. A file whose folder was not synced since it was made may be gone."""
+        """Power is lost within `dlm format`: then the folder is refused, or has an empty log over images that are all whole; once it was told that
+        the images are made, the log is empty. A file whose folder was not synced since it was made may be gone."""
         log = os.path.join(self.work, "log")
         if os.path.exists(log):
             os.remove(log)
         shutil.rmtree(self.folder)
         os.mkdir(self.folder)
         env = {**os.environ, "LD_PRELOAD": self.shim, "DLM_LOG": log}
-        subprocess.run([self.given.program, "format", self.folder, str(self.given.disks), "6", "7"], env=env, check=True, stdout=subprocess.DEVNULL)
+        subprocess.run([self.given.program, *self.words_of_a_format(self.folder)], env=env, check=True, stdout=subprocess.DEVNULL)
+        self.formatted = images_of(self.folder, 0)
         storage, told = Storage({}), ""
         for record in [*records(log), None]:
             for state in self.states_of(storage):
@@ -405,6 +407,9 @@ class Walk:
             if record:
                 storage.take(record, self.forgets)
                 told += record[4].decode() if record[0] == "P" else ""
+
+    def words_of_a_format(self, folder):
+        return ["format", folder, str(self.given.disks), "6", "7"]
 
     def states_of(self, storage):
         """What a loss of power may leave of these images: nothing that was not synced, all, and others. An image whose folder was not
@@ -444,13 +449,27 @@ class Walk:
         return folder
 
     def ask_for_nothing(self, state, told):
-        """`dlm table` shows an empty log, or refuses the folder, where it was not told that the images are made."""
-        out = self.run(["table", self.put_anew("apart", state), "0"])
+        """`dlm table` shows an empty log, if each image is whole but perhaps for its gate, or refuses the folder, where it was not told that the
+        images are made. The same format again opens the gates that are left, or is refused; then it makes the images once they are removed."""
+        apart = self.put_anew("apart", state)
+        out = self.run(["table", apart, "0"])
+        whole = [disk for disk, image in self.formatted.items() if state.get(disk, b"")[1:] == image[1:]]
+        all_whole = len(whole) == len(self.formatted)
         is_empty = out.stdout == "recovered 0\nempty\n" and out.returncode == 0
         is_refused = out.returncode == 1 and NO_SET.fullmatch(out.stderr)
-        if not (is_empty or is_refused and not told):
-            self.wrong.append(f"format: {out.returncode} {out.stdout!r} {out.stderr!r}, formatted: {told}")
+        if not (is_empty and all_whole or is_refused and not told):
+            self.wrong.append(f"format: {out.returncode} {out.stdout!r} {out.stderr!r}, formatted: {told}, whole: {whole}")
         self.counts["of them refused"] += bool(is_refused)
+        # What a host wrote is not there.
+        apart = self.put_anew("apart", state)
+        out = self.run(self.words_of_a_format(apart))
+        again = f"formatted {self.given.disks} disks, 6 slots\n"
+        is_left = all_whole and any(state[disk][0] != 0xA5 for disk in state)
+        if state and not is_left and (out.returncode, out.stderr) == (1, ALREADY_THERE):
+            apart = self.put_anew("apart", {})
+            out = self.run(self.words_of_a_format(apart))
+        if (out.returncode, out.stdout) != (0, again) and not told or images_of(apart, 0) != self.formatted:
+            self.wrong.append(f"format again: {out.returncode} {out.stdout!r} {out.stderr!r}, whole: {whole}")
 
     def moves(self, storage, told, further):
         """A run of `dlm migrate` or `dlm renew` over these images. Power is lost at each place of it. At some places another run follows, after

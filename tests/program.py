@@ -9,6 +9,7 @@ import fcntl
 import os
 import resource
 import shutil
+import socket
 import subprocess
 import sys
 
@@ -246,6 +247,58 @@ def devices_of_several_machines():
 
 
 @test
+def pipes_in_place_of_images():
+    """Nobody writes into them: whoever opens one to read waits for ever."""
+    images(3, 16)
+    prints("submit . 0 enqueue 1 1 1 EX db", "ack 0 Granted\n")
+    os.remove("disk1.img")
+    os.mkfifo("disk1.img")
+    ends("check .", 1, "disk1 26 Unreadable\n", "dlm: 26 Unreadable disk1\n")
+    prints("table . 1", HELD)
+    for disk in (0, 2):
+        os.remove(f"disk{disk}.img")
+        os.mkfifo(f"disk{disk}.img")
+    for text in ("check .", "table . 1", "mark . 1", "fill . 1", "submit . 0 enqueue 2 1 2 EX db", "renew . 1 new 3 16 8", "migrate . new 16"):
+        refused(text, "dlm: 26 Unreadable disk0\n")
+    refused("format . 3 16 7", "dlm: 29 AlreadyThere\n")
+
+
+@test
+def gates_that_a_format_left_closed():
+    """Where it was ended once all images were whole, the same words open the gates."""
+    images(3, 16)
+    with open("disk0.img", "rb") as file:
+        whole = file.read()
+    for closed in ([0], [2], [1, 2], [0, 1, 2]):
+        for disk in closed:
+            put_byte(f"disk{disk}.img", 0, 0x5A)
+        # With other numbers they are images that are there.
+        for text in ("format . 3 16 8", "format . 3 15 7", "format . 2 16 7"):
+            refused(text, "dlm: 29 AlreadyThere\n")
+        images(3, 16)
+        prints("check .", "sound\n")
+        refused("format . 3 16 7", "dlm: 29 AlreadyThere\n")
+    with open("disk0.img", "rb") as file:
+        wants("the image", file.read(), whole)
+    # One that is gone, or too short, is no image that is whole.
+    put_byte("disk0.img", 0, 0)
+    os.rename("disk2.img", "gone")
+    refused("format . 3 16 7", "dlm: 29 AlreadyThere\n")
+    put_zeros("disk2.img", LENGTH - 1)
+    refused("format . 3 16 7", "dlm: 29 AlreadyThere\n")
+    os.rename("gone", "disk2.img")
+    # What holds something is opened by nobody: neither its first bytes after the header nor its last.
+    for at in (1024, LENGTH - 1):
+        put_byte("disk0.img", at, 1)
+        refused("format . 3 16 7", "dlm: 29 AlreadyThere\n")
+        put_byte("disk0.img", at, 0)
+    # Commands that the others hold by then stay.
+    prints("submit . 0 enqueue 1 1 1 EX db", "ack 0 Granted\n")
+    images(3, 16)
+    prints("table . 1", HELD)
+
+
+@test
 def headers_that_disagree():
     images(3, 4)
     os.mkdir("other")
@@ -462,6 +515,18 @@ def output_that_is_cut_at_each_byte():
             ended = start(["run", f"{TOP}/examples/takeover.dlm"], stdout=out, restore_signals=False, preexec_fn=lambda: resource.setrlimit(resource.RLIMIT_FSIZE, (room, room)))
         with open("out", "rb") as file:
             wants(f"room for {room} bytes", (ended.returncode, ended.stderr, file.read()), (0 if room == len(whole) else 1, "", whole[:room]))
+
+
+@test
+def a_refusal_is_written_in_one_call():
+    """Each write comes as a message of its own. So lines of several processes, which write to one file, are not mixed."""
+    for text, told in (("table . 0", "dlm: 26 Unreadable disk0\n"), ("table .", "dlm: usage\n"), ("submit . 0", "dlm: bad command\n"),
+                       ("run no/such/script", "dlm: 26 Unreadable\n")):
+        ours, theirs = socket.socketpair(socket.AF_UNIX, socket.SOCK_DGRAM)
+        with ours, theirs:
+            subprocess.run([PROGRAM, *text.split(" ")], stdin=subprocess.DEVNULL, stderr=theirs, check=False)
+            ours.setblocking(False)
+            wants(f"the first write of `{text}`", ours.recv(4096).decode(), told)
 
 
 @test

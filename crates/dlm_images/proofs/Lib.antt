@@ -6,6 +6,7 @@ pub mod Ending
 pub mod Found
 pub mod Headers
 pub mod Images
+pub mod Laying
 pub mod Opening
 pub mod Sets
 pub mod ShortRuns

@@ -1,6 +1,8 @@
 pub mod Damage
 pub mod Examples
+pub mod Finishing
 pub mod Folders
+pub mod Formatting
 pub mod Headers
 pub mod ImageFaults
 pub mod Layout

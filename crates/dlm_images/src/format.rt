@@ -1,27 +1,90 @@
-ghost use Rattle.std.specs.Prelude.{◌≡◌, ◌≤◌, ◌<◌, OnOk, IfOk, IfErr};
+ghost use Rattle.std.specs.Prelude.{◌≡◌, ◌≤◌, ◌<◌, ◌⊎◌, true, IfSome, OnOk, IfOk, IfErr};
 ghost use Rattle.torn_block.specs.Layout.{cluster_version};
 ghost use Rattle.paxos_block.specs.Places.{image_length};
 ghost use Rattle.dlm_images.specs.SetFaults.{IsFormatFault};
-ghost use Rattle.dlm_images.specs.Layout.{AreLaidOut, IsLaidOut, WasLaidOut, WritesZeros, header_of};
+ghost use Rattle.dlm_images.specs.Finishing.{AreThere, WereFinished};
+ghost use Rattle.dlm_images.specs.Formatting.{AreNew};
+ghost use Rattle.dlm_images.specs.Layout.{AreLaidOut};
 
 use crate::fault::FolderFault;
-use crate::image::{first_bytes, image_path};
-use disk::{Boot, Disk, DiskFault, FileDisk, ImageFault};
+use crate::image::{Access, first_bytes, image_path, open_cut_to_header};
+use crate::layout::{LayFault, lay_out};
+use crate::unfinished::finish;
+use disk::{Disk, FileDisk, ImageFault};
 use host::Config;
-use paxos_block::{Header, encode_header, is_formatted};
+use paxos_block::is_formatted;
 use std::fs::{File, OpenFile};
 use std::io;
 use std::os::unix::fs::{FileExt, FileTypeExt};
 use std::path::PathBuf;
 use std::rt::Files;
-use torn_block::{ClusterLayout, DISKS, OPEN_GATE};
-
-/// How many zeros are written at once.
-const CHUNK: usize = 4096;
+use torn_block::DISKS;
 
 /// Makes the images of a set in a folder, of files that are not there yet and of block devices that are, by links that somebody
-/// put there. Where an image is taken nothing is made; after another fault what was made stays.
+/// put there. No gate is opened before all images are whole. Where an image is taken nothing is made. Where one cannot be written to its end, the
+/// files that were made are removed. Once a gate was opened all stays. A format of these numbers that was ended then is finished.
 pub fn format_folder<R: Files + AllocGlobal>(
+    rt: &R,
+    folder: &str,
+    config: Config,
+    cluster: u64,
+) -> Result<(), FolderFault>
+where
+    R::File: FileExt + OpenFile + Drop,
+    ensures laid_out { OnOk result (AreLaidOut config cluster config.disks ⊎ WereFinished config cluster) }
+    ensures fault { IfErr result (IsFormatFault config.disks) }
+{
+    if finish_folder(rt, folder, config, cluster)? {
+        return Ok(());
+    }
+    make_folder(rt, folder, config, cluster)
+}
+
+/// Finishes a format that was ended once all its images were whole. Whether there was one is the result.
+fn finish_folder<R: Files + AllocGlobal>(
+    rt: &R,
+    folder: &str,
+    config: Config,
+    cluster: u64,
+) -> Result<bool, FolderFault>
+where
+    R::File: FileExt + OpenFile + Drop,
+    ensures finished { IfOk result (λ finished. finished ≡ true → WereFinished config cluster) }
+    ensures fault { IfErr result (IsFormatFault config.disks) }
+{
+    let Some(mut devices) = devices_there(rt, folder, config)? else {
+        return Ok(false);
+    };
+    match finish(&mut devices, config, cluster) {
+        Ok(finished) => Ok(finished),
+        Err(LayFault::NotWhole(disk) | LayFault::NotOpened(disk)) => Err(unreadable(disk)),
+    }
+}
+
+/// What is there in place of the images of a set, if all can be opened and are as long.
+fn devices_there<R: Files + AllocGlobal>(
+    rt: &R,
+    folder: &str,
+    config: Config,
+) -> Result<Option<Vec<FileDisk<R::File>>>, FolderFault>
+where
+    R::File: FileExt + OpenFile + Drop,
+    ensures found { IfOk result (λ found. IfSome found (λ devices. AreThere config devices.items)) }
+    ensures fault { IfErr result (λ fault. fault ≡ FolderFault.NoMemory) }
+{
+    let mut devices = Vec::with_capacity(rt.alloc(), usize::from(config.disks()))?;
+    for disk in 0..config.disks() {
+        let path = image_path(rt.alloc(), folder, disk)?;
+        match open_cut_to_header(rt, path.as_str(), Access::ReadAndWrite) {
+            Ok(device) if device.size() == config.image_length() => devices.push_reserved(device),
+            _ => return Ok(None),
+        }
+    }
+    Ok(Some(devices))
+}
+
+/// Makes the images of a set.
+fn make_folder<R: Files + AllocGlobal>(
     rt: &R,
     folder: &str,
     config: Config,
@@ -33,13 +96,87 @@ where
     ensures fault { IfErr result (IsFormatFault config.disks) }
 {
     refuse_taken(rt, folder, config)?;
-    for disk in 0..config.disks() {
-        let path = image_path(rt.alloc(), folder, disk)?;
-        make_image(rt, folder, path.as_str(), config, cluster, disk).map_err(
-            |fault| FolderFault::Image { disk, fault },
-        )?;
+    let mut devices = new_devices(rt, folder, config)?;
+    match lay_out(&mut devices, config, cluster) {
+        Ok(()) => Ok(()),
+        Err(LayFault::NotWhole(disk)) => {
+            remove_files(rt, folder, config.disks());
+            Err(unreadable(disk))
+        }
+        Err(LayFault::NotOpened(disk)) => Err(unreadable(disk)),
     }
-    Ok(())
+}
+
+fn unreadable(disk: u8) -> FolderFault
+    ensures { result ≡ FolderFault.Image disk ImageFault.Unreadable }
+{
+    FolderFault::Image {
+        disk,
+        fault: ImageFault::Unreadable,
+    }
+}
+
+/// What the images of a set are to be made of, all with names that last. Where that fails the files that were made are removed.
+fn new_devices<R: Files + AllocGlobal>(
+    rt: &R,
+    folder: &str,
+    config: Config,
+) -> Result<Vec<FileDisk<R::File>>, FolderFault>
+where
+    R::File: FileExt + OpenFile + Drop,
+    ensures room { IfOk result (λ devices. AreNew config devices.items) }
+    ensures fault { IfErr result (IsFormatFault config.disks) }
+{
+    let mut devices = Vec::with_capacity(rt.alloc(), usize::from(config.disks()))?;
+    for disk in 0..config.disks() {
+        match new_image(rt, folder, config, disk) {
+            Ok(device) => devices.push_reserved(device),
+            Err(fault) => {
+                remove_files(rt, folder, disk);
+                return Err(fault);
+            }
+        }
+    }
+    if sync_folder(rt, folder).is_err() {
+        remove_files(rt, folder, config.disks());
+        return Err(unreadable(0));
+    }
+    Ok(devices)
+}
+
+/// What the image of this number is to be made of.
+fn new_image<R: Files + AllocGlobal>(
+    rt: &R,
+    folder: &str,
+    config: Config,
+    disk: u8,
+) -> Result<FileDisk<R::File>, FolderFault>
+where
+    R::File: FileExt + OpenFile + Drop,
+    requires { disk < config.disks }
+    ensures room { IfOk result (λ device. image_length cluster_version config.slots ≤ device.size) }
+    ensures fault { IfErr result (IsFormatFault config.disks) }
+{
+    let path = image_path(rt.alloc(), folder, disk)?;
+    new_device(rt, path.as_str(), config.image_length()).map_err(|fault| FolderFault::Image {
+        disk,
+        fault,
+    })
+}
+
+/// Removes the files of the first images, as far as that can be done. A link that somebody put there stays, and so does a device.
+fn remove_files<R: Files + AllocGlobal>(rt: &R, folder: &str, count: u8) {
+    for disk in 0..count {
+        if let Ok(path) = image_path(rt.alloc(), folder, disk) {
+            let is_file = match rt.symlink_metadata(path.as_str()) {
+                Ok(metadata) => metadata.is_file(),
+                Err(_) => false,
+            };
+            if is_file {
+                let _ = rt.remove_file(path.as_str());
+            }
+        }
+    }
 }
 
 /// Refuses a folder in which an image of a set is taken that is to be made: by a file, or by a device that is formatted. Nothing at all has the name of
@@ -107,28 +244,6 @@ where
     }
 }
 
-fn make_image<R: Files>(
-    files: &R,
-    folder: &str,
-    path: &str,
-    config: Config,
-    cluster: u64,
-    disk: u8,
-) -> Result<(), ImageFault>
-where
-    R::File: FileExt + OpenFile + Drop,
-    requires { disk < config.disks }
-    ensures laid_out { OnOk result (WasLaidOut config cluster disk) }
-    ensures fault { IfErr result (λ fault. fault ≡ ImageFault.Unreadable) }
-{
-    let size = config.image_length();
-    let mut device = new_device(files, path, size)?;
-    if lay_out(&mut device, config, cluster, disk).is_err() || sync_folder(files, folder).is_err() {
-        return Err(ImageFault::Unreadable);
-    }
-    Ok(())
-}
-
 /// A new file at this path, or the block device that is there, with room for an image of this size.
 pub fn new_device<R: Files>(
     files: &R,
@@ -153,48 +268,4 @@ where
     R::File: OpenFile,
 {
     File::open(files, folder)?.sync_all()
-}
-
-/// Writes an image of a set with no blocks, that of this disk. Its gate is opened last, once all else is synced. Where a call fails no
-/// other is made.
-pub fn lay_out<D: Disk>(
-    device: &mut D,
-    config: Config,
-    cluster: u64,
-    disk: u8,
-) -> Result<(), DiskFault>
-    requires disk { disk < config.disks }
-    requires large { image_length cluster_version config.slots ≤ (D.device device.old).size }
-    ensures laid_out { OnOk result (IsLaidOut D.gives device.old (header_of config cluster disk) device.new) }
-{
-    let boot = device.attach()?;
-    put_zeros(device, boot, config.image_length())?;
-    device.sync(boot)?;
-    let mut bytes = encode_header::<ClusterLayout>(&Header {
-        disk,
-        disks: config.disks(),
-        slots: u32::from(config.slots()),
-        cluster,
-    });
-    bytes[0] = 0;
-    device.write(boot, 0, &bytes)?;
-    device.sync(boot)?;
-    device.write(boot, 0, &[OPEN_GATE])?;
-    device.sync(boot)
-}
-
-/// The disk is all zeros, up to this size.
-pub fn put_zeros<D: Disk>(device: &mut D, boot: Boot, size: u64) -> Result<(), DiskFault>
-    requires { size ≤ (D.device device.old).size }
-    ensures zeros { OnOk result (WritesZeros D.gives boot.number 0 size device.old device.new) }
-    ensures device { D.device device.new ≡ D.device device.old }
-{
-    let zeros = [0; CHUNK];
-    let mut at = 0;
-    while at < size {
-        let len = (size - at).min(CHUNK as u64);
-        device.write(boot, at, &zeros[..len as usize])?;
-        at += len;
-    }
-    Ok(())
 }

@@ -1,0 +1,22 @@
+use Rattle.std.proofs.Common.{◌≡◌, rules}
+use Rattle.disk.specs.Disk.{Call, Attach, Write, Sync, Booted, Done, Fault}
+use Rattle.dlm_images.specs.Layout.{closed_header, header_of}
+use Rattle.dlm_images.specs.Formatting.{MakesOnly, OpensNoGate, nothing, and_then}
+use Rattle.dlm_images.proofs.Laying.{one_call, together}
+use Rattle.dlm_images.proofs.layout.put_closed.Goals as goal
+
+pub returns-in_err-boot-clause-closed : goal.returns-in_err-boot-clause-closed
+returns-in_err-boot-clause-closed g c = and_then c.args.device.now c.args.device.now c.attach.new.self (nothing c.args.device.now) Attach tt _ c.in_err-boot.ensures.gives
+
+pub returns-in_err-put_zeros-clause-closed : goal.returns-in_err-put_zeros-clause-closed
+returns-in_err-put_zeros-clause-closed g c =
+    let header = header_of c.args.config c.args.cluster c.args.disk in
+    let attached = and_then c.args.device.now c.args.device.now c.attach.new.self (nothing c.args.device.now) Attach tt _ c.in_ok-boot.ensures.gives in
+    together g.D.Disk.gives (OpensNoGate header) c.args.device.now c.attach.new.self c.put_zeros.new.device attached (c.put_zeros.ensures.closed header)
+
+pub returns-in_err-sync-clause-closed : goal.returns-in_err-sync-clause-closed
+returns-in_err-sync-clause-closed g c =
+    let header = header_of c.args.config c.args.cluster c.args.disk in
+    let attached = and_then c.args.device.now c.args.device.now c.attach.new.self (nothing c.args.device.now) Attach tt _ c.in_ok-boot.ensures.gives in
+    let zeroed = together g.D.Disk.gives (OpensNoGate header) c.args.device.now c.attach.new.self c.put_zeros.new.device attached (c.put_zeros.ensures.closed header) in
+    and_then c.args.device.now c.put_zeros.new.device c.sync.new.self zeroed (Sync c.in_ok-boot.boot.number) tt _ c.in_err-sync.ensures.gives
