@@ -1,14 +1,16 @@
 -- Images that are laid out together: calls that were made, lists of disks one by one, and both halves of one image.
-use Rattle.std.proofs.Common.{◌≡◌, ◌<◌, ◌≤◌, ◌+◌, ℕ, zero, suc, Bool, true, false, nat_lt, arith, refl, List, [], ◌∷◌, Some, Result, Ok, Err, IfErr, length, slice_get, slice_set, sym, ◌∙◌, ap, subst}
+use Rattle.std.proofs.Common.{◌≡◌, ◌<◌, ◌≤◌, ◌+◌, ℕ, zero, suc, Bool, true, false, nat_lt, arith, refl, List, [], ◌∷◌, Some, Result, Ok, Err, IfErr, length, slice_get, slice_index, slice_set, sym, ◌∙◌, ap, subst}
 use Rattle.std.specs.Result.{IsErrAnd}
 use Rattle.std.proofs.lemmas.Bool.{ltb-true, ltb-false}
 use Rattle.std.proofs.lemmas.List.{length-set}
 use Rattle.disk.specs.Disk.{Device, Call, Attach, Write, Sync, Answer, Booted, Done}
 use Rattle.disk.specs.declared.boot.Boot.{Boot}
 use Rattle.torn_block.specs.declared.block.TheConstants.{OPEN_GATE}
+use Rattle.torn_block.specs.Layout.{cluster_version}
 use Rattle.paxos_block.specs.declared.header.Header.{Header}
+use Rattle.paxos_block.specs.Headers.{header_saying}
 use Rattle.slot_log.specs.Shape.{Shape}
-use Rattle.dlm_images.specs.Layout.{IsLaidOut, header_of}
+use Rattle.dlm_images.specs.Layout.{IsLaidOut, closed_header, header_of}
 use Rattle.dlm_images.specs.Formatting.{IsLaidOutClosed, HasGateOpened, MakesOnly, nothing, and_then, OpensGate, OpensNoGate, EachBecame, FirstBecame, AreClosed, AreOpened, AreLaidOutTogether, StopsOpening, StopsLaying}
 use Rattle.dlm_images.specs.declared.layout.LayFault.{LayFault}
 use Rattle.dlm_images.specs.declared.layout.LayFault.TheVariants.{NotWhole, NotOpened}
@@ -159,6 +161,16 @@ laid_out gives old ready new header boot c o = record {
 
 pub opened_only : {D : Type 0} (gives : D → Call → Answer → D → Type 0) (old new : D) (boot : ℕ) → HasGateOpened gives old boot new → MakesOnly gives OpensGate old new
 opened_only gives old new boot o = and_then old o.opened new (one_call gives OpensGate old o.opened (Write boot 0 (OPEN_GATE ∷ [])) (refl, refl) Done o.opens) (Sync boot) tt Done o.syncs
+
+-- its first bytes with a closed gate
+pub closing : (bytes : List ℕ) (header : Header) → bytes ≡ header_saying cluster_version header → slice_set bytes 0 0 ≡ closed_header header
+unfolding header_saying
+closing bytes header is = ap (λ (l : List ℕ). slice_set l 0 0) is
+
+-- a gate that is open is opened by the same byte
+pub opened_already : (bytes : List ℕ) → slice_index bytes 0 ≡ OPEN_GATE → slice_set bytes 0 OPEN_GATE ≡ bytes
+opened_already [] is = refl
+opened_already (b ∷ bytes) is = let e : b ≡ OPEN_GATE = is in ap (λ (x : ℕ). x ∷ bytes) (sym e)
 
 -- ALL OF THEM
 

@@ -1,8 +1,8 @@
-use Rattle.std.proofs.Common.{◌≡◌, rules}
+use Rattle.std.proofs.Common.{◌≡◌, refl, inr}
 use Rattle.disk.specs.Disk.{Call, Attach, Write, Sync, Booted, Done, Fault}
 use Rattle.dlm_images.specs.Layout.{closed_header, header_of}
 use Rattle.dlm_images.specs.Formatting.{MakesOnly, OpensNoGate, nothing, and_then}
-use Rattle.dlm_images.proofs.Laying.{one_call, together}
+use Rattle.dlm_images.proofs.Laying.{closing, one_call, together}
 use Rattle.dlm_images.proofs.layout.put_closed.Goals as goal
 
 pub returns-in_err-boot-clause-closed : goal.returns-in_err-boot-clause-closed
@@ -20,3 +20,11 @@ returns-in_err-sync-clause-closed g c =
     let attached = and_then c.args.device.now c.args.device.now c.attach.new.self (nothing c.args.device.now) Attach tt _ c.in_ok-boot.ensures.gives in
     let zeroed = together g.D.Disk.gives (OpensNoGate header) c.args.device.now c.attach.new.self c.put_zeros.new.device attached (c.put_zeros.ensures.closed header) in
     and_then c.args.device.now c.put_zeros.new.device c.sync.new.self zeroed (Sync c.in_ok-boot.boot.number) tt _ c.in_err-sync.ensures.gives
+
+pub returns-in_err-write-clause-closed : goal.returns-in_err-write-clause-closed
+returns-in_err-write-clause-closed g c =
+    let header = header_of c.args.config c.args.cluster c.args.disk in
+    let attached = and_then c.args.device.now c.args.device.now c.attach.new.self (nothing c.args.device.now) Attach tt _ c.in_ok-boot.ensures.gives in
+    let zeroed = together g.D.Disk.gives (OpensNoGate header) c.args.device.now c.attach.new.self c.put_zeros.new.device attached (c.put_zeros.ensures.closed header) in
+    let synced = and_then c.args.device.now c.put_zeros.new.device c.sync.new.self zeroed (Sync c.in_ok-boot.boot.number) tt _ c.in_ok-sync.ensures.gives in
+    and_then c.args.device.now c.sync.new.self c.write.new.self synced _ (inr (refl, closing c.header_bytes-bytes.result header c.header_bytes-bytes.ensures)) _ c.in_err-write.ensures.gives
