@@ -1,0 +1,7 @@
+use Rattle.std.proofs.Common.{◌≡◌}
+use Rattle.dlm_images.proofs.Laying.{laid_out_together, stops_after}
+use Rattle.dlm_images.proofs.layout.lay_out.Goals as goal
+
+pub returns-clause-stopped : goal.returns-clause-stopped
+returns-clause-stopped g c =
+    stops_after g.D.Disk.gives c.args.config c.args.cluster c.in_ok-boots.boots c.args.devices.now c.write_images.new.devices c.open_gates.new.devices c.requires.as_many c.in_ok-boots.ensures.whole c.open_gates.result c.open_gates.ensures.stopped
