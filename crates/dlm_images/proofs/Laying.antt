@@ -1,5 +1,5 @@
 -- Images that are laid out together: calls that were made, lists of disks one by one, and both halves of one image.
-use Rattle.std.proofs.Common.{◌≡◌, ◌<◌, ◌≤◌, ◌+◌, ℕ, zero, suc, Bool, true, false, nat_lt, arith, refl, List, [], ◌∷◌, Some, Result, Ok, Err, IfErr, length, slice_get, slice_index, slice_set, sym, ◌∙◌, ap, subst}
+use Rattle.std.proofs.Common.{◌≡◌, ◌<◌, ◌≤◌, ◌+◌, ℕ, zero, suc, Bool, true, false, nat_lt, arith, refl, List, [], ◌∷◌, ◌++◌, Some, Result, Ok, Err, IfErr, length, slice_get, slice_index, slice_set, sym, ◌∙◌, ap, subst}
 use Rattle.std.specs.Result.{IsErrAnd}
 use Rattle.std.proofs.lemmas.Bool.{ltb-true, ltb-false}
 use Rattle.std.proofs.lemmas.List.{length-set}
@@ -138,6 +138,13 @@ devices_stay {X} device P n now a b at_a same each k x = this_or (λ (m : ℕ). 
     (λ other at_x. each k x (sym (set_other now n k b other) ∙ at_x))
     (λ at_x. let is : Some b ≡ Some x = sym (set_same now n a b at_a) ∙ at_x in let e : b ≡ x = cc in
     subst (λ (u : X). P (device u)) e (subst P (sym same) (each n a at_a)))
+
+-- what holds of all and of one more, holds of all then
+pub each_more : {X : Type 0} (P : X → Type 0) (xs : List X) (x : X) → P x → ((k : ℕ) (a : X) → slice_get xs k ≡ Some a → P a) → (k : ℕ) (a : X) → slice_get (xs ++ x ∷ []) k ≡ Some a → P a
+each_more P [] x px all zero a is = let e : x ≡ a = cc in subst P e px
+each_more P [] x px all (suc k) a is = absurd (cc)
+each_more P (y ∷ ys) x px all zero a is = all zero a is
+each_more P (y ∷ ys) x px all (suc k) a is = each_more P ys x px (λ n b e. all (suc n) b e) k a is
 
 -- ONE IMAGE
 

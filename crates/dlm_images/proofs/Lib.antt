@@ -10,6 +10,7 @@ pub mod Laying
 pub mod Opening
 pub mod Sets
 pub mod ShortRuns
+pub mod Unfinished
 pub mod Unfound
 mod Printed
 mod Reading

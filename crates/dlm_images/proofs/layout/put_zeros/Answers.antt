@@ -1,6 +1,6 @@
 use Rattle.std.proofs.Common.{rules, ◌≡◌, ◌≤◌, ℕ, List, refl, subst, sym, arith, inl, length, replicate, ap}
 use Rattle.std.proofs.lemmas.List.{take-replicate, length-replicate}
-use Rattle.disk.specs.Disk.{Write, Done}
+use Rattle.disk.specs.Disk.{Write, Done, Fault}
 use Rattle.dlm_images.specs.Formatting.{nothing, and_then}
 use Rattle.dlm_images.specs.Layout.{none, more}
 use Rattle.dlm_images.proofs.layout.put_zeros.Goals as goal
@@ -23,3 +23,13 @@ loop-at-preserved g c =
           and_then c.args.device.now c.loop-at.device c.write.new.self (c.loop-at.invariant.closed header) (Write c.args.boot.number c.loop-at.at (replicate len 0))
           (inl (ap (λ (n : ℕ). replicate n 0) (sym (length-replicate len 0)))) Done gave;
     }
+
+pub returns-in_err-write-clause-closed : goal.returns-in_err-write-clause-closed
+returns-in_err-write-clause-closed g c = λ header.
+    let len = c.min-len.result in
+    let few : len ≤ 4096 = search rules in
+    let gave =
+    subst (λ (bytes : List ℕ). g.D.Disk.gives c.loop-at.device (Write c.args.boot.number c.loop-at.at bytes) (Fault c.in_err-write.field-0.0) c.write.new.self)
+    (take-replicate len 4096 0 few) c.in_err-write.ensures.gives in
+    and_then c.args.device.now c.loop-at.device c.write.new.self (c.loop-at.invariant.closed header) (Write c.args.boot.number c.loop-at.at (replicate len 0))
+    (inl (ap (λ (n : ℕ). replicate n 0) (sym (length-replicate len 0)))) (Fault c.in_err-write.field-0.0) gave

@@ -9,8 +9,8 @@ use Rattle.dlm_images.specs.Formatting.{EachBecame, AreClosed, HaveRoom, MakesOn
 use Rattle.dlm_images.proofs.Laying.{one_more_closed, none_became, same_yet, called, devices_stay, not_whole}
 use Rattle.dlm_images.proofs.layout.write_images.Goals as goal
 
-pub loop-disk-at-init : goal.loop-disk-at-init
-loop-disk-at-init g c = record { boots = refl; closed = none_became _ c.args.devices.now; calls = same_yet g.D.Disk.gives (λ k. OpensNoGate (header_of c.args.config c.args.cluster k)) c.args.devices.now; room = c.requires.large }
+pub loop-disk-init : goal.loop-disk-init
+loop-disk-init g c = record { boots = refl; closed = none_became _ c.args.devices.now; calls = same_yet g.D.Disk.gives (λ k. OpensNoGate (header_of c.args.config c.args.cluster k)) c.args.devices.now; room = c.requires.large }
 
 pub loop-disk-preserved : goal.loop-disk-preserved
 loop-disk-preserved g c =
