@@ -1,17 +1,19 @@
 -- Images that are laid out together: calls that were made, lists of disks one by one, and both halves of one image.
-use Rattle.std.proofs.Common.{◌≡◌, ◌<◌, ◌≤◌, ◌+◌, ℕ, zero, suc, Bool, true, false, nat_lt, arith, refl, List, [], ◌∷◌, ◌++◌, Some, Result, Ok, Err, IfErr, length, slice_get, slice_index, slice_set, sym, ◌∙◌, ap, subst}
+use Rattle.std.proofs.Common.{◌≡◌, ◌<◌, ◌≤◌, ◌+◌, ℕ, zero, suc, Bool, true, false, nat_lt, arith, refl, List, [], ◌∷◌, ◌++◌, Some, Result, Ok, Err, IfErr, OnOk, length, get_or, slice_get, slice_index, slice_set, sym, ◌∙◌, ap, subst}
 use Rattle.std.specs.Result.{IsErrAnd}
 use Rattle.std.proofs.lemmas.Bool.{ltb-true, ltb-false}
 use Rattle.std.proofs.lemmas.List.{length-set}
+use Rattle.std.proofs.lemmas.Option.{slice_get-get_or}
 use Rattle.disk.specs.Disk.{Device, Call, Attach, Write, Sync, Answer, Booted, Done}
+use Rattle.disk.specs.FileStates.{FileState, FileGives}
 use Rattle.disk.specs.declared.boot.Boot.{Boot}
 use Rattle.torn_block.specs.declared.block.TheConstants.{OPEN_GATE}
 use Rattle.torn_block.specs.Layout.{cluster_version}
 use Rattle.paxos_block.specs.declared.header.Header.{Header}
 use Rattle.paxos_block.specs.Headers.{header_saying}
 use Rattle.slot_log.specs.Shape.{Shape}
-use Rattle.dlm_images.specs.Layout.{IsLaidOut, closed_header, header_of}
-use Rattle.dlm_images.specs.Formatting.{IsLaidOutClosed, HasGateOpened, MakesOnly, nothing, and_then, OpensGate, OpensNoGate, EachBecame, FirstBecame, AreClosed, AreOpened, AreLaidOutTogether, StopsOpening, StopsLaying}
+use Rattle.dlm_images.specs.Layout.{IsLaidOut, AreLaidOut, closed_header, header_of}
+use Rattle.dlm_images.specs.Formatting.{IsLaidOutClosed, HasGateOpened, MakesOnly, nothing, and_then, OpensGate, OpensNoGate, EachBecame, FirstBecame, AreClosed, AreOpened, AreLaidOutTogether, AreNew, StopsOpening, StopsLaying}
 use Rattle.dlm_images.specs.declared.layout.LayFault.{LayFault}
 use Rattle.dlm_images.specs.declared.layout.LayFault.TheVariants.{NotWhole, NotOpened}
 
@@ -104,7 +106,12 @@ one_more_closed {D} gives config cluster boots n old now a b boot at less laid w
     became k c d = (of : Boot) × (slice_get (slice_set boots n boot) k ≡ Some of) × IsLaidOutClosed gives c (header_of config cluster k) of.number d
 
     more : (k : ℕ) (c d : D) → k < n → before k c d → became k c d
-    more k c d below was = (was.1, set_other boots n k boot (λ e. let same : k ≡ n = e in omega (arith, below, same)) ∙ was.2.1, was.2.2)
+    more k c d below was = (was.0, set_other boots n k boot (λ e. let same : k ≡ n = e in omega (arith, below, same)) ∙ was.1, was.2)
+
+-- its gate is opened under the boot that was kept
+pub opened_under : {D : Type 0} (gives : D → Call → Answer → D → Type 0) (boots : List Boot) (disk i : ℕ) (d : Boot) (a b : D) → i < length boots → i ≡ disk → HasGateOpened gives a (get_or boots i d).number b
+    → (boot : Boot) × (slice_get boots disk ≡ Some boot) × HasGateOpened gives a boot.number b
+opened_under gives boots disk i d a b less same opened = (get_or boots i d, subst (λ (k : ℕ). slice_get boots k ≡ Some (get_or boots i d)) same (slice_get-get_or boots i d less), opened)
 
 -- once all did
 within : {X : Type 0} (xs : List X) (k : ℕ) (x : X) → slice_get xs k ≡ Some x → k < length xs
@@ -192,8 +199,8 @@ pub laid_out_together : {D : Type 0} (gives : D → Call → Answer → D → Ty
     → AreClosed gives config cluster boots config.disks old whole → AreOpened gives boots config.disks whole new → AreLaidOutTogether gives config cluster old new
 laid_out_together {D} gives config cluster boots old whole new count closed opened = record {
   whole = whole;
-  closed = record { as_many = shut.as_many; each = λ k a b at_a at_b. let is = shut.each k a b at_a at_b in (is.1.number, is.2.2) };
-  opened = record { as_many = open_now.as_many; each = λ k a b at_a at_b. let is = open_now.each k a b at_a at_b in opened_only gives a b is.1.number is.2.2 };
+  closed = record { as_many = shut.as_many; each = λ k a b at_a at_b. let is = shut.each k a b at_a at_b in (is.0.number, is.2) };
+  opened = record { as_many = open_now.as_many; each = λ k a b at_a at_b. let is = open_now.each k a b at_a at_b in opened_only gives a b is.0.number is.2 };
   images = record { as_many = open_now.as_many ∙ shut.as_many; each = image };
 }
   where
@@ -212,6 +219,24 @@ laid_out_together {D} gives config cluster boots old whole new count closed open
         let (boot, is_boot, laid) = shut.each k a between at_a at_between in
         let (other, is_other, gate) = open_now.each k between b at_between at_b in
         laid_out gives a between b (header_of config cluster k) boot.number laid (subst (λ (o : Boot). HasGateOpened gives between o.number b) (same_boot k other boot is_other is_boot) gate)
+
+pub all_laid_out : {D T : Type 0} (gives : D → Call → Answer → D → Type 0) (config : Shape) (cluster : ℕ) (boots : List Boot) (old whole new : List D) → length old ≡ config.disks
+    → AreClosed gives config cluster boots config.disks old whole → (result : Result T LayFault) → OnOk result (AreOpened gives boots config.disks whole new) → OnOk result (AreLaidOutTogether gives config cluster old new)
+all_laid_out gives config cluster boots old whole new count closed (Ok done) opened = laid_out_together gives config cluster boots old whole new count closed opened
+all_laid_out gives config cluster boots old whole new count closed (Err why) opened = tt
+
+at_place : {X : Type 0} (xs : List X) (k : ℕ) → k < length xs → (x : X) × (slice_get xs k ≡ Some x)
+at_place [] k less = absurd (omega (arith, less))
+at_place (y ∷ ys) zero less = (y, refl)
+at_place (y ∷ ys) (suc k) less = let below : k < length ys = omega (arith, less) in at_place ys k below
+
+-- of files and devices with room for them
+pub laid_out_of_new : (config : Shape) (cluster : ℕ) (old new : List FileState) → AreNew config old → AreLaidOutTogether FileGives config cluster old new → AreLaidOut config cluster config.disks
+laid_out_of_new config cluster old new fresh w disk below =
+    let less : disk < length old = omega (arith, below, fresh.as_many) in
+    let (a, at_a) = at_place old disk less in
+    let (b, at_b) = there old new disk a w.images.as_many at_a in
+    record { old = a; new = b; room = fresh.room disk a at_a; laid_out = w.images.each disk a b at_a at_b }
 
 -- STOPS
 
@@ -233,7 +258,7 @@ pub stops_after : {D T : Type 0} (gives : D → Call → Answer → D → Type 0
 stops_after gives config cluster boots old whole new count closed (Ok done) stops = tt
 stops_after gives config cluster boots old whole new count closed (Err (NotWhole disk)) stops = absurd stops
 stops_after {D} gives config cluster boots old whole new count closed (Err (NotOpened disk)) stops =
-    (whole, record { as_many = shut.as_many; each = λ k a b at_a at_b. let is = shut.each k a b at_a at_b in (is.1.number, is.2.2) }, stops)
+    (whole, record { as_many = shut.as_many; each = λ k a b at_a at_b. let is = shut.each k a b at_a at_b in (is.0.number, is.2) }, stops)
   where
     shut : EachBecame (λ (disk : ℕ) (a b : D). (boot : Boot) × (slice_get boots disk ≡ Some boot) × IsLaidOutClosed gives a (header_of config cluster disk) boot.number b) old whole
     shut = all_became _ config.disks old whole count closed

@@ -2,6 +2,7 @@
 use Rattle.std.specs.Prelude.{◌≡◌, ◌⊎◌, ◌<◌, ◌+◌, ℕ, List, [], ◌∷◌, Some, length, replicate, slice_get, slice_index, slice_set}
 use Rattle.disk.specs.Disk.{Device, Call, Attach, Read, Write, Sync, Answer, Booted, Told, Done}
 use Rattle.disk.specs.FileStates.{FileState, FileGives}
+use Rattle.attempt.specs.Looking.{OnlyReads}
 use Rattle.torn_block.specs.Layout.{cluster_version}
 use Rattle.torn_block.specs.declared.layout.TheConstants.{HEADER_LENGTH}
 use Rattle.torn_block.specs.declared.block.TheConstants.{OPEN_GATE}
@@ -18,12 +19,6 @@ use Rattle.dlm_images.specs.declared.unfinished.Left.{Left}
 use Rattle.dlm_images.specs.declared.unfinished.Left.TheVariants.{Open, Closed, Neither}
 
 -- ONE IMAGE
-
--- the call writes nothing, and syncs nothing
-abbrev pub OnlyReads : Call → Type 0
-OnlyReads (Write boot at from) = ⊥
-OnlyReads (Sync boot) = ⊥
-OnlyReads other = Unit {0}
 
 -- zeros were read from this place to that one, some at a time
 pub data ReadsZeros {D : Type 0} (gives : D → Call → Answer → D → Type 0) (boot : ℕ) : ℕ → ℕ → D → D → Type 0 where

@@ -4,7 +4,8 @@ ghost use Rattle.disk.specs.Disk.{Read, Told};
 ghost use Rattle.torn_block.specs.Layout.{cluster_version};
 ghost use Rattle.torn_block.specs.declared.layout.TheConstants.{HEADER_LENGTH};
 ghost use Rattle.paxos_block.specs.Places.{image_length};
-ghost use Rattle.dlm_images.specs.Finishing.{AreFinished, AreLeft, AreOnlyRead, FindsLeft, HasReadZeros, HaveSize, OnlyReads, OpensFound, ReadsZeros, StopsFinishing};
+ghost use Rattle.attempt.specs.Looking.{OnlyReads};
+ghost use Rattle.dlm_images.specs.Finishing.{AreFinished, AreLeft, AreOnlyRead, FindsLeft, HasReadZeros, HaveSize, OpensFound, ReadsZeros, StopsFinishing};
 ghost use Rattle.dlm_images.specs.Formatting.{MakesOnly};
 ghost use Rattle.dlm_images.specs.Layout.{header_of};
 

@@ -1,6 +1,7 @@
 use Rattle.std.proofs.Common.{◌-◌, ◌≡◌, ◌≤◌}
 use Rattle.torn_block.specs.declared.layout.TheConstants.{HEADER_LENGTH}
-use Rattle.dlm_images.specs.Finishing.{OnlyReads, ReadsZeros}
+use Rattle.attempt.specs.Looking.{OnlyReads}
+use Rattle.dlm_images.specs.Finishing.{ReadsZeros}
 use Rattle.dlm_images.specs.Formatting.{MakesOnly}
 use Rattle.dlm_images.proofs.unfinished.reads_zeros.Given as goal
 
