@@ -1,5 +1,5 @@
 -- A format that was ended is found and finished, image by image.
-use Rattle.std.proofs.Common.{◌≡◌, ◌⊎◌, ◌≤◌, ◌+◌, ◌<◌, ◌∙◌, ℕ, List, Some, Result, Ok, Err, IfErr, OnOk, inl, inr, refl, sym, arith, length, slice_get, subst, true, false}
+use Rattle.std.proofs.Common.{◌≡◌, ◌≤◌, ◌+◌, ◌<◌, ◌∙◌, ℕ, List, Some, Result, Ok, Err, IfErr, sym, arith, length, slice_get, subst}
 use Rattle.std.specs.Result.{IsErrAnd}
 use Rattle.disk.specs.Disk.{Device, Call, Answer}
 use Rattle.disk.specs.FileStates.{FileState, FileGives}
@@ -27,10 +27,6 @@ finished {D} gives config cluster old looked new count left w = record { looked 
 
 pub were_finished : (config : Shape) (cluster : ℕ) (old new : List FileState) → AreThere config old → AreFinished FileGives config cluster old new → WereFinished config cluster
 were_finished config cluster old new there w = record { old = old; new = new; as_many = there.as_many; finished = w }
-
-pub either : {T E A B : Type 0} (result : Result T E) → OnOk result A → OnOk result (A ⊎ B)
-either (Ok done) a = inl a
-either (Err why) a = tt
 
 pub not_finished : {D T : Type 0} (gives : D → Call → Answer → D → Type 0) (config : Shape) (cluster : ℕ) (old looked : List D) (disk : ℕ) → disk < config.disks → AreLeft gives config cluster old looked → (why : LayFault) → why ≡ NotOpened disk
     → (result : Result T LayFault) → IsErrAnd result (λ fault. fault ≡ why) → IfErr result (StopsFinishing gives config cluster old)
