@@ -1,5 +1,5 @@
 -- A format that was ended is found and finished, image by image.
-use Rattle.std.proofs.Common.{◌≡◌, ◌≤◌, ◌+◌, ◌<◌, ◌∙◌, ℕ, List, Some, Result, Ok, Err, IfErr, sym, arith, length, slice_get, subst}
+use Rattle.std.proofs.Common.{◌≡◌, ◌<◌, ◌∙◌, ℕ, List, Result, Ok, Err, IfErr, sym, arith, length, subst}
 use Rattle.std.specs.Result.{IsErrAnd}
 use Rattle.disk.specs.Disk.{Device, Call, Answer}
 use Rattle.disk.specs.FileStates.{FileState, FileGives}
@@ -7,7 +7,7 @@ use Rattle.torn_block.specs.Layout.{cluster_version}
 use Rattle.paxos_block.specs.Places.{image_length}
 use Rattle.slot_log.specs.Shape.{Shape}
 use Rattle.dlm_images.specs.Layout.{header_of}
-use Rattle.dlm_images.specs.Formatting.{EachBecame, FirstBecame, HaveRoom}
+use Rattle.dlm_images.specs.Formatting.{FirstBecame, HaveRoom}
 use Rattle.dlm_images.specs.Finishing.{AreFinished, AreLeft, AreThere, HaveSize, IsLeft, OpensFound, StopsFinishing, WereFinished}
 use Rattle.dlm_images.specs.declared.layout.LayFault.{LayFault}
 use Rattle.dlm_images.specs.declared.layout.LayFault.TheVariants.{NotOpened}

@@ -4,7 +4,7 @@ use Rattle.std.specs.Result.{IsErrAnd}
 use Rattle.std.proofs.lemmas.Bool.{ltb-true, ltb-false}
 use Rattle.std.proofs.lemmas.List.{length-set}
 use Rattle.std.proofs.lemmas.Option.{slice_get-get_or}
-use Rattle.disk.specs.Disk.{Device, Call, Attach, Write, Sync, Answer, Booted, Done}
+use Rattle.disk.specs.Disk.{Device, Call, Write, Sync, Answer, Done}
 use Rattle.disk.specs.FileStates.{FileState, FileGives}
 use Rattle.disk.specs.declared.boot.Boot.{Boot}
 use Rattle.torn_block.specs.declared.block.TheConstants.{OPEN_GATE}

@@ -1,6 +1,6 @@
 -- How the images of a set are laid out together: no gate is opened before each of them is whole.
 use Rattle.std.specs.Prelude.{◌≡◌, ◌⊎◌, ◌<◌, ◌≤◌, ℕ, List, [], ◌∷◌, length, replicate, slice_get, Some}
-use Rattle.disk.specs.Disk.{Device, Call, Attach, Read, Write, Sync, Answer, Booted, Done}
+use Rattle.disk.specs.Disk.{Device, Call, Attach, Write, Sync, Answer, Booted, Done}
 use Rattle.disk.specs.FileStates.{FileState}
 use Rattle.disk.specs.declared.boot.Boot.{Boot}
 use Rattle.torn_block.specs.Layout.{cluster_version}

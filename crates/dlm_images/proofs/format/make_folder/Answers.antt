@@ -1,4 +1,4 @@
-use Rattle.std.proofs.Common.{rules, ◌≡◌, subst}
+use Rattle.std.proofs.Common.{rules, subst}
 use Rattle.dlm_images.specs.Formatting.{AreNew}
 use Rattle.dlm_images.proofs.Laying.{laid_out_of_new}
 use Rattle.dlm_images.proofs.format.make_folder.Goals as goal

@@ -1,4 +1,3 @@
-use Rattle.std.proofs.Common.{◌≡◌}
 use Rattle.dlm_images.proofs.Laying.{all_laid_out, stops_after}
 use Rattle.dlm_images.proofs.layout.lay_out.Goals as goal
 

@@ -1,4 +1,4 @@
-use Rattle.std.proofs.Common.{◌≡◌, ◌∙◌, ◌<◌, ◌≤◌, ◌+◌, ℕ, Some, get_or, length, slice_get, slice_set, arith, refl, sym, subst}
+use Rattle.std.proofs.Common.{◌≡◌, ◌<◌, ◌≤◌, ◌+◌, ℕ, Some, get_or, length, slice_get, slice_set, arith, sym, subst}
 use Rattle.std.proofs.lemmas.Option.{slice_get-get_or}
 use Rattle.disk.specs.Disk.{Device}
 use Rattle.dlm_images.specs.Formatting.{AreOpened, EachBecame, HaveRoom, MakesOnly, OpensGate}

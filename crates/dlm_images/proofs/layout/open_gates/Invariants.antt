@@ -1,4 +1,3 @@
-use Rattle.std.proofs.Common.{◌≡◌}
 use Rattle.dlm_images.specs.Formatting.{AreOpened, EachBecame, HaveRoom, MakesOnly, OpensGate}
 use Rattle.dlm_images.proofs.layout.open_gates.Given as goal
 

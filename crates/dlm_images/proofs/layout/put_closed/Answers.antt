@@ -1,8 +1,8 @@
-use Rattle.std.proofs.Common.{◌≡◌, refl, inr}
-use Rattle.disk.specs.Disk.{Call, Attach, Write, Sync, Booted, Done, Fault}
-use Rattle.dlm_images.specs.Layout.{closed_header, header_of}
-use Rattle.dlm_images.specs.Formatting.{MakesOnly, OpensNoGate, nothing, and_then}
-use Rattle.dlm_images.proofs.Laying.{closing, one_call, together}
+use Rattle.std.proofs.Common.{refl, inr}
+use Rattle.disk.specs.Disk.{Attach, Sync}
+use Rattle.dlm_images.specs.Layout.{header_of}
+use Rattle.dlm_images.specs.Formatting.{OpensNoGate, nothing, and_then}
+use Rattle.dlm_images.proofs.Laying.{closing, together}
 use Rattle.dlm_images.proofs.layout.put_closed.Goals as goal
 
 pub returns-in_err-boot-clause-closed : goal.returns-in_err-boot-clause-closed

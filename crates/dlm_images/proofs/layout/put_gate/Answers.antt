@@ -1,7 +1,7 @@
-use Rattle.std.proofs.Common.{◌≡◌, refl, [], ◌∷◌}
+use Rattle.std.proofs.Common.{refl, [], ◌∷◌}
 use Rattle.disk.specs.Disk.{Write, Sync}
 use Rattle.torn_block.specs.declared.block.TheConstants.{OPEN_GATE}
-use Rattle.dlm_images.specs.Formatting.{OpensGate, nothing, and_then}
+use Rattle.dlm_images.specs.Formatting.{nothing, and_then}
 use Rattle.dlm_images.proofs.layout.put_gate.Goals as goal
 
 pub returns-in_err-write-clause-only : goal.returns-in_err-write-clause-only

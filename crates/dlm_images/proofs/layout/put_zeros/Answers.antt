@@ -1,4 +1,4 @@
-use Rattle.std.proofs.Common.{rules, ◌≡◌, ◌≤◌, ℕ, List, refl, subst, sym, arith, inl, length, replicate, ap}
+use Rattle.std.proofs.Common.{rules, ◌≤◌, ℕ, List, refl, subst, sym, arith, inl, replicate, ap}
 use Rattle.std.proofs.lemmas.List.{take-replicate, length-replicate}
 use Rattle.disk.specs.Disk.{Write, Done, Fault}
 use Rattle.dlm_images.specs.Formatting.{nothing, and_then}

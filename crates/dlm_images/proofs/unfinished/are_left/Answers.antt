@@ -1,4 +1,4 @@
-use Rattle.std.proofs.Common.{rules, ◌≡◌, ◌≤◌, ◌<◌, ◌+◌, ℕ, Some, arith, get_or, inl, inr, length, slice_get, slice_set, subst, sym}
+use Rattle.std.proofs.Common.{rules, ◌≡◌, ◌<◌, ◌+◌, ℕ, Some, arith, get_or, inl, inr, length, slice_get, slice_set, subst, sym}
 use Rattle.std.proofs.lemmas.Option.{slice_get-get_or}
 use Rattle.disk.specs.Disk.{Device}
 use Rattle.attempt.specs.Looking.{OnlyReads}

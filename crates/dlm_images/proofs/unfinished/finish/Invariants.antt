@@ -1,4 +1,3 @@
-use Rattle.std.proofs.Common.{◌≡◌}
 use Rattle.dlm_images.specs.Finishing.{OpensFound}
 use Rattle.dlm_images.specs.Formatting.{FirstBecame, HaveRoom}
 use Rattle.dlm_images.proofs.unfinished.finish.Given as goal

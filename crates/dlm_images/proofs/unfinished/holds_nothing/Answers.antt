@@ -1,4 +1,3 @@
-use Rattle.std.proofs.Common.{◌≡◌}
 use Rattle.disk.specs.Disk.{Attach}
 use Rattle.attempt.specs.Looking.{OnlyReads}
 use Rattle.dlm_images.proofs.Laying.{one_call, together}

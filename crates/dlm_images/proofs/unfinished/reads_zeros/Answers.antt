@@ -1,4 +1,4 @@
-use Rattle.std.proofs.Common.{rules, ◌≡◌, ◌∙◌, ◌≤◌, ◌+◌, ℕ, refl, arith}
+use Rattle.std.proofs.Common.{rules, ◌∙◌, refl}
 use Rattle.attempt.specs.Looking.{OnlyReads}
 use Rattle.torn_block.specs.declared.layout.TheConstants.{HEADER_LENGTH}
 use Rattle.dlm_images.specs.Finishing.{none, more}

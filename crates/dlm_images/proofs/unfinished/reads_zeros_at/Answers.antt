@@ -1,4 +1,4 @@
-use Rattle.std.proofs.Common.{rules, ◌≡◌, ◌∙◌, ◌≤◌, ℕ, length, sym, subst}
+use Rattle.std.proofs.Common.{rules, ◌≡◌, ◌∙◌, ℕ, length, sym, subst}
 use Rattle.disk.specs.Disk.{Read, Told}
 use Rattle.attempt.specs.Looking.{OnlyReads}
 use Rattle.dlm_images.proofs.Laying.{one_call}
