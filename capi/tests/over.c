@@ -158,7 +158,8 @@ static void try_takes(const char *kind, unsigned flags, bool stops) {
     end(&scene);
     printf("%s, %s: %d takes that were to last %d ms, %d of them longer than %d ms, the longest %ld ms\n",
            stops ? "told to stop" : "out of time", kind, takes, ENDS, late, MOSTLY, (long)worst);
-    if (10 * late > takes || worst > ALWAYS) {
+    /* One may be late where the machine has so much other work that there are but few. */
+    if (late > 1 + takes / 10 || worst > ALWAYS) {
         puts("    too late");
         failures++;
     }
