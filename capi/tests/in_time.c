@@ -90,7 +90,7 @@ static void left_locks(void) {
     leave(path, LEFT, "crowd");
     session = begun(path, 0, MG_SHARE);
     set_sync(1000);
-    for (int timeout = 0; timeout <= 100; timeout += 100) {
+    for (int timeout = 0; timeout <= 1000; timeout += 1000) {
         began = milliseconds();
         IS(mg_take(session, "free", MG_EX, timeout, &held), MG_OK);
         TOOK(began, 0, AT_ONCE);
