@@ -82,7 +82,7 @@ struct mg_held {
  * the host number. Where others have that, or are quicker, it tries for five seconds more, and is in doubt after that.
  *
  * MG_TIMED_OUT: it was not granted in time, as where others have it. MG_NO_SUCH_LOCK: it was purged while it waited. MG_STOPPED: mg_set_rest.
- * MG_HOST_IN_USE: somebody has the host number for so long, at most a minute; at once where it is another machine's, and errno is
+ * MG_HOST_IN_USE: somebody has the host number for so long, a minute or little more at most; at once where it is another machine's, and errno is
  * EREMOTE. MG_NO_LOCK: see errno, of its sign of life. MG_LOG_FULL, MG_NO_MAJORITY, MG_TABLE_FULL and others as of mg_enqueue. If the
  * log gets full while it waits it goes on waiting, and once that is renewed it waits in the new folder.
  *
