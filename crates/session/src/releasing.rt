@@ -1,9 +1,9 @@
-ghost use Rattle.std.specs.Prelude.{◌≡◌, ◌+◌, ◌≤◌, ◌⊎◌, ℕ, IfSome, IsTrue, Some, false, true};
+ghost use Rattle.std.specs.Prelude.{◌≡◌, ◌+◌, ◌≤◌, ◌⊎◌, IfSome, IsTrue, Some, false, true};
 ghost use Rattle.session.specs.Bounds.{is_leaving, orders_left};
 ghost use Rattle.session.specs.Choosing.{IsNext};
 ghost use Rattle.session.specs.Keeping.{Keeps, KeepsRelease, KeepsReleaseUntilOut};
 ghost use Rattle.session.specs.Moves.{Forgets, GoesOn, IsSpent, KeepsGoal, KeepsValue, MovesOn, ReleasesAnew, passed, slot_in};
-ghost use Rattle.session.specs.Outcomes.{GivesBack, IsBorneOut, IsGone, IsOut, IsUnheard, IsWithout, IsWithoutOrGiven};
+ghost use Rattle.session.specs.Outcomes.{GivesBack, IsBorneOut, IsGone, IsUnheard, IsWithout, IsWithoutOrGiven};
 
 use crate::claim::{Claim, Goal, Standing, Step, Then};
 use crate::evidence::{Seen, find, first_of, is_spared, releases};
