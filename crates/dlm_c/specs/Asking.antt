@@ -12,17 +12,18 @@ use Rattle.session.specs.Beginnings.{AsksAs, IsAnotherValue, IsNewClaim, OnlyBeg
 use Rattle.session.specs.Bounds.{IsPause, is_leaving, orders_left}
 use Rattle.session.specs.Keeping.{Keeps, KeepsRelease}
 use Rattle.session.specs.Moves.{GoesOn, KeepsGoal, KeepsValue}
-use Rattle.session.specs.Outcomes.{IsUnheard}
+use Rattle.session.specs.Outcomes.{IsUnheard, TellsWhy}
 use Rattle.session.specs.declared.beginning.Asker.{Asker}
 use Rattle.session.specs.declared.beginning.TheConstants.{LAST_TRIES}
 use Rattle.session.specs.declared.claim.Claim.{Claim}
 use Rattle.session.specs.declared.claim.Goal.{Goal}
 use Rattle.session.specs.declared.claim.Goal.TheVariants.{Take, Check, Give, GiveUp}
 use Rattle.session.specs.declared.claim.Standing.{Standing}
-use Rattle.session.specs.declared.claim.Standing.TheVariants.{Leaving, Left}
+use Rattle.session.specs.declared.claim.Standing.TheVariants.{Held, Leaving, Left}
 use Rattle.session.specs.declared.claim.Step.{Step}
 use Rattle.session.specs.declared.claim.Step.TheVariants as step
 use Rattle.session.specs.declared.outcome.Outcome.TheVariants.{Failed}
+use Rattle.session.specs.declared.outcome.Why.{Why}
 use Rattle.session.specs.declared.outcome.Why.TheVariants.{Gone, Stopped, TimeOver, Waits}
 use Rattle.dlm_c.specs.declared.asker.AskerNumbers.{AskerNumbers}
 use Rattle.c_host.specs.declared.open_host.OpenHost.{OpenHost}
@@ -98,10 +99,10 @@ abbrev pub first_step : Goal → Step
 first_step Check = step.OpeningToLook
 first_step goal = step.Opening
 
--- where the lock stands then: to be taken it stands as before, to be looked at it is not to be released, and else it is
+-- where the lock stands then: to be taken it stands as before; to be looked at too, but that one which was to be released counts as held; else it is to be released
 abbrev pub StandsFor : Goal → Standing → Standing → Type 0
 StandsFor (Take waits) old new = new ≡ old
-StandsFor Check old new = is_leaving new ≡ false
+StandsFor Check old new = new ≡ (if is_leaving old then Held else old)
 StandsFor Give old new = new ≡ Leaving
 StandsFor (GiveUp why) old new = new ≡ Leaving
 
@@ -137,14 +138,19 @@ BeginsGoalOr numbers number bytes old new status =
 
 -- IT IS TO END SOON
 
--- The operation is to end soon: it was told to stop, or time is over. It goes on as before, but that a pause ends, and leads to nothing for which something would
--- have to be heard. What may be in the log stays known.
+-- why it is to end soon: it was told to stop, or time is over
+abbrev pub why_over : Bool → Why
+why_over told = if told then Stopped else TimeOver
+
+-- The operation is to end soon. It goes on as before, but that a pause ends, and leads to nothing for which something would have to be heard; if the operation
+-- ends then, and the pause was for no failure, this is told. What may be in the log stays known.
 pub record Stops (told : Bool) (old new : Claim) : Type 0 where
-  pub over : new.over ≡ Some (if told then Stopped else TimeOver)
+  pub over : new.over ≡ Some (why_over told)
   pub soon : orders_left new ≤ 13
   pub no_pause : IsPause new.step → ⊥
   pub goes_on : (IsPause old.step → ⊥) → new ≡ record old { over = new.over; tries = LAST_TRIES }
   pub unheard : IsPause old.step → IsUnheard new
+  pub told : IsPause old.step → old.pace.failure ≡ None → TellsWhy new (why_over told)
   pub moves : GoesOn (record old { over = new.over }) new
   pub goal : KeepsGoal old new
   pub value : KeepsValue old new

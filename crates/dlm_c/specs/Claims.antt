@@ -2,11 +2,12 @@
 use Rattle.std.specs.Prelude.{◌≡◌, ◌≢◌, ◌⊎◌, ℕ, ℤ, Option, Some, None, pos, negsuc, if◌then◌else◌}
 use Rattle.lock_table.specs.Apply.{table_after}
 use Rattle.lock_table.specs.Picture.{IsPictureOf}
+use Rattle.session.specs.declared.claim.Choice.{Choice}
 use Rattle.session.specs.declared.claim.Claim.{Claim}
 use Rattle.session.specs.declared.claim.Standing.{Standing}
 use Rattle.session.specs.declared.claim.Standing.TheVariants as standing
 use Rattle.session.specs.declared.claim.Sign.{Sign}
-use Rattle.session.specs.declared.claim.Step.TheVariants.{Dropping, Ended, Resting}
+use Rattle.session.specs.declared.claim.Step.TheVariants.{Dropping, Ended, Opening, Resting, Signing}
 use Rattle.session.specs.declared.claim.Then.TheVariants.{End}
 use Rattle.session.specs.declared.learned.Learned.{Learned}
 use Rattle.session.specs.declared.order.Order.{Order}
@@ -19,6 +20,7 @@ use Rattle.session.specs.declared.outcome.Why.{Why}
 use Rattle.session.specs.declared.outcome.Why.TheVariants as why
 use Rattle.session.specs.Bounds.{ComesNearer, IsOpening}
 use Rattle.session.specs.Keeping.{IsOnSame, IsStillKnown, Keeps, KeepsRelease}
+use Rattle.session.specs.Moves.{GoesOn, KeepsGoal, KeepsValue}
 use Rattle.session.specs.Outcomes.{IsBorneOut, IsOut, IsUnheard, TellsWhy}
 use Rattle.lock_command.specs.declared.reply.Refusal.TheVariants.{NoSuchLock, StillWaiting, TableFull}
 use Rattle.dlm_c.specs.declared.claims.ClaimView.{ClaimView}
@@ -152,11 +154,14 @@ pub record HearsOn (event : ℕ) (host : OpenHost) (old new : Claim) : Type 0 wh
   pub asked : (IsOfSign event → ⊥) → StaysAsked old new
   pub release : (IsOfSign event → ⊥) → (request : ℕ) → old.release ≡ Some request → IsStillKnown request old new ⊎ IsOutBy host old request
 
--- The claim is told that nothing could be opened, or heard, for this reason. Whatever the step leads to needs nothing heard, and what may be in the log stays
--- known. If the operation ends since the folder could not be opened, it tells that failure, unless it was to end soon.
+-- The claim is told that nothing could be opened, or heard, for this reason. Whatever the step leads to needs nothing heard. What may be in the log stays known,
+-- and nothing else changes but how the operation goes on. If it ends since the folder could not be opened, it tells that failure, unless it was to end soon.
 pub record Closes (failed : Failure) (old new : Claim) : Type 0 where
   pub unheard : IsUnheard new
   pub nearer : ComesNearer old new
+  pub moves : GoesOn old new
+  pub goal : KeepsGoal old new
+  pub value : KeepsValue old new
   pub keeps : Keeps old new
   pub release : KeepsRelease old new
   pub told : IsOpening old.step → old.over ≡ None → TellsWhy new (why.Failed failed)
@@ -165,13 +170,20 @@ pub record Closes (failed : Failure) (old new : Claim) : Type 0 where
 pub record LacksSign (old new : Claim) : Type 0 where
   pub unheard : IsUnheard new
   pub nearer : ComesNearer old new
+  pub moves : GoesOn old new
+  pub goal : KeepsGoal old new
+  pub value : KeepsValue old new
   pub keeps : Keeps old new
   pub release : KeepsRelease old new
+  pub told : (choice : Choice) → old.step ≡ Signing choice → old.over ≡ None → TellsWhy new (why.Failed failure.NoLock)
 
--- A pause is over: the folder is opened next.
+-- A pause is over: the folder is opened next, under the host number where something is to be submitted. Nothing changes but what is done next.
 pub record Rests (old new : Claim) : Type 0 where
   pub unheard : IsUnheard new
   pub opens : (milliseconds : ℕ) → old.step ≡ Resting milliseconds → IsOpening new.step
+  pub submits : (milliseconds : ℕ) → old.step ≡ Resting milliseconds → (old.standing ≡ standing.Unasked) ⊎ (old.standing ≡ standing.Leaving) →
+      new.step ≡ Opening
+  pub rest : new ≡ record old { step = new.step }
   pub keeps : Keeps old new
   pub release : KeepsRelease old new
 
