@@ -9,7 +9,7 @@ use Rattle.session.specs.Outcomes.{IsOut}
 use Rattle.session.specs.declared.claim.Claim.{Claim}
 use Rattle.session.specs.declared.learned.Learned.{Learned}
 use Rattle.session.specs.declared.outcome.Failure.TheVariants.{Broken}
-use Rattle.slot_log.specs.declared.outcome.Refusal.{Refusal}
+use Rattle.attempt.specs.declared.refusal.Refusal.{Refusal}
 use Rattle.dlm_c.specs.Claims.{HearsOn, IsLearnedBy, IsOutBy, StaysAsked}
 use Rattle.dlm_c.specs.Hearing.{IsAnswered, IsRefused}
 use Rattle.c_host.specs.declared.open_host.OpenHost.{OpenHost}
