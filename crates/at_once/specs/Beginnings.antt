@@ -11,7 +11,7 @@ use Rattle.paxos_block.specs.Headers.{header_saying}
 use Rattle.paxos_block.specs.Places.{image_length}
 use Rattle.migration.specs.Fits.{Fits}
 use Rattle.migration.specs.Heard.{at_first, heard, next}
-use Rattle.migration.specs.Image.{Setup}
+use Rattle.paxos_block.specs.Image.{Setup}
 use Rattle.migration.specs.Run.{IsAllOrNothing, IsMigrated}
 use Rattle.migration.specs.declared.end.End.TheVariants.{Migrated}
 use Rattle.lock_command.specs.declared.command.Command.{Command}

@@ -1,7 +1,7 @@
 -- The numbers that C is told: those of the printed text, where it has one.
 use Rattle.std.specs.Prelude.{ℕ, ℤ, pos, negsuc, if◌then◌else◌}
-use Rattle.lock_modes.specs.declared.mode.Mode.{Mode}
-use Rattle.lock_modes.specs.declared.mode.Mode.TheVariants.{Null, ConcurrentRead, ConcurrentWrite, ProtectedRead, ProtectedWrite, Exclusive}
+use Rattle.lock_command.specs.declared.mode.Mode.{Mode}
+use Rattle.lock_command.specs.declared.mode.Mode.TheVariants.{Null, ConcurrentRead, ConcurrentWrite, ProtectedRead, ProtectedWrite, Exclusive}
 use Rattle.lock_command.specs.declared.state.LockState.{LockState}
 use Rattle.lock_command.specs.declared.state.LockState.TheVariants.{Granted as Holding, Converting, Waiting}
 use Rattle.lock_command.specs.declared.reply.Answer as table

@@ -1,6 +1,6 @@
 -- The printed text of what hosts answer.
 use Rattle.std.specs.Prelude.{ℕ, List, ◌++◌, codes, decimal, Option, Some, None, if◌then◌else◌}
-use Rattle.lock_modes.specs.declared.mode.Mode.{Mode}
+use Rattle.lock_command.specs.declared.mode.Mode.{Mode}
 use Rattle.lock_command.specs.declared.state.LockState.{LockState}
 use Rattle.lock_command.specs.declared.state.LockState.TheVariants.{Granted as Holding, Converting, Waiting}
 use Rattle.lock_command.specs.declared.reply.Answer as done

@@ -4,7 +4,7 @@ use Rattle.disk.specs.Disk.{Call, Answer, Fault}
 use Rattle.migration.specs.Fits.{HasRoom}
 use Rattle.migration.specs.Heard.{at_first, heard, next}
 use Rattle.migration.specs.History.{IsHistory}
-use Rattle.migration.specs.Image.{Setup}
+use Rattle.paxos_block.specs.Image.{Setup}
 use Rattle.migration.specs.Kept.{end_by}
 use Rattle.migration.specs.declared.end.End.{End}
 use Rattle.dlm_images.specs.Operations.{Made, GaveOne}

@@ -5,9 +5,8 @@ use disk::Disk;
 use dlm_images::{DiskHost, format_folder, open_folder, open_folder_to_read};
 use host::{Config, Refusal};
 use lock_command::{
-    Action, ClientNumber, Command, HostNumber, LockName, LockNumber, RequestNumber,
+    Action, ClientNumber, Command, HostNumber, LockName, LockNumber, Mode, RequestNumber,
 };
-use lock_modes::Mode;
 use lock_table::{Answer, LockValue, Reply};
 use std::fs;
 use std::test::Fail;

@@ -16,7 +16,7 @@ use Rattle.phases.specs.declared.heard.Heard as code_heard
 use Rattle.phases.specs.declared.heard.Heard.TheVariants as answer
 use Rattle.migration.specs.Heard.{Progress, at_first, with_boot, given_up, answered, hears, heard, next_in, next}
 use Rattle.migration.specs.History.{IsHistory, IsAnswerTo}
-use Rattle.migration.specs.Image.{Setup, header_of, block_for}
+use Rattle.paxos_block.specs.Image.{Setup, header_of, block_for}
 use Rattle.migration.specs.Kept.{setup_of, left_from, left_here, gates_later, fills_later, left_later, left_by, has_failed, boot_in, going_on, progress_of, HasBytes, IsSound, kind_at, call_due, device_answer, end_in, end_by, LeadsTo}
 use Rattle.migration.proofs.Lengths.{length-header}
 use Rattle.migration.specs.Plan.{Put, Kind, Attaching, Putting, Syncing, Opening, Due, on, blocks_from, header_calls, fills, heading, opens, filling, opening, each, schedule, call_of}

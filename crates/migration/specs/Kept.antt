@@ -12,7 +12,7 @@ use Rattle.slot_log.specs.Shape.{Shape}
 use Rattle.migration.specs.Fits.{HasRoom}
 use Rattle.migration.specs.Heard.{Progress, at_first, heard}
 use Rattle.migration.specs.History.{IsHistory}
-use Rattle.migration.specs.Image.{Setup, header_of, block_for}
+use Rattle.paxos_block.specs.Image.{Setup, header_of, block_for}
 use Rattle.migration.specs.Plan.{Kind, Attaching, Putting, Syncing, Opening, Due, on, blocks_from, header_calls, opens, filling, opening, each, call_of}
 use Rattle.migration.specs.declared.end.End.{End}
 use Rattle.migration.specs.declared.end.End.TheVariants.{Migrated, MigrationFailed}

@@ -5,7 +5,7 @@ ghost use Rattle.paxos_block.specs.Places.{image_length};
 ghost use Rattle.attempt.specs.Heard.{Fits};
 ghost use Rattle.phases.specs.Calls.{IsWithin, call_of_need, heard_of};
 ghost use Rattle.migration.specs.Heard.{at_first, heard, next};
-ghost use Rattle.migration.specs.Image.{Setup};
+ghost use Rattle.paxos_block.specs.Image.{Setup};
 ghost use Rattle.migration.specs.Kept.{LeadsTo, device_answer, call_due, end_by, setup_by, setup_of};
 
 use crate::end::End;

@@ -5,7 +5,7 @@ ghost use Rattle.disk.specs.Disk as answers;
 ghost use Rattle.paxos_block.specs.Places.{image_length};
 ghost use Rattle.phases.specs.Calls.{IsWithin, device_call_of};
 ghost use Rattle.migration.specs.Heard.{at_first, hears};
-ghost use Rattle.migration.specs.Image.{block_for};
+ghost use Rattle.paxos_block.specs.Image.{block_for};
 ghost use Rattle.migration.specs.Kept.{IsSound, FitsStage, device_answer, call_due, progress_of, going_on, left_from, fills_later, setup_by, setup_of};
 ghost use Rattle.migration.specs.Plan.{on};
 

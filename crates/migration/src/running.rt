@@ -5,7 +5,7 @@ ghost use Rattle.torn_block.specs.declared.layout.TheConstants.{VALUE_LENGTH};
 ghost use Rattle.paxos_block.specs.Places.{image_length};
 ghost use Rattle.disk.specs.Simulated.{fresh_disk};
 ghost use Rattle.migration.specs.Events.{Event, Step, Tear, FailCall, DiskCrash, DiskGone};
-ghost use Rattle.migration.specs.Image.{Setup};
+ghost use Rattle.paxos_block.specs.Image.{Setup};
 ghost use Rattle.migration.specs.Kept.{setup_by};
 ghost use Rattle.migration.specs.Running.{LeadsTo, IsReached, calm, event_of};
 

@@ -8,7 +8,7 @@ use Rattle.torn_block.specs.Block.{sequence_of, body_of, number_bytes, tail_with
 use Rattle.torn_block.specs.Place.{copy_in}
 use Rattle.paxos_block.specs.Row.{decoded_row}
 use Rattle.paxos_block.specs.Saying.{zeros, heading, body_saying, number_at, claim_of, is_said}
-use Rattle.lock_modes.specs.declared.mode.Mode.TheVariants.{Exclusive}
+use Rattle.lock_command.specs.declared.mode.Mode.TheVariants.{Exclusive}
 use Rattle.lock_command.specs.declared.command.Command.{Command}
 use Rattle.lock_command.specs.declared.command.Action.TheVariants.{Enqueue}
 use Rattle.lock_command.specs.Command.{number}

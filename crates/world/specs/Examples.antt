@@ -1,6 +1,6 @@
 -- Two short runs over one disk: the first submission, and a recovery of an empty log.
 use Rattle.std.specs.Prelude.{ℕ, false, List, [], ◌∷◌, replicate}
-use Rattle.lock_modes.specs.declared.mode.Mode.TheVariants.{Exclusive}
+use Rattle.lock_command.specs.declared.mode.Mode.TheVariants.{Exclusive}
 use Rattle.lock_command.specs.declared.command.Command.{Command}
 use Rattle.lock_command.specs.declared.command.Action.TheVariants.{Enqueue}
 use Rattle.slot_log.specs.Shape.{Shape}

@@ -1,7 +1,7 @@
 -- Of the headline. What the states of a lock say.
 use Rattle.std.specs.Prelude.{Bool, true, false}
-use Rattle.lock_modes.specs.declared.mode.Mode.{Mode}
-use Rattle.lock_modes.specs.Mode.{conflict, writes_alone}
+use Rattle.lock_command.specs.declared.mode.Mode.{Mode}
+use Rattle.lock_command.specs.Mode.{conflict, writes_alone}
 use Rattle.lock_command.specs.declared.state.LockState.{LockState}
 use Rattle.lock_command.specs.declared.state.LockState.TheVariants.{Granted, Converting, Waiting}
 

@@ -1,8 +1,8 @@
 ghost use Rattle.std.specs.Prelude.{◌≡◌, ◌<◌, ◌^◌, ℕ, OnOk};
 ghost use Rattle.std.specs.Io.KnownBytes.{Appends};
-ghost use Rattle.session.specs.Signs.{sign_name};
+ghost use Rattle.lock_command.specs.Signs.{sign_name};
 
-use lock_command::{HostNumber, LockNumber};
+use crate::number::{HostNumber, LockNumber};
 use std::io;
 use std::io::Write;
 

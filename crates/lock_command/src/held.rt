@@ -1,5 +1,5 @@
 ghost use Rattle.std.specs.Prelude.{◌≡◌, ◌+◌, ◌-◌, ◌<◌, ◌^◌, ◌↔◌, IsTrue};
-ghost use Rattle.lock_modes.specs.Mode.{conflict};
+ghost use Rattle.lock_command.specs.Mode.{conflict};
 
 use crate::mode::{Mode, compatible};
 
@@ -29,7 +29,7 @@ macro_rules! counter {
 }
 
 impl Held {
-    ghost use Rattle.lock_modes.specs.Held.{count_of, AddsMode, IsNothing, Lets, Admits};
+    ghost use Rattle.lock_command.specs.Held.{count_of, AddsMode, IsNothing, Lets, Admits};
 
     /// Nothing is held.
     pub fn new() -> Self

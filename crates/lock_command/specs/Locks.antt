@@ -1,12 +1,12 @@
 -- Of the headline. The locks as one flat list of records, and the queues of a name in it.
 use Rattle.std.specs.Prelude.{◌≡◌, ℕ, ◌==◌, Bool, false, not, ◌&&◌, List, [], ◌∷◌, ◌++◌, ◌≤◌, length, filter, find, Option, Some, None, if◌then◌else◌}
 use Rattle.std.specs.List.{list_any}
-use Rattle.lock_modes.specs.declared.mode.Mode.{Mode}
+use Rattle.lock_command.specs.declared.mode.Mode.{Mode}
 use Rattle.lock_command.specs.Name.{same_name}
-use Rattle.lock_index.specs.declared.record.LockRecord.{LockRecord}
+use Rattle.lock_command.specs.declared.record.LockRecord.{LockRecord}
 use Rattle.lock_command.specs.declared.state.LockState.{LockState}
 use Rattle.lock_command.specs.declared.state.LockState.TheVariants.{Granted}
-use Rattle.lock_index.specs.State.{is_converting, is_waiting, is_queued, goal_of, holds_against}
+use Rattle.lock_command.specs.State.{is_converting, is_waiting, is_queued, goal_of, holds_against}
 
 -- a record of the lock number
 abbrev pub is_lock : ℕ → LockRecord → Bool

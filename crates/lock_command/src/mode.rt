@@ -1,5 +1,5 @@
 ghost use Rattle.std.specs.Prelude.{◌≡◌, not, true};
-ghost use Rattle.lock_modes.specs.Mode.{conflict, downward, writes_alone};
+ghost use Rattle.lock_command.specs.Mode.{conflict, downward, writes_alone};
 
 /// What a lock permits its holder, and what it keeps others from. The modes are those of the OpenVMS lock manager.
 #[derive(Clone, Copy, Debug, PartialEq, Eq)]

@@ -1,8 +1,8 @@
 use Rattle.std.proofs.Common.{◌≡◌, ◌++◌, ◌∙◌, ℕ, List, ◌∷◌, sym, append_assoc}
 use Rattle.std.specs.Prelude.{codes, decimal}
 use Rattle.std.proofs.lemmas.Fmt.{decimal_injective}
-use Rattle.session.proofs.Points.{numbers_parted}
-use Rattle.session.proofs.signs.signs_are_of_one_lock.Goals as goal
+use Rattle.lock_command.proofs.Points.{numbers_parted}
+use Rattle.lock_command.proofs.signs.signs_are_of_one_lock.Goals as goal
 
 -- words with points between them, joined from the left and from the right
 pointed : (start a b c : List ℕ) → start ++ a ++ codes "." ++ b ++ codes "." ++ c ≡ start ++ (a ++ 46 ∷ (b ++ 46 ∷ c))
