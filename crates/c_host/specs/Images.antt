@@ -6,7 +6,7 @@ use Rattle.disk.specs.declared.fault.ImageFault.{ImageFault}
 use Rattle.disk.specs.declared.fault.ImageFault.TheVariants.{NotFormatted, WrongHeader, Unreadable, OldLayout}
 use Rattle.paxos_block.specs.declared.header.Header.{Header}
 use Rattle.paxos_block.specs.Headers.{IsFormatted, IsRight}
-use Rattle.slot_log.specs.Shape.{Shape}
+use Rattle.paxos_block.specs.Shape.{Shape}
 use Rattle.host.specs.Host.{fresh}
 use Rattle.host.specs.Kept.{LeadsTo}
 use Rattle.lock_command.specs.declared.number.TheConstants.{HOSTS}

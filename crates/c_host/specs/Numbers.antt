@@ -11,8 +11,8 @@ use Rattle.lock_command.specs.declared.reply.Answer.TheVariants.{Granted, Queued
 use Rattle.lock_command.specs.declared.reply.Refusal as refused
 use Rattle.lock_command.specs.declared.reply.Refusal.TheVariants.{NoSuchLock}
 use Rattle.lock_command.specs.Refusals as of_table
-use Rattle.slot_log.specs.declared.outcome.Refusal as operation
-use Rattle.slot_log.specs.Refusals as of_operation
+use Rattle.attempt.specs.declared.refusal.Refusal as operation
+use Rattle.attempt.specs.Refusals as of_operation
 use Rattle.disk.specs.declared.fault.ImageFault.{ImageFault}
 use Rattle.dlm_images.specs.ImageFaults.{image_fault_number}
 use Rattle.c_host.specs.declared.answer.Answer.{Answer}

@@ -5,7 +5,7 @@ use Rattle.disk.specs.Disk.{Device, Call, Answer}
 use Rattle.disk.specs.FileStates.{FileState, FileGives}
 use Rattle.torn_block.specs.Layout.{cluster_version}
 use Rattle.paxos_block.specs.Places.{image_length}
-use Rattle.slot_log.specs.Shape.{Shape}
+use Rattle.paxos_block.specs.Shape.{Shape}
 use Rattle.dlm_images.specs.Layout.{header_of}
 use Rattle.dlm_images.specs.Formatting.{FirstBecame, HaveRoom}
 use Rattle.dlm_images.specs.Finishing.{AreFinished, AreLeft, AreThere, HaveSize, IsLeft, OpensFound, StopsFinishing, WereFinished}

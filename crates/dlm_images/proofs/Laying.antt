@@ -11,7 +11,7 @@ use Rattle.torn_block.specs.declared.block.TheConstants.{OPEN_GATE}
 use Rattle.torn_block.specs.Layout.{cluster_version}
 use Rattle.paxos_block.specs.declared.header.Header.{Header}
 use Rattle.paxos_block.specs.Headers.{header_saying}
-use Rattle.slot_log.specs.Shape.{Shape}
+use Rattle.paxos_block.specs.Shape.{Shape}
 use Rattle.dlm_images.specs.Layout.{IsLaidOut, AreLaidOut, closed_header, header_of}
 use Rattle.dlm_images.specs.Formatting.{IsLaidOutClosed, HasGateOpened, MakesOnly, nothing, and_then, OpensGate, OpensNoGate, EachBecame, FirstBecame, AreClosed, AreOpened, AreLaidOutTogether, AreNew, StopsOpening, StopsLaying}
 use Rattle.dlm_images.specs.declared.layout.LayFault.{LayFault}

@@ -11,7 +11,7 @@ use Rattle.disk.specs.FileStates.{FileState}
 use Rattle.paxos_block.specs.declared.header.Header.{Header}
 use Rattle.paxos_block.specs.Headers.{IsHeader}
 use Rattle.paxos_block.specs.Places.{image_length}
-use Rattle.slot_log.specs.Shape.{Shape}
+use Rattle.paxos_block.specs.Shape.{Shape}
 use Rattle.dlm_images.specs.Sets.{Found, AreImages, HasNumbers}
 use Rattle.dlm_images.specs.Folders.{IsDiskOf, IsOpened, missing, resized}
 use Rattle.dlm_images.specs.declared.fault.FolderFault.{FolderFault}

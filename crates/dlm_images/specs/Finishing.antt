@@ -9,7 +9,7 @@ use Rattle.torn_block.specs.declared.block.TheConstants.{OPEN_GATE}
 use Rattle.paxos_block.specs.declared.header.Header.{Header}
 use Rattle.paxos_block.specs.Headers.{header_saying}
 use Rattle.paxos_block.specs.Places.{image_length}
-use Rattle.slot_log.specs.Shape.{Shape}
+use Rattle.paxos_block.specs.Shape.{Shape}
 use Rattle.dlm_images.specs.Folders.{HasToldFirst}
 use Rattle.dlm_images.specs.Formatting.{EachBecame, MakesOnly}
 use Rattle.dlm_images.specs.Layout.{header_of}

@@ -10,7 +10,7 @@ use Rattle.torn_block.specs.declared.layout.TheConstants.{HEADER_LENGTH}
 use Rattle.paxos_block.specs.declared.header.Header.{Header}
 use Rattle.paxos_block.specs.Headers.{IsRight, IsFormatted}
 use Rattle.paxos_block.specs.Places.{image_length}
-use Rattle.slot_log.specs.Shape.{Shape}
+use Rattle.paxos_block.specs.Shape.{Shape}
 use Rattle.dlm_images.specs.Headers.{IsOld, HasWrongHeader, told_length}
 use Rattle.dlm_images.specs.Sets.{Found, AreImages, HasNumbers}
 use Rattle.dlm_images.specs.declared.host_lock.LockFault.{LockFault}

@@ -7,7 +7,7 @@ use Rattle.torn_block.specs.Layout.{cluster_version}
 use Rattle.torn_block.specs.declared.block.TheConstants.{OPEN_GATE}
 use Rattle.paxos_block.specs.declared.header.Header.{Header}
 use Rattle.paxos_block.specs.Places.{image_length}
-use Rattle.slot_log.specs.Shape.{Shape}
+use Rattle.paxos_block.specs.Shape.{Shape}
 use Rattle.dlm_images.specs.Layout.{WritesZeros, IsLaidOut, closed_header, header_of}
 use Rattle.dlm_images.specs.declared.layout.LayFault.{LayFault}
 use Rattle.dlm_images.specs.declared.layout.LayFault.TheVariants.{NotWhole, NotOpened}

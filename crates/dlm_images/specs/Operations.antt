@@ -7,7 +7,7 @@ use Rattle.disk.specs.Disk.{Call, Answer}
 use Rattle.attempt.specs.Answers.{heard_as}
 use Rattle.attempt.specs.History.{Fits}
 use Rattle.attempt.specs.Looking.{OnlyReads}
-use Rattle.slot_log.specs.Shape.{Shape}
+use Rattle.paxos_block.specs.Shape.{Shape}
 use Rattle.lock_command.specs.declared.command.Command.{Command}
 use Rattle.lock_command.specs.declared.reply.Reply.{Reply}
 use Rattle.host.specs.Host.{Memory, Doing, Attempts, Operation, Submitting, Recovering, goes_on, starts_marking, looks_on, hears_from, next_in, reply_after}

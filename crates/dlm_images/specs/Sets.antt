@@ -4,7 +4,7 @@ use Rattle.torn_block.specs.declared.layout.TheConstants.{DISKS}
 use Rattle.disk.specs.declared.fault.ImageFault.{ImageFault}
 use Rattle.paxos_block.specs.declared.header.Header.{Header}
 use Rattle.paxos_block.specs.Headers.{IsHeader}
-use Rattle.slot_log.specs.Shape.{Shape}
+use Rattle.paxos_block.specs.Shape.{Shape}
 
 -- what was found of each image: its right header, or why it is refused
 abbrev pub Found : Type 0

@@ -1,7 +1,7 @@
 -- Which fault a task makes of a refusal of its parts.
 use Rattle.lock_script.specs.declared.script.ScriptFault.{ScriptFault}
 use Rattle.lock_script.specs.declared.script.ScriptFault.TheVariants as script
-use Rattle.slot_log.specs.declared.outcome.Refusal.{Refusal}
+use Rattle.attempt.specs.declared.refusal.Refusal.{Refusal}
 use Rattle.dlm_images.specs.declared.fault.FolderFault.{FolderFault}
 use Rattle.dlm_images.specs.declared.fault.FolderFault.TheVariants as folder
 use Rattle.dlm_images.specs.declared.check.Finding.{Finding}

@@ -21,7 +21,7 @@ use host::Config;
 use inspect::queues;
 use lock_command::{ClientNumber, Command, HostNumber};
 use lock_table::Table;
-use slot_log::SlotCount;
+use paxos_block::SlotCount;
 use std::alloc::Global;
 use std::fs::OpenFile;
 use std::io;

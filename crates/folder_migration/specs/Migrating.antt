@@ -7,9 +7,9 @@ use Rattle.disk.specs.declared.fault.DiskFault.{DiskFault}
 use Rattle.disk.specs.declared.fault.ImageFault.TheVariants.{Unreadable}
 use Rattle.disk.specs.FileStates.{FileState, FileGives}
 use Rattle.paxos_block.specs.Places.{image_length}
-use Rattle.slot_log.specs.Shape.{Shape}
+use Rattle.paxos_block.specs.Shape.{Shape}
 use Rattle.slot_log.specs.declared.outcome.LogOutcome.TheVariants.{Refused as Ended}
-use Rattle.slot_log.specs.declared.outcome.Refusal.{Refusal}
+use Rattle.attempt.specs.declared.refusal.Refusal.{Refusal}
 use Rattle.migration.specs.declared.end.End.{End}
 use Rattle.migration.specs.declared.end.End.TheVariants as end
 use Rattle.dlm_images.specs.Folders.{IsLockFault, IsOpened}

@@ -1,7 +1,7 @@
 -- What a migration from old disks to new ones came to, and why one stops.
 use Rattle.std.specs.Prelude.{◌≡◌, ℕ, List, length}
 use Rattle.disk.specs.Disk.{Call, Answer}
-use Rattle.slot_log.specs.Shape.{Shape}
+use Rattle.paxos_block.specs.Shape.{Shape}
 use Rattle.slot_log.specs.declared.outcome.LogOutcome.TheVariants.{Refused as Ended}
 use Rattle.migration.specs.Kept.{setup_by}
 use Rattle.migration.specs.declared.end.End.{End}

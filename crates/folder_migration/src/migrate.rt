@@ -8,7 +8,7 @@ use crate::migrating::migrate_disks;
 use crate::new_folder::{first_host, make_free_images, open_new_folder};
 use dlm_images::{Access, FolderFault, TryLock, find_folder, lock_host, open_images};
 use host::Config;
-use slot_log::SlotCount;
+use paxos_block::SlotCount;
 use std::fs::OpenFile;
 use std::os::unix::fs::FileExt;
 use std::rt::Files;

@@ -11,9 +11,9 @@ use Rattle.disk.specs.declared.boot.Boot.{Boot}
 use Rattle.torn_block.specs.Layout.{cluster_version}
 use Rattle.paxos_block.specs.Headers.{header_saying}
 use Rattle.paxos_block.specs.Places.{place_of, VoteOf}
-use Rattle.phases.specs.Calls.{heard_of}
-use Rattle.phases.specs.declared.heard.Heard as code_heard
-use Rattle.phases.specs.declared.heard.Heard.TheVariants as answer
+use Rattle.attempt.specs.DeviceCalls.{heard_of}
+use Rattle.attempt.specs.declared.heard.Heard as code_heard
+use Rattle.attempt.specs.declared.heard.Heard.TheVariants as answer
 use Rattle.migration.specs.Heard.{Progress, at_first, with_boot, given_up, answered, hears, heard, next_in, next}
 use Rattle.migration.specs.History.{IsHistory, IsAnswerTo}
 use Rattle.paxos_block.specs.Image.{Setup, header_of, block_for}

@@ -12,10 +12,9 @@ ghost use Rattle.migration.specs.Running.{LeadsTo, IsReached, calm, event_of};
 use crate::device_call::{is_refused, is_write, spoil};
 use crate::event::MigrationEvent;
 use crate::migrator::Migrator;
+use attempt::{Heard, answer_of};
 use disk::{DiskFault, NoMemory, SimDisk};
-use paxos_block::Value;
-use phases::{Heard, answer_of};
-use slot_log::Config;
+use paxos_block::{Config, Value};
 use std::alloc::Global;
 use torn_block::{ClusterLayout, ROW_LENGTH};
 

@@ -6,4 +6,5 @@ pub mod Image
 pub mod Places
 pub mod Row
 pub mod Saying
+pub mod Shape
 pub mod Votes

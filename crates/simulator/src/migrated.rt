@@ -15,8 +15,7 @@ ghost use Rattle.simulator.specs.Kept.{calm};
 use disk::{Boot, Disk, NoMemory, SimDisk};
 use lock_command::{Command, Value};
 use migration::row_for;
-use paxos_block::row_place;
-use slot_log::Config;
+use paxos_block::{Config, row_place};
 use std::alloc::Global;
 use torn_block::ClusterLayout;
 

@@ -14,8 +14,8 @@ use Rattle.lock_command.specs.declared.command.Action.TheVariants.{Enqueue}
 use Rattle.lock_command.specs.Command.{number}
 use Rattle.lock_command.specs.Reading.{lock_at, request_at, mode_of, name_at, enqueue_at, action_at, command_at}
 use Rattle.lock_table.specs.Apply.{applied, granted}
-use Rattle.slot_log.specs.Shape.{Shape}
-use Rattle.slot_log.specs.declared.outcome.Refusal.TheVariants as refusal
+use Rattle.paxos_block.specs.Shape.{Shape}
+use Rattle.attempt.specs.declared.refusal.Refusal.TheVariants as refusal
 use Rattle.host.specs.declared.answer.HostAnswer.{HostAnswer}
 use Rattle.host.specs.declared.answer.HostAnswer.TheVariants.{Ack, Recovered, Looked, Marked, Refused}
 use Rattle.host.specs.declared.task.Task.TheVariants.{Submit, Recover, Look, Mark}

@@ -7,7 +7,7 @@ use Rattle.paxos_block.specs.Places.{row_place}
 use Rattle.paxos_block.specs.Image.{rows_for}
 use Rattle.lock_command.specs.declared.command.Command.{Command}
 use Rattle.lock_command.specs.Command.{spelling}
-use Rattle.slot_log.specs.Shape.{Shape}
+use Rattle.paxos_block.specs.Shape.{Shape}
 use Rattle.host.specs.declared.task.Task.{Task}
 use Rattle.host.specs.Host.{Host, Stopped, Running, fresh, starts, hears_from}
 

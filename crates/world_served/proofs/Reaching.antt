@@ -20,7 +20,7 @@ use Rattle.lock_command.specs.Reading.{lock_at, request_at, mode_of, name_at, en
 use Rattle.lock_table.specs.Apply.{applied, granted, without_value}
 use Rattle.lock_command.specs.Locks.{settled}
 use Rattle.lock_command.specs.declared.reply.Answer.TheVariants.{Queued}
-use Rattle.slot_log.specs.Shape.{Shape}
+use Rattle.paxos_block.specs.Shape.{Shape}
 use Rattle.host.specs.declared.answer.HostAnswer.{HostAnswer}
 use Rattle.host.specs.declared.answer.HostAnswer.TheVariants.{Ack}
 use Rattle.host.specs.Host.{Host, Stopped, Running, fresh, is_stopped, idles, said_of}

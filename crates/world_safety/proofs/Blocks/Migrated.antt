@@ -27,7 +27,7 @@ use Rattle.migration.proofs.Rows.{with_rows, rows_hold, rows_hold_no_more}
 use Rattle.lock_command.specs.declared.command.Command.{Command}
 use Rattle.lock_command.specs.Command.{spelling}
 use Rattle.lock_command.proofs.Lengths.{spelling_long}
-use Rattle.slot_log.specs.Shape.{Shape}
+use Rattle.paxos_block.specs.Shape.{Shape}
 use Rattle.world.specs.Entry.{migrated_to}
 use Rattle.world.specs.World.{CanMigrate, opening_disk, ReadsBack}
 use Rattle.agreement.specs.State.{Cell}
