@@ -3,7 +3,7 @@
 each place.
 
 The list is what the definitions and the program have: specs/ of lock_command (the lock table), of attempt (an operation of a host) and of
-dlm_images (an image), which the code is proved to follow, and the texts of the program's own faults in dlm_tasks. The status is 1 where a refusal
+folders (an image), which the code is proved to follow, and the texts of the program's own faults in dlm_tasks. The status is 1 where a refusal
 is missing, doubled, or has another number or name."""
 
 import os
@@ -15,7 +15,7 @@ TOP = os.path.dirname(os.path.dirname(os.path.realpath(__file__)))
 SPECS = {
     "table": "crates/lock_command/specs/Refusals.antt",
     "operation": "crates/attempt/specs/Refusals.antt",
-    "image": "crates/dlm_images/specs/ImageFaults.antt",
+    "image": "crates/folders/specs/ImageFaults.antt",
 }
 PROGRAM = "crates/dlm_tasks/src/fault.rt"
 THREADS = "crates/dlm/specs/RaceText.antt"

@@ -14,7 +14,7 @@ use Rattle.lock_command.specs.Refusals as of_table
 use Rattle.attempt.specs.declared.refusal.Refusal as operation
 use Rattle.attempt.specs.Refusals as of_operation
 use Rattle.disk.specs.declared.fault.ImageFault.{ImageFault}
-use Rattle.dlm_images.specs.ImageFaults.{image_fault_number}
+use Rattle.folders.specs.ImageFaults.{image_fault_number}
 use Rattle.c_host.specs.declared.answer.Answer.{Answer}
 use Rattle.c_host.specs.declared.fault.Fault.{Fault}
 use Rattle.c_host.specs.declared.fault.Fault.TheVariants as fault

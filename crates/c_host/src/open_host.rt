@@ -15,7 +15,7 @@ use crate::images::{Images, Opened, found_in, told_of};
 use crate::request::{Request, host_of};
 use attempt::{DeviceCall, Heard, Need};
 use disk::Boot;
-use dlm_images::set_of;
+use folders::set_of;
 use host::{Config, HostCore};
 use std::alloc::Global;
 

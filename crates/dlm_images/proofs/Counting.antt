@@ -30,7 +30,8 @@ use Rattle.host.specs.Kept.{MayBegin}
 use Rattle.host.specs.declared.task.Task.{Task}
 use Rattle.host.specs.declared.task.Task.TheVariants as tasks
 use Rattle.host.proofs.Hosts.{learned-goes_on}
-use Rattle.dlm_images.specs.Operations.{Made, Gave, after_call, after_made, IsDue, AreDue, Standing, HasCarriedOut, HasOperated, HasMarked, HasLooked, IsSmall, Rests}
+use Rattle.dlm_images.specs.Operations.{Made, Gave, after_call, after_made, IsDue, AreDue, Standing, HasCarriedOut, HasOperated, HasMarked, HasLooked, Rests}
+use Rattle.folders.specs.Folders.{IsSmall}
 use Rattle.dlm_images.specs.Tasks.{MayBeAsked, StaysWithin}
 use Rattle.dlm_images.specs.Marking.{HasMarkedFrom, RecoversAndMarks, calls_of, leaves_a_mark}
 use Rattle.dlm_images.proofs.Driving.{answered, leads_then, known_then, same_shape, marked_ends, looked_reads}

@@ -131,11 +131,6 @@ Ends operation learned said = ⊥
 
 -- BETWEEN TASKS
 
--- no more disks and slots than there may be
-pub record IsSmall (c : Shape) : Type 0 where
-  pub disks : c.disks ≤ DISKS
-  pub slots : c.slots ≤ SLOTS
-
 -- Something is known of the host, and nothing is under way. It has a disk at least, and each has room for an image; and there is
 -- room in the log for what it has learned.
 pub record Rests {D : Type 0} (size : D → ℕ) (s : Standing D) : Type 0 where

@@ -8,7 +8,7 @@ use Rattle.paxos_block.specs.Image.{Setup}
 use Rattle.migration.specs.Kept.{end_by}
 use Rattle.migration.specs.declared.end.End.{End}
 use Rattle.dlm_images.specs.Operations.{Made, GaveOne}
-pub use Rattle.dlm_images.specs.Damage.{AreLarge}
+pub use Rattle.folders.specs.Damage.{AreLarge}
 
 -- Each call that was due was made, in turn, and its disk gave the answer.
 pub data Makes {D : Type 0} (gives : D → Call → Answer → D → Type 0) (s : Setup) (old : List D) : List Answer → List D → Type 0 where

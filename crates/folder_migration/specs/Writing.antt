@@ -6,7 +6,7 @@ use Rattle.slot_log.specs.declared.outcome.LogOutcome.TheVariants.{Refused as En
 use Rattle.migration.specs.Kept.{setup_by}
 use Rattle.migration.specs.declared.end.End.{End}
 use Rattle.migration.specs.declared.end.End.TheVariants as end
-use Rattle.dlm_images.specs.declared.fault.FolderFault.{FolderFault}
+use Rattle.folders.specs.declared.fault.FolderFault.{FolderFault}
 use Rattle.folder_migration.specs.Moving.{HasMoved}
 use Rattle.folder_migration.specs.Recovery.{HasRecovered, RecoversTo}
 use Rattle.folder_migration.specs.declared.fault.MoveFault.{MoveFault}

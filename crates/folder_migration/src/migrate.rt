@@ -6,7 +6,7 @@ use crate::finishing::{finish, has_gate};
 use crate::gate::Gate;
 use crate::migrating::migrate_disks;
 use crate::new_folder::{first_host, make_free_images, open_new_folder};
-use dlm_images::{Access, FolderFault, TryLock, find_folder, lock_host, open_images};
+use folders::{Access, FolderFault, TryLock, find_folder, lock_host, open_images};
 use host::Config;
 use paxos_block::SlotCount;
 use std::fs::OpenFile;
