@@ -1,5 +1,5 @@
 -- What a claim hears of a host leaves it on the same lock.
-use Rattle.std.proofs.Common.{◌≡◌, ◌⊎◌, ℕ, Option, None, Some, inl, inr, refl}
+use Rattle.std.proofs.Common.{◌≡◌, ◌≢◌, ◌⊎◌, ℕ, Option, None, Some, inl, inr, refl, arith}
 use Rattle.host.specs.declared.answer.HostAnswer.{HostAnswer}
 use Rattle.host.specs.declared.answer.HostAnswer.TheVariants.{Ack, Recovered, Looked, Beaten, Marked, Refused}
 use Rattle.lock_command.specs.declared.reply.Reply.{Reply}
@@ -11,7 +11,7 @@ use Rattle.session.specs.declared.learned.Learned.{Learned}
 use Rattle.session.specs.declared.outcome.Failure.TheVariants.{Broken}
 use Rattle.attempt.specs.declared.refusal.Refusal.{Refusal}
 use Rattle.dlm_c.specs.Claims.{HearsOn, IsLearnedBy, IsOutBy, StaysAsked}
-use Rattle.dlm_c.specs.Hearing.{IsAnswered, IsRefused}
+use Rattle.dlm_c.specs.Hearing.{IsAnswered, IsEvent, IsRefused}
 use Rattle.c_host.specs.declared.open_host.OpenHost.{OpenHost}
 
 -- It is the same lock, and stays asked for.
@@ -63,3 +63,7 @@ other_answer (Some (Looked length)) l old new done refused is = is
 other_answer (Some (Beaten host)) l old new done refused is = is
 other_answer (Some (Marked count)) l old new done refused is = is
 other_answer (Some (Refused refusal)) l old new done refused is = absurd (refused refusal refl)
+
+-- a number that is none of these is that of no event
+pub no_event : (event : ℕ) → event ≢ 1 → event ≢ 2 → event ≢ 3 → event ≢ 4 → event ≢ 5 → event ≢ 6 → event ≢ 7 → IsEvent event → ⊥
+no_event event one two three four five six seven is = omega (arith, is.0, is.1, one, two, three, four, five, six, seven)

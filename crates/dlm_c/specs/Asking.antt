@@ -144,13 +144,13 @@ why_over told = if told then Stopped else TimeOver
 
 -- The operation is to end soon. It goes on as before, but that a pause ends, and leads to nothing for which something would have to be heard; if the operation
 -- ends then, and the pause was for no failure, this is told. What may be in the log stays known.
-pub record Stops (told : Bool) (old new : Claim) : Type 0 where
-  pub over : new.over ≡ Some (why_over told)
+pub record Stops (stopped : Bool) (old new : Claim) : Type 0 where
+  pub over : new.over ≡ Some (why_over stopped)
   pub soon : orders_left new ≤ 13
   pub no_pause : IsPause new.step → ⊥
   pub goes_on : (IsPause old.step → ⊥) → new ≡ record old { over = new.over; tries = LAST_TRIES }
   pub unheard : IsPause old.step → IsUnheard new
-  pub told : IsPause old.step → old.pace.failure ≡ None → TellsWhy new (why_over told)
+  pub told : IsPause old.step → old.pace.failure ≡ None → TellsWhy new (why_over stopped)
   pub moves : GoesOn (record old { over = new.over }) new
   pub goal : KeepsGoal old new
   pub value : KeepsValue old new

@@ -127,9 +127,9 @@ MovesUnread event old new = ((event ≡ 7) × DropsUnread old new) ⊎ ((event �
 -- THE WHOLE
 
 -- The host has learned this, and C says whether a process that is gone holds the name.
-pub record IsHeardBy (host : OpenHost) (left_over : Bool) (l : Learned) : Type 0 where
+pub record IsHeardBy (host : OpenHost) (told : Bool) (l : Learned) : Type 0 where
   pub learned : IsLearnedBy host l
-  pub left_over : l.left_over ≡ left_over
+  pub left_over : l.left_over ≡ told
 
 -- The claim moves by what C says and the host has learned, or memory was refused.
 abbrev pub Moves : ℕ → ℤ → Bool → OpenHost → Claim → Claim → Type 0

@@ -1,11 +1,12 @@
 -- What the host has learned is the same in each of them.
-use Rattle.std.proofs.Common.{rules, refl, inl, inr}
+use Rattle.std.proofs.Common.{rules, ℤ, refl, inl, inr, subst}
+use Rattle.std.proofs.Math.Facts.{to_z-of_z}
 use Rattle.session.specs.declared.learned.Learned.{Learned}
 use Rattle.session.specs.declared.outcome.Failure.TheVariants.{Broken}
 use Rattle.c_host.specs.Numbers.{operation_number}
-use Rattle.dlm_c.specs.Claims.{IsFailureOf, IsLearnedBy}
-use Rattle.dlm_c.specs.Hearing.{IsHeardBy, IsRefused, IsReplied}
-use Rattle.dlm_c.proofs.Heard.{hears_by, keeps, opens, other_answer, tells}
+use Rattle.dlm_c.specs.Claims.{Closes, IsFailureOf, IsLearnedBy}
+use Rattle.dlm_c.specs.Hearing.{IsEvent, IsHeardBy, IsRefused, IsReplied}
+use Rattle.dlm_c.proofs.Heard.{hears_by, keeps, no_event, opens, other_answer, tells}
 use Rattle.dlm_c.proofs.claims.hear.Goals as goal
 
 pub returns-in-1-clause-on : goal.returns-in-1-clause-on
@@ -241,4 +242,28 @@ returns-in-4-clause-moves c =
       keeps = c.refused-in-4.ensures.keeps;
       told = c.refused-in-4.ensures.told;
     } in
-    (l, by, inr (inr (inr (inl (search rules, (c.failure_of-in-4.result, c.failure_of-in-4.ensures, refused))))))
+    let is : IsFailureOf c.args.status c.failure_of-in-4.result
+    = subst (λ (status : ℤ). IsFailureOf status c.failure_of-in-4.result) (to_z-of_z c.ranges.status.sfits) c.failure_of-in-4.ensures in
+    (l, by, inr (inr (inr (inl (search rules, (c.failure_of-in-4.result, is, refused))))))
+
+pub returns-in_default-clause-moves : goal.returns-in_default-clause-moves
+returns-in_default-clause-moves c =
+    let l : Learned
+    = record { set = c.args.host.now.cluster; slots = c.slots.result; log = c.prefix.result; table = c.args.table; left_over = c.args.left_over } in
+    let by : IsHeardBy c.args.host.now c.args.left_over l = record {
+      learned = record { set = refl; slots = search rules; log = search rules; table = c.requires.table };
+      left_over = refl;
+    } in
+    let closed : Closes Broken c.args.claim.now c.closed.new.self = record {
+      unheard = c.closed.ensures.unheard;
+      nearer = c.closed.ensures.nearer;
+      moves = c.closed.ensures.moves;
+      goal = c.closed.ensures.goal;
+      value = c.closed.ensures.value;
+      keeps = c.closed.ensures.keeps;
+      release = c.closed.ensures.release;
+      told = c.closed.ensures.told;
+    } in
+    let none : IsEvent c.args.event → ⊥
+    = no_event c.args.event (search rules) (search rules) (search rules) (search rules) (search rules) (search rules) (search rules) in
+    (l, by, inr (inr (inr (inr (inr (inr (inr (none, closed))))))))
