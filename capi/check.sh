@@ -102,6 +102,16 @@ tried "format, built" cc -std=c99 $common -x c - $flags -o "$work/format" << 'EN
 #include <stdlib.h>
 int main(int argc, char **argv) { return argc == 3 && mg_format(argv[1], 3, (unsigned)atoi(argv[2]), 7, NULL) == MG_OK ? 0 : 1; }
 END
+# The images are those of dlm format, and a loss of power within it leaves no set of fewer.
+tried "as_dlm, built" cc -std=c99 $common "$here/tests/as_dlm.c" $flags -o "$work/as_dlm"
+if [[ -x $dlm ]]; then
+    folder
+    mkdir -- "$work/images/"{dlm,mg}
+    tried "the images of dlm format" bash -c '"$1" format "$3/dlm" 3 64 7 && DLM=/nowhere "$2" format "$3/mg" 3 64 7 && diff -r "$3/dlm" "$3/mg"' _ "$dlm" "$work/as_dlm" "$work/images"
+    if command -v python3 > /dev/null; then
+        tried "losses of power within mg_format" env DLM="$dlm" PYTHONDONTWRITEBYTECODE=1 "$top/tests/power_loss.py" --program "$work/as_dlm" --format --steps 0
+    fi
+fi
 headers() { for disk in 0 1 2; do head -c 4096 -- "$work/images/disk$disk.img"; done | sha256sum; }
 folder
 tried "format" "$work/format" "$work/images" 64
