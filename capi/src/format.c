@@ -190,7 +190,7 @@ static int look_at_all(struct plan *plan, bool *finishes, unsigned *disk) {
     return judge_all(plan, finishes, disk);
 }
 
-/* ---- making: as format_folder and lay_out of crates/dlm_images ---- */
+/* ---- making: as dlm format does ---- */
 
 static bool sync_folder(const char *folder) {
     int file = open_file(folder, O_RDONLY);
