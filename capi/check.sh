@@ -109,7 +109,7 @@ if [[ -x $dlm ]]; then
     mkdir -- "$work/images/"{dlm,mg}
     tried "the images of dlm format" bash -c '"$1" format "$3/dlm" 3 64 7 && DLM=/nowhere "$2" format "$3/mg" 3 64 7 && diff -r "$3/dlm" "$3/mg"' _ "$dlm" "$work/as_dlm" "$work/images"
     if command -v python3 > /dev/null; then
-        tried "losses of power within mg_format" env DLM="$dlm" PYTHONDONTWRITEBYTECODE=1 "$top/tests/power_loss.py" --program "$work/as_dlm" --format --steps 0
+        tried "losses of power within mg_format" env DLM="$dlm" PYTHONDONTWRITEBYTECODE=1 "$top/tests/power_loss.py" --program "$work/as_dlm" --format --steps 0 --states 2
     fi
 fi
 headers() { for disk in 0 1 2; do head -c 4096 -- "$work/images/disk$disk.img"; done | sha256sum; }
