@@ -7,13 +7,12 @@ ghost use Rattle.lock_command.specs.Command.{spelling};
 ghost use Rattle.lock_command.specs.Reading.{decoded};
 ghost use Rattle.lock_table.specs.Apply.{table_after};
 ghost use Rattle.lock_table.specs.Picture.{IsPictureOf};
-ghost use Rattle.phases.specs.Calls.{call_of_need, heard_of, IsWithin};
+ghost use Rattle.attempt.specs.DeviceCalls.{call_of_need, heard_of, IsWithin, device_answer};
 ghost use Rattle.slot_log.specs.Kept as learners;
 ghost use Rattle.slot_log.specs.Kept.{offered_of};
 ghost use Rattle.slot_log.specs.Learning as log;
-ghost use Rattle.slot_log.specs.Shape.{Shape};
+ghost use Rattle.paxos_block.specs.Shape.{Shape};
 ghost use Rattle.host.specs.Alone.{IsAnsweredAlone, HasHeardFew};
-ghost use Rattle.beats.specs.Calls.{device_answer};
 ghost use Rattle.host.specs.Host as hosts;
 ghost use Rattle.host.specs.Host.{Memory, Submitting, Recovering, fresh, goes_on, hears_from, looks_on, does, Beats, starts, starts_marking, suggested, takes_marked, next_in, reply_after};
 ghost use Rattle.host.specs.Kept.{Kept, LeadsTo, AcknowledgesNone, MayBegin, answer_of, is_idle, is_nothing, is_looking, is_beating, is_marking, due_call, option_list};
@@ -22,16 +21,16 @@ ghost use Rattle.host.specs.declared.beside.Beside.TheVariants as beside;
 use crate::answer::HostAnswer;
 use crate::beside::Beside;
 use crate::task::Task;
-use beats::{Beat, End, Readings};
+use attempt::{Heard, Need, Refusal};
 use disk::NoMemory;
 use heartbeat::suggest;
 use lock_command::{Command, HostNumber, ValueBytes, decode};
 use lock_table::{Reply, Table};
-use looks::Look;
-use marks::Marking;
-use paxos_block::Value;
-use phases::{Heard, Need};
-use slot_log::{Config, Learner, LogOutcome, Refusal};
+use paxos_block::{Config, Value};
+use rounds::beats::{Beat, End, Readings};
+use rounds::looks::{self, Look};
+use rounds::marks::{self, Marking};
+use slot_log::{Learner, LogOutcome};
 use std::alloc::Global;
 use std::marker::Model;
 use torn_block::ClusterLayout;
@@ -171,7 +170,6 @@ impl HostCore {
     /// Begins a `Task::Submit`.
     pub fn submit(&mut self, command: Command, tries: u8)
         requires idle { is_idle self.old ≡ true }
-        requires host { command.host ≡ self.old.learner.host }
         requires tries { 1 ≤ tries }
         ensures { (c : Shape) (h : ℕ) (m : Memory) → LeadsTo c h m self.old →
             LeadsTo c h (goes_on c m (Submitting command) tries) self.new }

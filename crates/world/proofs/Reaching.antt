@@ -11,7 +11,7 @@ use Rattle.disk.specs.Crash.{IsWhole}
 use Rattle.disk.specs.Filling.{nth_given, spread, filled}
 use Rattle.disk.specs.Simulated.{refusal_under, refusal_of}
 use Rattle.torn_block.specs.declared.layout.TheConstants.{HOSTS}
-use Rattle.slot_log.specs.Shape.{Shape}
+use Rattle.paxos_block.specs.Shape.{Shape}
 use Rattle.host.specs.declared.task.Task.{Task}
 use Rattle.host.specs.declared.task.Task.TheVariants.{Submit, Recover, Look, Beat, Mark}
 use Rattle.host.specs.Host.{next_of}
@@ -227,7 +227,7 @@ module _ (c : Shape) (w : World) (whole : (k : ℕ) → IsWhole (w.disk k)) wher
 
   -- a task that may be given is
   given : (h : ℕ) (task : Task) → MayBeGiven c h task → task_entry c h task ≡ Some (entries.Begin h task)
-  given h (Submit command tries) may = brought_if _ _ (lt-ltb 0 tries may.2) ∙ ap (submitted h tries) may.0 ∙ brought_if _ _ (both_true (eq-eqb command.host h may.1) may.3)
+  given h (Submit command tries) may = brought_if _ _ (lt-ltb 0 tries may.1) ∙ ap (submitted h tries) may.0 ∙ brought_if _ _ may.2
   given h (Recover tries) may = brought_if _ _ (lt-ltb 0 tries may)
   given h Look may = refl
   given h Beat may = refl
