@@ -1,7 +1,6 @@
 -- A task of a host, from answer to answer, and how an operation ends.
 use Rattle.std.specs.Prelude.{◌≡◌, ◌≤◌, ℕ, true, List, [], ◌∷◌, ◌++◌, length, slice_get, slice_set, Option, Some}
 use Rattle.torn_block.specs.Layout.{cluster_version}
-use Rattle.torn_block.specs.declared.layout.TheConstants.{DISKS, SLOTS}
 use Rattle.paxos_block.specs.Places.{image_length}
 use Rattle.disk.specs.Disk.{Call, Answer}
 use Rattle.attempt.specs.Answers.{heard_as}
