@@ -36,7 +36,7 @@ pub record HasReadZeros {D : Type 0} (gives : D → Call → Answer → D → Ty
 
 -- a read showed a byte that is not zero, or was answered with a fault
 pub data ReadsNoZeros {D : Type 0} (gives : D → Call → Answer → D → Type 0) (boot at len : ℕ) (old new : D) : Type 0 where
-  other : (bytes : List ℕ) → list_all (λ b. b == 0) bytes ≡ false → gives old (Read boot at len) (Told bytes) new → ReadsNoZeros gives boot at len old new
+  not_zero : (bytes : List ℕ) → list_all (λ b. b == 0) bytes ≡ false → gives old (Read boot at len) (Told bytes) new → ReadsNoZeros gives boot at len old new
   failed : (fault : DiskFault) → gives old (Read boot at len) (Fault fault) new → ReadsNoZeros gives boot at len old new
 
 -- zeros were read from the header on, up to such a read

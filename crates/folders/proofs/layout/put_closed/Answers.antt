@@ -52,7 +52,7 @@ returns-in_err-boot-clause-failed g c =
     let header = header_of c.args.config c.args.cluster c.args.disk in
     on_err _
     (fails_in g.D.Disk.gives (OpensNoGate header) c.args.device.now c.args.device.now c.attach.new.self (nothing c.args.device.now) Attach tt _ c.in_err-boot.ensures.gives)
-    c.from_residual-in_err-boot.result
+    c.from_residual.result
 
 pub returns-in_err-put_zeros-clause-failed : goal.returns-in_err-put_zeros-clause-failed
 returns-in_err-put_zeros-clause-failed g c =

@@ -8,7 +8,7 @@ use Rattle.folders.proofs.unfinished.put_found_gate.Goals as goal
 
 pub returns-in_err-boot-clause-failed : goal.returns-in_err-boot-clause-failed
 returns-in_err-boot-clause-failed g c =
-    on_err _ (fails_in g.D.Disk.gives OpensFoundGate c.args.device.now c.args.device.now c.attach.new.self (nothing c.args.device.now) Attach tt _ c.in_err-boot.ensures.gives) c.from_residual-in_err-boot.result
+    on_err _ (fails_in g.D.Disk.gives OpensFoundGate c.args.device.now c.args.device.now c.attach.new.self (nothing c.args.device.now) Attach tt _ c.in_err-boot.ensures.gives) c.from_residual.result
 
 pub returns-in_err-write-clause-failed : goal.returns-in_err-write-clause-failed
 returns-in_err-write-clause-failed g c =

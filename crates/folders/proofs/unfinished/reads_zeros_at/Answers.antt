@@ -1,7 +1,7 @@
 use Rattle.std.proofs.Common.{rules, ◌≡◌, ◌∙◌, ℕ, length, sym, subst}
 use Rattle.disk.specs.Disk.{Read, Told, Fault}
 use Rattle.attempt.specs.Looking.{OnlyReads}
-use Rattle.folders.specs.Finishing.{other, failed}
+use Rattle.folders.specs.Finishing.{not_zero, failed}
 use Rattle.folders.proofs.Laying.{on_err, one_call}
 use Rattle.folders.proofs.OnlyReading.{told_zeros}
 use Rattle.folders.proofs.unfinished.reads_zeros_at.Goals as goal
@@ -26,5 +26,5 @@ returns-in_err-read-clause-failed g c =
 
 pub returns-clause-more : goal.returns-clause-more
 returns-clause-more g c = λ no.
-    other c.read.new.into (sym c.is_zero.ensures ∙ no)
+    not_zero c.read.new.into (sym c.is_zero.ensures ∙ no)
     (subst (λ (n : ℕ). g.D.Disk.gives c.args.device.now (Read c.args.boot.number c.args.at n) (Told c.read.new.into) c.read.new.self) (search rules) c.in_ok-read.ensures.gives)
