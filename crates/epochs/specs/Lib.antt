@@ -1,0 +1,5 @@
+pub mod Acts
+pub mod Laws
+pub mod Numbers
+pub mod OneLog
+pub mod Showing

@@ -1,0 +1,48 @@
+// Areas of disks that are used again for each epoch: what an area shows, the numbers of hosts, and what hosts of all epochs do.
+ghost use Rattle.at_once.specs.Power.{LosesPower};
+ghost use Rattle.epochs.specs.Acts.{AreasServe, AreasServeOn, IsModelCrash, ReadingsShow};
+ghost use Rattle.epochs.specs.Laws.{OwnCallsAreSteps, OwnTearsAreTears, OthersLeaveIt, CrashesAreCrashes, LossesAreLosses, StandingsChangeNothing, FreshDisksShowNothing, NobodyShowsNothing};
+ghost use Rattle.epochs.specs.Numbers.{ZerosAreNone, OthersLeaveNumbers, SyncsMakeSure, CrashesLeaveOne, WritesAreNext};
+ghost use Rattle.epochs.specs.OneLog.{EpochsAreAtOnce, EpochsAreOverLosses, EpochsAreRuns};
+
+/// For each epoch an area of a disk shows an image. What hosts of the epoch do is done to that image; what is done for other epochs
+/// is not; and it is no matter when a host comes or leaves.
+pub fn areas_show_images()
+    ensures calls { OwnCallsAreSteps }
+    ensures tears { OwnTearsAreTears }
+    ensures others { OthersLeaveIt }
+    ensures crashes { CrashesAreCrashes }
+    ensures losses { LossesAreLosses }
+    ensures standings { StandingsChangeNothing }
+    ensures fresh { FreshDisksShowNothing }
+    ensures nobody { NobodyShowsNothing }
+{}
+
+/// A host's number is the counter of its block. It is changed by the six calls that write the block alone, and then it is the next one, at one
+/// moment; a sync makes it sure, and a crash leaves what was sure, what was seen, or what was being written.
+pub fn numbers_are_bytes()
+    ensures zeros { ZerosAreNone }
+    ensures others { OthersLeaveNumbers }
+    ensures syncs { SyncsMakeSure }
+    ensures crashes { CrashesLeaveOne }
+    ensures writes { WritesAreNext }
+{}
+
+/// Hosts of all epochs make their calls on a disk in any order; some come to an epoch, others have left it, and others died in
+/// between. Of each epoch the disk has served what is done to that epoch's image, as an image of zeros would.
+pub fn areas_serve()
+    ensures serves { AreasServe }
+    // So it is with a file, over losses of power.
+    ensures power { AreasServeOn }
+    // To whom a row may be shown so follows from a reading of the standings before it and one behind it.
+    ensures readings { ReadingsShow IsModelCrash }
+    ensures readings_on { ReadingsShow LosesPower }
+{}
+
+/// So what is done in an epoch is a run of the world that begins on zeros, and has one log.
+pub fn epochs_are_runs()
+    ensures at_once { EpochsAreAtOnce }
+    ensures runs { EpochsAreRuns }
+    // So it is over losses of power, each of which stops all hosts.
+    ensures losses { EpochsAreOverLosses }
+{}
