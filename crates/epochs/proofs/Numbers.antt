@@ -157,7 +157,7 @@ module _ (place : ℕ) (block body : List ℕ) (new : DiskState) where
     stands_either OpenGate due = due_either SyncOpened due
     stands_either SyncOpened done = λ bytes may. inr (ap counter_at (done_reads w new placed_new done bytes may) ∙ next_is (value_of cluster_version block))
 
-    tried : (call : WriteCall) (boot : ℕ) (answer : Answer) → IsDue call w disk → IsTried answer → Step disk (call_of call w boot) answer new → IsEither
+    pub tried : (call : WriteCall) (boot : ℕ) (answer : Answer) → IsDue call w disk → IsTried answer → Step disk (call_of call w boot) answer new → IsEither
     tried call boot Done due is step = stands_either call (done_leads_on w disk placed call boot new due step)
     tried call boot (Fault Failed) due is step = λ bytes may. either_by bytes (failure_reads w disk placed call boot new due step.2 bytes may)
     tried call boot (Fault Reset) due is step = absurd is

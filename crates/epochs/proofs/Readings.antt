@@ -83,13 +83,13 @@ module _ (IsCrash : DiskState → DiskState → Type 0) (c : Shape) (k n : ℕ) 
 
 pub readings_show : (IsCrash : DiskState → DiskState → Type 0) → ReadingsShow IsCrash
 unfolding Rises
-readings_show IsCrash c k n e first row second before behind to none back none_behind clear host =
+readings_show IsCrash c k n e first row second before behind to none back none_behind clear host few =
     let early = through_rises IsCrash c k n before first row to none e.area host in
     let late = through_rises IsCrash c k n behind row second back none_behind e.area host in
-    let most = (clear host).0 in
+    let most = (clear host few).0 in
     elim (cases_order (second.seen e.area host) e.number) [
       | inl own ↦
-          (let was = (clear host).1 own in
+          (let was = (clear host few).1 own in
           let both : shown_by e (first.seen e.area) (second.seen e.area) host ≡ true = (λ i. eq-eqb (first.seen e.area host) e.number was i && eq-eqb (second.seen e.area host) e.number own i) in
           inl (both, omega (arith, early, late, was, own)))
       | inr (inl below) ↦

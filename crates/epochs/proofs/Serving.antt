@@ -176,34 +176,42 @@ module _ (n : ℕ) (old new : Shared) (is : Ordered n old) where
     -- who is shown is shown rightly
     right_shown : (image : DiskState) (shown : ℕ → Bool) (at len : ℕ) → 4096 ≤ at → at + len ≤ n → IsShown e shown old → Shows n e old image → IsRight base at len shown old.whole image
     right_shown image shown at len high ends given shows host =
-        elim (given host) [
-          | inl is_shown ↦
-              inl (
-                is_shown.0,
-                λ p from_there within own.
-                    let here : old.sure e.area (host_at p) ≡ old.sure e.area host = ap (old.sure e.area) own in
-                    elim (is.next e.area host e_area) [
-                      | inl same ↦ shows.bytes p (omega (arith, high, from_there)) (omega (arith, within, ends)) (by_is e.number (old.sure e.area (host_at p)) (here ∙ sym same ∙ is_shown.1))
-                      | inr more ↦
-                          (let sum = more.0 in
-                          let now = is_shown.1 in
-                          let below : old.sure e.area (host_at p) < e.number = omega (arith, here, sum, now) in
-                          shows.blank p (omega (arith, within, ends)) (inr (by_below e.number (old.sure e.area (host_at p)) below))
-                          ∙ sym ((more.1 (omega (arith, sum, now, e_even))).bytes p (omega (arith, high, from_there)) (omega (arith, within, ends)) own))
-                    ],
-              )
-          | inr hidden ↦
-              inr (
-                hidden.0,
-                λ p from_there within own.
-                    let here : old.sure e.area (host_at p) ≡ old.sure e.area host = ap (old.sure e.area) own in
-                    let less = hidden.1 in
-                    let below : old.sure e.area (host_at p) < e.number = (elim (is.next e.area host e_area) [
-                      | inl same ↦ omega (arith, here, same, less)
-                      | inr more ↦ (let sum = more.0 in omega (arith, here, sum, less))
-                    ]) in
-                    shows.blank p (omega (arith, within, ends)) (inr (by_below e.number (old.sure e.area (host_at p)) below)),
-              )
+        elim (cases_lt host 16) [
+          | inl few ↦
+              elim (given host few) [
+                | inl is_shown ↦
+                    inl (
+                      is_shown.0,
+                      λ p from_there within own.
+                          let here : old.sure e.area (host_at p) ≡ old.sure e.area host = ap (old.sure e.area) own in
+                          elim (is.next e.area host e_area) [
+                            | inl same ↦ shows.bytes p (omega (arith, high, from_there)) (omega (arith, within, ends)) (by_is e.number (old.sure e.area (host_at p)) (here ∙ sym same ∙ is_shown.1))
+                            | inr more ↦
+                                (let sum = more.0 in
+                                let now = is_shown.1 in
+                                let below : old.sure e.area (host_at p) < e.number = omega (arith, here, sum, now) in
+                                shows.blank p (omega (arith, within, ends)) (inr (by_below e.number (old.sure e.area (host_at p)) below))
+                                ∙ sym ((more.1 (omega (arith, sum, now, e_even))).bytes p (omega (arith, high, from_there)) (omega (arith, within, ends)) own))
+                          ],
+                    )
+                | inr hidden ↦
+                    inr (
+                      hidden.0,
+                      λ p from_there within own.
+                          let here : old.sure e.area (host_at p) ≡ old.sure e.area host = ap (old.sure e.area) own in
+                          let less = hidden.1 in
+                          let below : old.sure e.area (host_at p) < e.number = (elim (is.next e.area host e_area) [
+                            | inl same ↦ omega (arith, here, same, less)
+                            | inr more ↦ (let sum = more.0 in omega (arith, here, sum, less))
+                          ]) in
+                          shows.blank p (omega (arith, within, ends)) (inr (by_below e.number (old.sure e.area (host_at p)) below)),
+                    )
+              ]
+          | inr none ↦
+              elim (cases_Bool (shown host)) [
+                | inl with_it ↦ inl (with_it, λ p from_there within own. absurd (omega (arith, own, none)))
+                | inr without ↦ inr (without, λ p from_there within own. absurd (omega (arith, own, none)))
+              ]
         ]
 
     own_is : (image : DiskState) (shown : ℕ → Bool) (call : Call) → MayMake n e shown old call → Shows n e old image → IsOf n base (standings e old) shown old.whole image call
