@@ -11,7 +11,7 @@ use Rattle.disk.specs.Simulated.{fresh_disk}
 use Rattle.disk.specs.Steps.{HasShape}
 use Rattle.disk.proofs.CrashLemmas.{length-put, put-below, put-inside, put-above, may_leave_now, may_leave_synced, may_leave_written}
 use Rattle.disk.proofs.StepLemmas.{shape_written, shape_fresh}
-use Rattle.torn_block.specs.Layout.{cluster_version}
+use Rattle.torn_block.specs.Layout.{cluster_version, body_length}
 use Rattle.torn_block.specs.declared.write_steps.WriteCall.{WriteCall}
 use Rattle.torn_block.specs.declared.write_steps.WriteCall.TheVariants.{CloseGate, SyncClosed, PutBody, SyncBody, OpenGate, SyncOpened}
 use Rattle.torn_block.specs.Block.{is_open, copy_of, target_of, next_sequence}
@@ -74,6 +74,11 @@ same_at n one other area host same =
 
 same_numbers : (n : ℕ) (one other : List ℕ) → ((area host : ℕ) → area < 2 → host < 16 → number_of n area host one ≡ number_of n area host other) → numbers n one ≡ numbers n other
 same_numbers n one other same = λ i area host. same_at n one other area host (same area host) i
+
+-- the body of a beat is as long as a body is
+body_fits : length beat_body ≡ body_length cluster_version
+unfolding beat_body
+body_fits = refl
 
 -- two blocks of standings are one, or have no byte in common
 blocks_apart : (n a g area host : ℕ) → a < 2 → g < 16 → area < 2 → host < 16 →
@@ -294,19 +299,20 @@ module _ (n : ℕ) (whole : DiskState) (kept : List ℕ) (ties : Ties n whole ke
   same_by call new done failed (Fault Failed) step = failed step.2
 
   -- what a write leaves: the disk as it was, or some bytes in its range, and then it was tried
-  record Leaves (at : ℕ) (from : List ℕ) (answer : Answer) (new : DiskState) : Type 0 where
+  record Leaves (boot at : ℕ) (from : List ℕ) (answer : Answer) (new : DiskState) : Type 0 where
     left : List ℕ
     as_many : length left ≡ length from
     is : new ≡ written whole at left
     tried_it : IsTried answer
+    under : boot ≡ whole.boot
 
-  leaves_by : (boot at : ℕ) (from : List ℕ) (answer : Answer) (new : DiskState) → Step whole (Write boot at from) answer new → (new ≡ whole) ⊎ Leaves at from answer new
+  leaves_by : (boot at : ℕ) (from : List ℕ) (answer : Answer) (new : DiskState) → Step whole (Write boot at from) answer new → (new ≡ whole) ⊎ Leaves boot at from answer new
   leaves_by boot at from (Booted b) new step = absurd (let clash : Booted b ≡ Done = step.2.0 in cc)
   leaves_by boot at from (Told bytes) new step = absurd (let clash : Told bytes ≡ Done = step.2.0 in cc)
-  leaves_by boot at from Done new step = inr (record { left = from; as_many = refl; is = step.2.1; tried_it = tt })
+  leaves_by boot at from Done new step = inr (record { left = from; as_many = refl; is = step.2.1; tried_it = tt; under = step.1 })
   leaves_by boot at from (Fault Gone) new step = inl step.1
   leaves_by boot at from (Fault Reset) new step = inl step.2
-  leaves_by boot at from (Fault Failed) new step = inr (record { left = step.2.left; as_many = step.2.as_many; is = step.2.leaves; tried_it = tt })
+  leaves_by boot at from (Fault Failed) new step = inr (record { left = step.2.left; as_many = step.2.as_many; is = step.2.leaves; tried_it = tt; under = step.1 })
 
   sync_by : (boot : ℕ) (answer : Answer) (new : DiskState) → Step whole (Sync boot) answer new → Keeps (Sync boot) answer new
   unfolding shared
@@ -533,11 +539,9 @@ module _ (n : ℕ) (whole : DiskState) (kept : List ℕ) (ties : Ties n whole ke
       abbrev w : Write128
       w = write_over (number_place n area host) block beat_body
 
-      module _ (placed : IsPlaced w whole) (cleared : counter_of block % 2 ≡ 1 → IsCleared n (base_of n area) host whole) (write : WriteCall) (due : IsDue write w whole) (boot at : ℕ) (from : List ℕ)
-          (is : call_of write w boot ≡ Write boot at from) (old : (bytes : List ℕ) → MayLeave whole bytes → number_of n area host bytes ≡ counter_of block)
-          (low : number_place n area host ≤ at) (high : at + length from ≤ number_place n area host + 256) where
+      module _ (write : WriteCall) (boot at : ℕ) (from : List ℕ) (is : call_of write w boot ≡ Write boot at from) (low : number_place n area host ≤ at) (high : at + length from ≤ number_place n area host + 256) where
         fits : at + length from ≤ length whole.bytes
-        fits = let within = placed.within in omega (arith, high, within)
+        fits = let within = lies_on n area host whole is_area is_host ties.row ties.room in omega (arith, high, within)
 
         in_no_area : (a p : ℕ) → a < 2 → 4096 ≤ p → p < n → (base_of n a + p < at) ⊎ (at + length from ≤ base_of n a + p)
         in_no_area a p is_a p_high below = off_rows n a at (length from) p is_a (omega (arith, low)) (omega (arith, high, is_area, is_host)) p_high below
@@ -549,7 +553,8 @@ module _ (n : ℕ) (whole : DiskState) (kept : List ℕ) (ties : Ties n whole ke
         )
 
         -- the write, or what it leaves where it fails
-        module _ (left : List ℕ) (many : length left ≡ length from) (answer : Answer) (tried_it : IsTried answer) (step : Step whole (Write boot at from) answer (written whole at left)) where
+        module _ (placed : IsPlaced w whole) (cleared : counter_of block % 2 ≡ 1 → IsCleared n (base_of n area) host whole) (due : IsDue write w whole) (old : (bytes : List ℕ) → MayLeave whole bytes → number_of n area host bytes ≡ counter_of block)
+            (left : List ℕ) (many : length left ≡ length from) (answer : Answer) (tried_it : IsTried answer) (step : Step whole (Write boot at from) answer (written whole at left)) where
           fits_left : at + length left ≤ length whole.bytes
           fits_left = omega (arith, fits, many)
 
@@ -666,9 +671,10 @@ module _ (n : ℕ) (whole : DiskState) (kept : List ℕ) (ties : Ties n whole ke
                 ];
               }
 
-        goes_written : (answer : Answer) (new : DiskState) → Step whole (Write boot at from) answer new → Follows (Beside (Write boot at from) answer) new
+        goes_written : (cleared : counter_of block % 2 ≡ 1 → IsCleared n (base_of n area) host whole) → (boot ≡ whole.boot → IsPlaced w whole × IsDue write w whole) →
+            (IsDue write w whole → (bytes : List ℕ) → MayLeave whole bytes → number_of n area host bytes ≡ counter_of block) → (answer : Answer) (new : DiskState) → Step whole (Write boot at from) answer new → Follows (Beside (Write boot at from) answer) new
         unfolding shared GoesOver
-        goes_written answer new step =
+        goes_written cleared stands old answer new step =
             elim (leaves_by boot at from answer new step) [
               | inl same ↦
                   (let by = keeps_all (Write boot at from) answer new refl same in
@@ -678,8 +684,9 @@ module _ (n : ℕ) (whole : DiskState) (kept : List ℕ) (ties : Ties n whole ke
                     goes = inl (record { writes = writes_none (numbers n whole.bytes) (numbers n kept); step = step; seen = by.seen_new; sure = by.sure_new });
                   })
               | inr leaves ↦
+                  (let is_so = stands leaves.under in
                   subst (Follows (Beside (Write boot at from) answer)) (sym leaves.is)
-                  (goes_tried leaves.left leaves.as_many answer leaves.tried_it (subst (Step whole (Write boot at from) answer) leaves.is step))
+                  (goes_tried is_so.0 cleared is_so.1 (old is_so.1) leaves.left leaves.as_many answer leaves.tried_it (subst (Step whole (Write boot at from) answer) leaves.is step)))
             ]
 
       closing_length : (opened : Bool) → length {A = ℕ} (if opened then 0 ∷ [] else []) ≤ 1
@@ -689,25 +696,25 @@ module _ (n : ℕ) (whole : DiskState) (kept : List ℕ) (ties : Ties n whole ke
       within_block : offset_of cluster_version (target_of cluster_version block) + 128 ≤ 256
       within_block = offset_fits cluster_version (target_of cluster_version block)
 
-      beats : (placed : IsPlaced w whole) (cleared : counter_of block % 2 ≡ 1 → IsCleared n (base_of n area) host whole) (write : WriteCall) (boot : ℕ) (answer : Answer) (new : DiskState) →
-          IsDue write w whole → Step whole (call_of write w boot) answer new → Follows (Beside (call_of write w boot) answer) new
-      beats placed cleared CloseGate boot answer new due step =
+      beats : (cleared : counter_of block % 2 ≡ 1 → IsCleared n (base_of n area) host whole) (write : WriteCall) (boot : ℕ) (answer : Answer) (new : DiskState) →
+          (boot ≡ whole.boot → IsPlaced w whole × IsDue write w whole) → Step whole (call_of write w boot) answer new → Follows (Beside (call_of write w boot) answer) new
+      beats cleared CloseGate boot answer new stands step =
           let short = closing_length (is_open (copy_of cluster_version (target_of cluster_version block) block)) in
-          goes_written placed cleared CloseGate due boot (gate_of w) (closing w) refl (λ bytes may. ap counter_at (reads_same w bytes (due.left bytes may))) (omega arith) (omega (arith, short, within_block)) answer new step
-      beats placed cleared SyncClosed boot answer new due step = goes_synced boot answer new step
-      beats placed cleared PutBody boot answer new due step =
-          let long = length-tail_with cluster_version (next_sequence cluster_version block) beat_body placed.body in
-          goes_written placed cleared PutBody due boot (gate_of w + 1) (new_tail w) refl (λ bytes may. ap counter_at (reads_closed w bytes (due.left bytes may))) (omega arith) (omega (arith, long, within_block)) answer new step
-      beats placed cleared SyncBody boot answer new due step = goes_synced boot answer new step
-      beats placed cleared OpenGate boot answer new due step =
-          goes_written placed cleared OpenGate due boot (gate_of w) (165 ∷ []) refl
-          (λ bytes may. (let c = due.left bytes may in ap counter_at (reads_closed w bytes (record { kept = c.kept; target = c.target.0 })))) (omega arith) (omega (arith, within_block)) answer new step
-      beats placed cleared SyncOpened boot answer new due step = goes_synced boot answer new step
+          goes_written CloseGate boot (gate_of w) (closing w) refl (omega arith) (omega (arith, short, within_block)) cleared stands (λ due bytes may. ap counter_at (reads_same w bytes (due.left bytes may))) answer new step
+      beats cleared SyncClosed boot answer new stands step = goes_synced boot answer new step
+      beats cleared PutBody boot answer new stands step =
+          let long = length-tail_with cluster_version (next_sequence cluster_version block) beat_body body_fits in
+          goes_written PutBody boot (gate_of w + 1) (new_tail w) refl (omega arith) (omega (arith, long, within_block)) cleared stands (λ due bytes may. ap counter_at (reads_closed w bytes (due.left bytes may))) answer new step
+      beats cleared SyncBody boot answer new stands step = goes_synced boot answer new step
+      beats cleared OpenGate boot answer new stands step =
+          goes_written OpenGate boot (gate_of w) (165 ∷ []) refl (omega arith) (omega (arith, within_block)) cleared stands
+          (λ due bytes may. (let c = due.left bytes may in ap counter_at (reads_closed w bytes (record { kept = c.kept; target = c.target.0 })))) answer new step
+      beats cleared SyncOpened boot answer new stands step = goes_synced boot answer new step
 
     goes_beat : (call : Call) (answer : Answer) (new : DiskState) → IsBeat n whole call → Step whole call answer new → Follows (Beside call answer) new
     goes_beat call answer new beat step =
         subst (λ (x : Call). Follows (Beside x answer) new) (sym beat.is)
-        (beats beat.area beat.host beat.is_area beat.is_host beat.block beat.placed beat.cleared beat.write beat.boot answer new beat.due (subst (λ (x : Call). Step whole x answer new) beat.is step))
+        (beats beat.area beat.host beat.is_area beat.is_host beat.block beat.cleared beat.write beat.boot answer new beat.due (subst (λ (x : Call). Step whole x answer new) beat.is step))
 
     -- CRASHES AND LOSSES
 

@@ -75,8 +75,8 @@ HappensIn n e shown old other new = ⊥
 
 -- BESIDE
 
--- A host beats in a row of standings: this is one of the six calls that write its block again, and it is due. With an odd number its blocks in the
--- area are cleared by then.
+-- A host beats in a row of standings: this is one of the six calls that write its block again, and it is due, unless the disk refuses it. With an odd
+-- number its blocks in the area are cleared by then.
 pub record IsBeat (n : ℕ) (whole : DiskState) (call : Call) : Type 0 where
   pub area : ℕ
   pub host : ℕ
@@ -86,8 +86,7 @@ pub record IsBeat (n : ℕ) (whole : DiskState) (call : Call) : Type 0 where
   pub write : WriteCall
   pub boot : ℕ
   pub is : call ≡ call_of write (write_over (number_place n area host) block beat_body) boot
-  pub placed : IsPlaced (write_over (number_place n area host) block beat_body) whole
-  pub due : IsDue write (write_over (number_place n area host) block beat_body) whole
+  pub due : boot ≡ whole.boot → IsPlaced (write_over (number_place n area host) block beat_body) whole × IsDue write (write_over (number_place n area host) block beat_body) whole
   pub cleared : counter_of block % 2 ≡ 1 → IsCleared n (base_of n area) host whole
 
 -- Or the call writes in no row of standings, and of an area only blocks of hosts that clear them: their numbers are odd, whatever a crash leaves.
