@@ -1,10 +1,10 @@
 ghost use Rattle.std.specs.Prelude.{◌≡◌, ◌+◌, ◌-◌, ◌<◌, ◌≤◌, ℕ, IfOk, IfSome, IsSome, IsTrue, [], length, filter, insert, remove, set, slice_index, slice_index_or, cond, nat_lt, not, true, false};
 ghost use Rattle.std.specs.List.{slice_get, AllWithin};
 ghost use Rattle.std.specs.List.Sorted.{IsSorted, IsPartitionPoint};
-ghost use Rattle.lock_index.specs.declared.record.LockRecord.{LockRecord};
-ghost use Rattle.lock_index.specs.Locks.{is_through};
+ghost use Rattle.lock_command.specs.declared.record.LockRecord.{LockRecord};
+ghost use Rattle.lock_command.specs.Locks.{is_through};
 ghost use Rattle.lock_index.specs.Indexed.{number_cmp};
-ghost use Rattle.lock_index.specs.Locks.{is_lock, lock_in, without, put, IsDistinct};
+ghost use Rattle.lock_command.specs.Locks.{is_lock, lock_in, without, put, IsDistinct};
 
 use crate::by_printed_order::take_place;
 use crate::hosts::Hosts;
@@ -36,8 +36,8 @@ pub struct ByLockNumber {
 
 impl Model for ByLockNumber {
     ghost use Rattle.std.specs.Prelude.{List, ◌≡◌, ◌≤◌, vec_len, vec_capacity};
-    ghost use Rattle.lock_index.specs.declared.record.TheConstants.{LOCKS};
-    ghost use Rattle.lock_index.specs.declared.record.LockRecord.{LockRecord};
+    ghost use Rattle.lock_command.specs.declared.record.TheConstants.{LOCKS};
+    ghost use Rattle.lock_command.specs.declared.record.LockRecord.{LockRecord};
     ghost use Rattle.lock_index.specs.Shelved.{IsShelved, IsNumbered, IsHosted, at_places};
 
     ghost Value = { List LockRecord };

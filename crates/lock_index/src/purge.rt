@@ -1,8 +1,8 @@
 ghost use Rattle.std.specs.Prelude.{◌≡◌, ◌+◌, ◌<◌, ◌≤◌, ◌||◌, [], ℕ, List, length, filter, not, vec_len, vec_capacity};
 ghost use Rattle.std.specs.List.{list_any};
 ghost use Rattle.lock_command.specs.Name.{same_name};
-ghost use Rattle.lock_index.specs.Locks.{is_through};
-ghost use Rattle.lock_index.specs.Locks.{is_on};
+ghost use Rattle.lock_command.specs.Locks.{is_through};
+ghost use Rattle.lock_command.specs.Locks.{is_on};
 
 use crate::by_printed_order::ByPrintedOrder;
 use crate::keys::SpelledName;
