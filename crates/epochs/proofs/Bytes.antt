@@ -21,7 +21,7 @@ use Rattle.torn_block.specs.Stage.{Write128, gate_of, closing, new_tail, call_of
 use Rattle.torn_block.proofs.PlaceLaws.{block_elsewhere, offset_fits, length-tail_with}
 use Rattle.torn_block.proofs.StageLaws.{reads_closed, reads_same}
 use Rattle.heartbeat.specs.Beat.{beat_body, counter_at, counter_of}
-use Rattle.slot_log.specs.Shape.{Shape}
+use Rattle.paxos_block.specs.Shape.{Shape}
 use Rattle.world.specs.Entry.{Filled, Start, Stop, Begin, Called, Crashed, Lost, Migrated}
 use Rattle.world.specs.Entry as entries
 use Rattle.world.specs.World.{Tears}
