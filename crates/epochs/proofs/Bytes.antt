@@ -76,12 +76,12 @@ same_numbers : (n : ℕ) (one other : List ℕ) → ((area host : ℕ) → area 
 same_numbers n one other same = λ i area host. same_at n one other area host (same area host) i
 
 -- the body of a beat is as long as a body is
-body_fits : length beat_body ≡ body_length cluster_version
+pub body_fits : length beat_body ≡ body_length cluster_version
 unfolding beat_body
 body_fits = refl
 
 -- two blocks of standings are one, or have no byte in common
-blocks_apart : (n a g area host : ℕ) → a < 2 → g < 16 → area < 2 → host < 16 →
+pub blocks_apart : (n a g area host : ℕ) → a < 2 → g < 16 → area < 2 → host < 16 →
     ((a ≡ area) × (g ≡ host)) ⊎ (number_place n a g + 256 ≤ number_place n area host) ⊎ (number_place n area host + 256 ≤ number_place n a g)
 blocks_apart n a g area host is_a is_g is_area is_host =
     elim (cases_order a area) [
@@ -148,7 +148,7 @@ record Ties (n : ℕ) (whole : DiskState) (kept : List ℕ) : Type 0 where
 shared : ℕ → DiskState → List ℕ → Shared
 shared n whole kept = record { whole = whole; seen = numbers n whole.bytes; sure = numbers n kept }
 
-lies_on : (n area host : ℕ) (whole : DiskState) → area < 2 → host < 16 → 4096 ≤ n → 4096 + n + n ≤ length whole.bytes → LiesOn cluster_version (number_place n area host) whole
+pub lies_on : (n area host : ℕ) (whole : DiskState) → area < 2 → host < 16 → 4096 ≤ n → 4096 + n + n ≤ length whole.bytes → LiesOn cluster_version (number_place n area host) whole
 lies_on n area host whole is_area is_host row room = omega (arith, is_area, is_host, row, room)
 
 area_room : (n area size : ℕ) → area < 2 → 4096 + n + n ≤ size → base_of n area + n ≤ size
@@ -164,7 +164,7 @@ off_rows n zero at len p is_area from_there ends high below = inl (omega (arith,
 off_rows n (suc area) at len p is_area from_there ends high below = inr (omega (arith, ends, high))
 
 -- what is written in an area is in no row of standings, and of no other area
-off_area : (n area at len : ℕ) → area < 2 → 4096 ≤ at → at + len ≤ n → (base_of n area + at + len ≤ n) ⊎ (n + 4096 + 4096 ≤ base_of n area + at)
+pub off_area : (n area at len : ℕ) → area < 2 → 4096 ≤ at → at + len ≤ n → (base_of n area + at + len ≤ n) ⊎ (n + 4096 + 4096 ≤ base_of n area + at)
 off_area n zero at len is_area high ends = inl (omega (arith, ends))
 off_area n (suc area) at len is_area high ends = inr (omega (arith, high))
 

@@ -1,3 +1,4 @@
+pub mod Beats
 pub mod Bytes
 pub mod Numbers
 pub mod OneLog

@@ -19,10 +19,10 @@ use Rattle.epochs.specs.Laws.{ShowsNext, OwnCallsAreSteps, OwnTearsAreTears, Oth
 abbrev part : ℕ → ℕ → List ℕ → List ℕ
 part place n items = take n (drop place items)
 
-part_is : (place n : ℕ) (items : List ℕ) → slice_range items place (place + n) ≡ part place n items
+pub part_is : (place n : ℕ) (items : List ℕ) → slice_range items place (place + n) ≡ part place n items
 part_is place n items = let e : (place + n) - place ≡ n = omega arith in ap (λ (k : ℕ). take k (drop place items)) e
 
-length-part : (place n : ℕ) (items : List ℕ) → place + n ≤ length items → length (part place n items) ≡ n
+pub length-part : (place n : ℕ) (items : List ℕ) → place + n ≤ length items → length (part place n items) ≡ n
 length-part place n items fits = length-take-le n (drop place items) (omega (arith, length-drop place items))
 
 get_or-part : (place n : ℕ) (items : List ℕ) (k : ℕ) → k < n → get_or (part place n items) k 0 ≡ get_or items (place + k) 0

@@ -1,6 +1,7 @@
 // Areas of disks that are used again for each epoch: what an area shows, the numbers of hosts, and what hosts of all epochs do.
 ghost use Rattle.at_once.specs.Power.{LosesPower};
 ghost use Rattle.epochs.specs.Acts.{AreasServe, AreasServeOn, IsModelCrash, ReadingsShow};
+ghost use Rattle.epochs.specs.Beats.{BeatsServe, BeatsServeOn};
 ghost use Rattle.epochs.specs.Bytes.{CallsServe, CallsServeOn, ReadBytesShow};
 ghost use Rattle.epochs.specs.Laws.{OwnCallsAreSteps, OwnTearsAreTears, OthersLeaveIt, CrashesAreCrashes, LossesAreLosses, StandingsChangeNothing, FreshDisksShowNothing, NobodyShowsNothing};
 ghost use Rattle.epochs.specs.Numbers.{ZerosAreNone, OthersLeaveNumbers, SyncsMakeSure, CrashesLeaveOne, WritesAreNext};
@@ -49,6 +50,14 @@ pub fn calls_serve()
     // To whom a row may be shown follows from what two readings of the standings give.
     ensures readings { ReadBytesShow IsModelCrash }
     ensures readings_on { ReadBytesShow LosesPower }
+{}
+
+/// The same of hosts whose calls in rows of standings are those that their beats have due, each by what its host heard alone: an attach, a
+/// sync, a read of the row, and six calls that write the host's block.
+pub fn beats_serve()
+    ensures serves { BeatsServe }
+    // So it is with a file, over losses of power.
+    ensures power { BeatsServeOn }
 {}
 
 /// So what is done in an epoch is a run of the world that begins on zeros, and has one log.
