@@ -1,28 +1,28 @@
 -- What hosts know of their blocks in rows of standings by what they heard: so their calls are due.
-use Rattle.std.specs.Prelude.{◌⊎◌, ◌%◌, ◌*◌, ◌-◌, ◌^◌, ◌&&◌, nat_le, if◌then◌else◌, replicate, slice_range, Option, Some, None}
+use Rattle.std.specs.Prelude.{◌⊎◌, ◌*◌, ◌^◌, ◌&&◌, nat_le, if◌then◌else◌, replicate, slice_range, Option, Some, None}
 use Rattle.std.proofs.Common.{ℕ, zero, suc, ◌≡◌, ◌+◌, ◌≤◌, ◌<◌, ◌==◌, Bool, true, false, true≢false, List, [], ◌∷◌, length, refl, sym, ◌∙◌, ap, subst, inl, inr, arith}
 use Rattle.std.proofs.lemmas.Bool.{cases_Bool, eqb-true, eq-eqb, and_parts, leb-true}
 use Rattle.std.proofs.lemmas.List.{length-replicate}
-use Rattle.disk.specs.declared.fault.DiskFault.TheVariants.{Reset, Failed, Gone}
+use Rattle.disk.specs.declared.fault.DiskFault.TheVariants.{Failed}
 use Rattle.disk.specs.Disk.{DiskState, Call, Attach, Read, Write, Sync, Answer, Booted, Told, Done, Fault, IsUnder, Step, KeepsSynced, lost}
-use Rattle.disk.specs.Crash.{IsWhole, MayLeave}
+use Rattle.disk.specs.Crash.{IsWhole}
 use Rattle.disk.specs.Simulated.{fresh_disk}
 use Rattle.disk.specs.Steps.{HasShape, WritesOn}
-use Rattle.disk.proofs.StepLemmas.{step_keeps, shape_keeps, shape_fresh}
-use Rattle.torn_block.specs.Layout.{cluster_version, body_length, block_length}
+use Rattle.disk.proofs.StepLemmas.{step_keeps, shape_keeps}
+use Rattle.torn_block.specs.Layout.{cluster_version}
 use Rattle.torn_block.specs.declared.layout.TheConstants.{LAST_SEQUENCE}
 use Rattle.torn_block.specs.declared.write_steps.WriteCall.{WriteCall}
 use Rattle.torn_block.specs.declared.write_steps.WriteCall.TheVariants.{CloseGate, SyncClosed, PutBody, SyncBody, OpenGate, SyncOpened}
 use Rattle.torn_block.specs.Block.{is_open, copy_of, target_of, next_sequence}
 use Rattle.torn_block.specs.Damage.{block_of}
 use Rattle.torn_block.specs.Place.{offset_of}
-use Rattle.torn_block.specs.Register.{IsAtRest, IsOutside, LiesOn, LeavesBlock}
-use Rattle.torn_block.specs.Stage.{Write128, gate_of, closing, new_tail, call_of, next_call, IsPlaced, IsDue, Stands}
+use Rattle.torn_block.specs.Register.{IsAtRest, LeavesBlock}
+use Rattle.torn_block.specs.Stage.{Write128, call_of, next_call, IsPlaced, IsDue, Stands}
 use Rattle.torn_block.proofs.DamagedRows.{length-block_of}
 use Rattle.torn_block.proofs.PlaceLaws.{offset_fits, length-tail_with}
 use Rattle.torn_block.proofs.RegisterLaws.{known_synced, rests_elsewhere}
 use Rattle.torn_block.proofs.StageLaws.{done_leads_on, due_elsewhere, read_settles, settled_begins}
-use Rattle.heartbeat.specs.Beat.{beat_body, counter_of}
+use Rattle.heartbeat.specs.Beat.{beat_body}
 use Rattle.paxos_block.specs.Shape.{Shape}
 use Rattle.world.specs.Entry.{Filled, Start, Stop, Begin, Called, Crashed, Lost, Migrated}
 use Rattle.world.specs.Entry as entries
@@ -30,8 +30,8 @@ use Rattle.at_once.specs.Power.{LosesPower}
 use Rattle.epochs.specs.Showing.{moved}
 use Rattle.epochs.specs.Numbers.{write_over}
 use Rattle.epochs.specs.Acts.{Epoch, base_of, Act, In, Beside, Turns, Ends, IsModelCrash}
-use Rattle.epochs.specs.Bytes.{number_place, AreInside, MayCall, HappensIn, IsBeat, IsApart, GoesTo, ServesCalls}
-use Rattle.epochs.specs.Beats.{Beat, Idle, Attached, Rested, Writing, due_in, begins_on, writes_on, hears, Beats, none_beats, with_beat, HasCleared, IsBeating, beats_after, GoesBeating, ServesBeats, BeatsServe, BeatsServeOn}
+use Rattle.epochs.specs.Bytes.{number_place, MayCall, HappensIn, IsBeat, IsApart, GoesTo, ServesCalls}
+use Rattle.epochs.specs.Beats.{Beat, Idle, Attached, Rested, Writing, due_in, writes_on, hears, Beats, none_beats, with_beat, HasCleared, IsBeating, beats_after, GoesBeating, ServesBeats, BeatsServe, BeatsServeOn}
 use Rattle.epochs.proofs.Showing.{part_is, length-part}
 use Rattle.epochs.proofs.Bytes.{body_fits, blocks_apart, lies_on, off_area, calls_serve, calls_serve_on}
 
@@ -421,9 +421,9 @@ module _ (IsCrash : DiskState → DiskState → Type 0)
       elim goes.0 [
         | inl is ↦ record { goes = (beating_is n whole new beats then_beats known call answer is goes.1, goes.1); known_then = known_beating n whole new beats then_beats known call answer is goes.1 }
         | inr is ↦ record {
-            goes = (inr is.0, goes.1);
-            known_then = subst (Known n new) (sym is.1) (known_off n whole new beats call answer known (off_apart n whole call is.0) goes.1);
-          }
+          goes = (inr is.0, goes.1);
+          known_then = subst (Known n new) (sym is.1) (known_off n whole new beats call answer known (off_apart n whole call is.0) goes.1);
+        }
       ]
   one (Turns area host) whole new beats then_beats known goes = absurd goes
   one (Ends (Crashed d left)) whole new beats then_beats known goes =

@@ -1,16 +1,16 @@
 -- Numbers in rows of standings through all that is done to a disk: what is told of its bytes alone are acts.
-use Rattle.std.specs.Prelude.{◌⊎◌, ◌-◌, ◌%◌, ◌*◌, ◌^◌, ◌&&◌, nat_lt, if◌then◌else◌, replicate, Option, Some, None}
-use Rattle.std.proofs.Common.{ℕ, zero, suc, ◌≡◌, ◌≢◌, ◌+◌, ◌≤◌, ◌<◌, ◌==◌, Bool, true, false, true≢false, cond, List, [], ◌∷◌, length, get_or, refl, sym, ◌∙◌, ap, subst, inl, inr, arith}
-use Rattle.std.proofs.lemmas.Bool.{cases_lt, cases_order, cases_Bool, eqb-true, eq-eqb, lt-ltb}
+use Rattle.std.specs.Prelude.{◌⊎◌, ◌-◌, ◌%◌, ◌&&◌, nat_lt, if◌then◌else◌, replicate}
+use Rattle.std.proofs.Common.{ℕ, zero, suc, ◌≡◌, ◌+◌, ◌≤◌, ◌<◌, ◌==◌, Bool, true, false, true≢false, List, [], ◌∷◌, length, get_or, refl, sym, ◌∙◌, ap, subst, inl, inr, arith}
+use Rattle.std.proofs.lemmas.Bool.{cases_lt, cases_order, eq-eqb, lt-ltb}
 use Rattle.std.proofs.lemmas.Bool.Decides.{nat_tests}
 use Rattle.std.proofs.lemmas.List.{get_or-replicate, length-replicate, ext_get_or}
 use Rattle.disk.specs.declared.fault.DiskFault.TheVariants.{Reset, Failed, Gone}
-use Rattle.disk.specs.Disk.{DiskState, Call, Attach, Read, Write, Sync, Answer, Booted, Told, Done, Fault, Step, FailureLeaves, KeepsSynced, Crashes, Torn, written, synced, lost, put_at, done_by}
-use Rattle.disk.specs.Crash.{IsWhole, MayLeave, ChangesOnly}
+use Rattle.disk.specs.Disk.{DiskState, Call, Attach, Read, Write, Sync, Answer, Booted, Told, Done, Fault, Step, FailureLeaves, KeepsSynced, Torn, written, synced, lost, put_at, done_by}
+use Rattle.disk.specs.Crash.{IsWhole, MayLeave}
 use Rattle.disk.specs.Simulated.{fresh_disk}
 use Rattle.disk.specs.Steps.{HasShape}
 use Rattle.disk.proofs.CrashLemmas.{length-put, put-below, put-inside, put-above, may_leave_now, may_leave_synced, may_leave_written}
-use Rattle.disk.proofs.StepLemmas.{shape_written, shape_fresh}
+use Rattle.disk.proofs.StepLemmas.{shape_written}
 use Rattle.torn_block.specs.Layout.{cluster_version, body_length}
 use Rattle.torn_block.specs.declared.write_steps.WriteCall.{WriteCall}
 use Rattle.torn_block.specs.declared.write_steps.WriteCall.TheVariants.{CloseGate, SyncClosed, PutBody, SyncBody, OpenGate, SyncOpened}
@@ -24,12 +24,11 @@ use Rattle.heartbeat.specs.Beat.{beat_body, counter_at, counter_of}
 use Rattle.paxos_block.specs.Shape.{Shape}
 use Rattle.world.specs.Entry.{Filled, Start, Stop, Begin, Called, Crashed, Lost, Migrated}
 use Rattle.world.specs.Entry as entries
-use Rattle.world.specs.World.{Tears}
 use Rattle.at_once.specs.AtOnce.{Serves}
 use Rattle.at_once.specs.Power.{LosesPower, ServesOn}
 use Rattle.epochs.specs.Showing.{host_at, moved, masked_in, IsCleared}
-use Rattle.epochs.specs.Numbers.{number_at, write_over, IsTried}
-use Rattle.epochs.specs.Acts.{Epoch, epoch_of, is_same, base_of, Shared, fresh_shared, Act, In, Beside, Turns, Ends, part, sure_by, IsShown, IsInside, MayMake, WritesBeside, IsTurned, IsTurning, IsModelCrash, GoesBy, GoesIn, ServesAll, GoesThrough, HasNoCrash, shown_by, AreClear}
+use Rattle.epochs.specs.Numbers.{write_over, IsTried}
+use Rattle.epochs.specs.Acts.{Epoch, epoch_of, is_same, base_of, Shared, fresh_shared, Act, In, Beside, Turns, Ends, part, sure_by, IsShown, IsInside, MayMake, WritesBeside, IsTurned, IsTurning, IsModelCrash, GoesBy, ServesAll, GoesThrough, HasNoCrash, shown_by, AreClear}
 use Rattle.epochs.specs.Bytes.{number_place, number_of, IsSurely, AreShown, AreInside, MayCall, IsAnswered, IsUntold, IsCutOff, HappensIn, IsBeat, IsApart, GoesTo, ServesCalls, CallsServe, CallsServeOn, GoesAlong, read_on, ReadBytesShow}
 use Rattle.epochs.proofs.Numbers.{zeros_are_none, tried}
 use Rattle.epochs.proofs.Readings.{readings_show}
@@ -662,12 +661,12 @@ module _ (n : ℕ) (whole : DiskState) (kept : List ℕ) (ties : Ties n whole ke
                 goes = elim now [
                   | inl still ↦ inl (record { writes = writes_none (numbers n whole.bytes) (numbers n kept); step = step; seen = stays still; sure = refl })
                   | inr next ↦ inr (
-                      mid,
-                      area,
-                      host,
-                      turns next,
-                      record { writes = writes_none (numbers n (written whole at left).bytes) (numbers n kept); step = step; seen = refl; sure = refl },
-                    )
+                    mid,
+                    area,
+                    host,
+                    turns next,
+                    record { writes = writes_none (numbers n (written whole at left).bytes) (numbers n kept); step = step; seen = refl; sure = refl },
+                  )
                 ];
               }
 
@@ -753,9 +752,9 @@ module _ (n : ℕ) (whole : DiskState) (kept : List ℕ) (ties : Ties n whole ke
                         | inl was_sure ↦ inl (after ∙ was_sure ∙ sym sure)
                         | inr (inl was_seen) ↦ inr (inl (after ∙ was_seen ∙ sym seen))
                         | inr (inr next) ↦ inr (inr (
-                            after ∙ next.0 ∙ ap (λ (m : ℕ). m + 1) (sym seen),
-                            record { rests = seen ∙ next.1.0 ∙ sym sure; cleared = λ odd. next.1.1 (ap (λ (m : ℕ). m % 2) (sym sure) ∙ odd) },
-                          ))
+                          after ∙ next.0 ∙ ap (λ (m : ℕ). m + 1) (sym seen),
+                          record { rests = seen ∙ next.1.0 ∙ sym sure; cleared = λ odd. next.1.1 (ap (λ (m : ℕ). m % 2) (sym sure) ∙ odd) },
+                        ))
                       ])
                   | inr above ↦ inl (no_host n new.bytes area host is_area above ∙ sym (no_host n kept area host is_area above))
                 ]
@@ -835,10 +834,10 @@ module _ (IsCrash : DiskState → DiskState → Type 0) (leaves : (old new : Dis
       elim by.goes [
         | inl goes ↦ (act ∷ rest.0, (shared n all.0 by.kept_then, goes, rest.1), part_more e act rest.0 calls rest.2)
         | inr turns ↦ (
-            Turns turns.1 turns.2 ∷ act ∷ rest.0,
-            (turns.0, turns.3, (shared n all.0 by.kept_then, turns.4, rest.1)),
-            part_more e act rest.0 calls rest.2,
-          )
+          Turns turns.1 turns.2 ∷ act ∷ rest.0,
+          (turns.0, turns.3, (shared n all.0 by.kept_then, turns.4, rest.1)),
+          part_more e act rest.0 calls rest.2,
+        )
       ]
 
 -- the same from one disk to another
@@ -878,19 +877,19 @@ module _ (IsCrash : DiskState → DiskState → Type 0) (leaves : (old new : Dis
       let rest = goes_along calls all.0 by.kept_then last by.ties_then all.2 in
       elim by.goes [
         | inl goes ↦ record {
-            kept_last = rest.kept_last;
-            ties_last = rest.ties_last;
-            acts = act ∷ rest.acts;
-            goes = (shared n all.0 by.kept_then, goes, rest.goes);
-            none = none_more act calls rest.acts rest.none;
-          }
+          kept_last = rest.kept_last;
+          ties_last = rest.ties_last;
+          acts = act ∷ rest.acts;
+          goes = (shared n all.0 by.kept_then, goes, rest.goes);
+          none = none_more act calls rest.acts rest.none;
+        }
         | inr turns ↦ record {
-            kept_last = rest.kept_last;
-            ties_last = rest.ties_last;
-            acts = Turns turns.1 turns.2 ∷ act ∷ rest.acts;
-            goes = (turns.0, turns.3, (shared n all.0 by.kept_then, turns.4, rest.goes));
-            none = none_more act calls rest.acts rest.none;
-          }
+          kept_last = rest.kept_last;
+          ties_last = rest.ties_last;
+          acts = Turns turns.1 turns.2 ∷ act ∷ rest.acts;
+          goes = (turns.0, turns.3, (shared n all.0 by.kept_then, turns.4, rest.goes));
+          none = none_more act calls rest.acts rest.none;
+        }
       ]
 
 -- at first

@@ -1,12 +1,12 @@
 -- Numbers only rise while a disk does not crash, so two readings tell what was seen in between.
-use Rattle.std.specs.Prelude.{◌⊎◌, ◌&&◌}
-use Rattle.std.proofs.Common.{ℕ, zero, suc, ◌≡◌, ◌+◌, ◌≤◌, ◌<◌, ◌==◌, Bool, true, false, List, [], ◌∷◌, refl, sym, ◌∙◌, ap, subst, inl, inr, arith}
+use Rattle.std.specs.Prelude.{◌&&◌}
+use Rattle.std.proofs.Common.{ℕ, ◌≡◌, ◌+◌, ◌≤◌, ◌==◌, Bool, true, false, List, [], ◌∷◌, refl, sym, ◌∙◌, ap, inl, inr, arith}
 use Rattle.std.proofs.lemmas.Bool.{cases_order, cases_Bool, eqb-true, eq-eqb, ne_eqb, and_parts}
 use Rattle.paxos_block.specs.Shape.{Shape}
 use Rattle.world.specs.Entry.{Filled, Start, Stop, Begin, Called, Crashed, Lost, Migrated}
 use Rattle.world.specs.Entry as entries
 use Rattle.disk.specs.Disk.{DiskState, Attach, Read, Write, Sync}
-use Rattle.epochs.specs.Acts.{Epoch, Shared, Act, In, Beside, Turns, Ends, GoesIn, IsTurned, GoesBy, GoesThrough, HasNoCrash, IsShown, shown_by, AreClear, ReadingsShow}
+use Rattle.epochs.specs.Acts.{Epoch, Shared, Act, In, Beside, Turns, Ends, GoesIn, IsTurned, GoesBy, GoesThrough, HasNoCrash, shown_by, ReadingsShow}
 
 -- it is not less
 Rises : Shared → Shared → Type 0

@@ -4,7 +4,7 @@ ghost use Rattle.epochs.specs.Acts.{AreasServe, AreasServeOn, IsModelCrash, Read
 ghost use Rattle.epochs.specs.Beats.{BeatsServe, BeatsServeOn};
 ghost use Rattle.epochs.specs.Bytes.{CallsServe, CallsServeOn, ReadBytesShow};
 ghost use Rattle.epochs.specs.Laws.{OwnCallsAreSteps, OwnTearsAreTears, OthersLeaveIt, CrashesAreCrashes, LossesAreLosses, StandingsChangeNothing, FreshDisksShowNothing, NobodyShowsNothing};
-ghost use Rattle.epochs.specs.Numbers.{ZerosAreNone, OthersLeaveNumbers, SyncsMakeSure, CrashesLeaveOne, WritesAreNext};
+ghost use Rattle.epochs.specs.Numbers.{ZerosAreNone, OthersLeaveNumbers, SyncsMakeSure, CrashesLeaveOne, WritesAreNext, WritesRaise};
 ghost use Rattle.epochs.specs.OneLog.{EpochsAreAtOnce, EpochsAreOverLosses, EpochsAreRuns};
 
 /// For each epoch an area of a disk shows an image. What hosts of the epoch do is done to that image; what is done for other epochs
@@ -28,6 +28,7 @@ pub fn numbers_are_bytes()
     ensures syncs { SyncsMakeSure }
     ensures crashes { CrashesLeaveOne }
     ensures writes { WritesAreNext }
+    ensures raises { WritesRaise }
 {}
 
 /// Hosts of all epochs make their calls on a disk in any order; some come to an epoch, others have left it, and others died in
