@@ -1,7 +1,7 @@
 // Areas of disks that are used again for each epoch: what an area shows, the numbers of hosts, and what hosts of all epochs do.
 ghost use Rattle.at_once.specs.Power.{LosesPower};
 ghost use Rattle.epochs.specs.Acts.{AreasServe, AreasServeOn, IsModelCrash, ReadingsShow};
-ghost use Rattle.epochs.specs.Beats.{BeatsServe, BeatsServeOn};
+ghost use Rattle.epochs.specs.Beats.{BeatsServe, BeatsServeOn, ReadBeatsShow};
 ghost use Rattle.epochs.specs.Bytes.{CallsServe, CallsServeOn, ReadBytesShow};
 ghost use Rattle.epochs.specs.Laws.{OwnCallsAreSteps, OwnTearsAreTears, OthersLeaveIt, CrashesAreCrashes, LossesAreLosses, StandingsChangeNothing, FreshDisksShowNothing, NobodyShowsNothing};
 ghost use Rattle.epochs.specs.Numbers.{ZerosAreNone, OthersLeaveNumbers, SyncsMakeSure, CrashesLeaveOne, WritesAreNext, WritesRaise};
@@ -59,6 +59,9 @@ pub fn beats_serve()
     ensures serves { BeatsServe }
     // So it is with a file, over losses of power.
     ensures power { BeatsServeOn }
+    // Two readings of the standings show the same.
+    ensures readings { ReadBeatsShow IsModelCrash }
+    ensures readings_on { ReadBeatsShow LosesPower }
 {}
 
 /// So what is done in an epoch is a run of the world that begins on zeros, and has one log.
