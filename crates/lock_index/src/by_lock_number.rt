@@ -9,8 +9,7 @@ ghost use Rattle.lock_command.specs.Locks.{is_lock, lock_in, without, put, IsDis
 use crate::by_printed_order::take_place;
 use crate::hosts::Hosts;
 use crate::narrowing::{lower, passed_of_three};
-use crate::record::{LOCKS, LockRecord};
-use lock_command::{HostNumber, LockNumber};
+use lock_command::{HostNumber, LOCKS, LockNumber, LockRecord};
 use std::alloc::{AllocError, Global};
 use std::cell::Cell;
 use std::marker::Model;

@@ -10,9 +10,8 @@ ghost use Rattle.lock_index.specs.Shelved.{at_place, idle, times};
 use crate::bits::{WRITERS, bits_against};
 use crate::hosts::Hosts;
 use crate::keys::{SpelledName, lock_key};
-use crate::record::{LOCKS, LockRecord};
 use crate::state::held_bit;
-use lock_command::{ClientNumber, HostNumber, Mode};
+use lock_command::{ClientNumber, HostNumber, LOCKS, LockRecord, Mode};
 use std::alloc::{AllocError, Global};
 use std::marker::Model;
 

@@ -13,9 +13,8 @@ ghost use Rattle.lock_command.specs.declared.record.LockRecord.{LockRecord};
 use crate::by_printed_order::ByPrintedOrder;
 use crate::keys::{SpelledName, lock_key};
 use crate::narrowing::passed_of_three;
-use crate::record::{LOCKS, LockRecord};
 use crate::state::is_granted;
-use lock_command::{LockName, LockNumber, Mode};
+use lock_command::{LOCKS, LockName, LockNumber, LockRecord, Mode};
 
 /// Where the granted locks of a name stand: from one place to before another.
 #[derive(Clone, Copy)]

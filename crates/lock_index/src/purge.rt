@@ -6,8 +6,7 @@ ghost use Rattle.lock_command.specs.Locks.{is_on};
 
 use crate::by_printed_order::ByPrintedOrder;
 use crate::keys::SpelledName;
-use crate::record::LOCKS;
-use lock_command::HostNumber;
+use lock_command::{HostNumber, LOCKS};
 
 /// Takes out the locks that were enqueued through a host, lists their names, and counts them. It looks at each lock once. A name is
 /// listed once, since its locks are side by side.
