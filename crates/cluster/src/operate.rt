@@ -79,8 +79,9 @@ impl<'a, N: ClusterName, D: Disk + Drop> Cluster<'a, N, D> {
         }
     }
 
-    /// Learns the commands that marks tell, up to the first slot of which none does, and tells how many commands the host has
-    /// learned. It writes nothing and outruns no host. What was acknowledged and is not marked, it does not find.
+    /// Looks at slot after slot, and learns from each the command that a mark tells. It ends at the first slot where it finds no
+    /// mark, and tells how many commands the host has learned. It writes nothing and outruns no host. What was acknowledged and is
+    /// not marked, it does not find.
     pub fn look<G: Gate>(
         &self,
         rt: &impl Wait,

@@ -1,13 +1,13 @@
 -- A task of a host, from answer to answer, and how an operation ends.
 use Rattle.std.specs.Prelude.{◌≡◌, ◌≤◌, ℕ, true, List, [], ◌∷◌, ◌++◌, length, slice_get, slice_set, Option, Some}
 use Rattle.torn_block.specs.Layout.{cluster_version}
-use Rattle.torn_block.specs.declared.layout.TheConstants.{DISKS, SLOTS}
 use Rattle.paxos_block.specs.Places.{image_length}
 use Rattle.disk.specs.Disk.{Call, Answer}
 use Rattle.attempt.specs.Answers.{heard_as}
 use Rattle.attempt.specs.History.{Fits}
 use Rattle.attempt.specs.Looking.{OnlyReads}
 use Rattle.paxos_block.specs.Shape.{Shape}
+use Rattle.folders.specs.Folders.{IsSmall}
 use Rattle.lock_command.specs.declared.command.Command.{Command}
 use Rattle.lock_command.specs.declared.reply.Reply.{Reply}
 use Rattle.host.specs.Host.{Memory, Doing, Attempts, Operation, Submitting, Recovering, goes_on, starts_marking, looks_on, hears_from, next_in, reply_after}

@@ -161,8 +161,8 @@ impl<D: Disk> DiskHost<D> {
         }
     }
 
-    /// Learns the commands that marks tell, up to the first slot of which none does, and tells how many are learned then. It syncs and
-    /// writes nothing, and outruns nobody; what was acknowledged and not marked is not found.
+    /// Looks at slot after slot, and learns from each the command that a mark tells. It ends at the first slot where it finds no mark, and tells how
+    /// many commands are learned then. It syncs and writes nothing, and outruns nobody; what was acknowledged and not marked is not found.
     pub fn look(&mut self) -> Result<u16, Refusal>
         ensures looked { HasLooked D.gives self.old self.new }
         ensures same { self.new.core.learner.host ≡ self.old.core.learner.host }

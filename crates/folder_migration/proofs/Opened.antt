@@ -1,5 +1,5 @@
 -- A right image is the same once its gate is opened; what is found of an image; lists of images, one by one.
-use Rattle.std.proofs.Common.{◌≡◌, ◌↔◌, ◌<◌, ◌≤◌, ◌+◌, ℕ, zero, suc, Bool, true, false, nat_lt, arith, refl, List, [], ◌∷◌, ◌++◌, Some, Result, Ok, Err, IfErr, slice_get, slice_set, sym, ◌∙◌, ap, subst, inr}
+use Rattle.std.proofs.Common.{◌≡◌, ◌↔◌, ◌<◌, ◌≤◌, ◌+◌, ℕ, zero, suc, Bool, true, false, nat_lt, arith, refl, List, [], ◌∷◌, Some, Result, Ok, Err, IfErr, slice_get, slice_set, sym, ◌∙◌, ap, subst, inr}
 use Rattle.std.specs.Result.{IsErrAnd}
 use Rattle.std.proofs.lemmas.Bool.{ltb-true, ltb-false}
 use Rattle.std.proofs.lemmas.List.{length-set}
@@ -21,13 +21,6 @@ same_opened disk long bytes header right = ap (λ (l : List ℕ). slice_set l 0 
 
 pub right_opened : (disk long : ℕ) (bytes : List ℕ) (header : Header) → IsRight cluster_version disk long bytes header → IsRight cluster_version disk long (slice_set bytes 0 OPEN_GATE) header
 right_opened disk long bytes header right = subst (λ (l : List ℕ). IsRight cluster_version disk long l header) (sym (same_opened disk long bytes header right)) right
-
--- what holds of all and of one more, holds of all then
-pub each_more : {X : Type 0} (P : X → Type 0) (xs : List X) (x : X) → P x → ((k : ℕ) (a : X) → slice_get xs k ≡ Some a → P a) → (k : ℕ) (a : X) → slice_get (xs ++ x ∷ []) k ≡ Some a → P a
-each_more P [] x px all zero a is = let e : x ≡ a = cc in subst P e px
-each_more P [] x px all (suc k) a is = absurd (cc)
-each_more P (y ∷ ys) x px all zero a is = all zero a is
-each_more P (y ∷ ys) x px all (suc k) a is = each_more P ys x px (λ n b e. all (suc n) b e) k a is
 
 -- IMAGES THAT ARE LOOKED AT ONE AFTER ANOTHER
 

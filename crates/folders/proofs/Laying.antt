@@ -1,19 +1,19 @@
 -- Images that are laid out together: calls that were made, lists of disks one by one, and both halves of one image.
-use Rattle.std.proofs.Common.{◌≡◌, ◌<◌, ◌≤◌, ◌+◌, ℕ, zero, suc, Bool, true, false, nat_lt, arith, refl, List, [], ◌∷◌, ◌++◌, Some, Result, Ok, Err, IfErr, OnOk, length, get_or, slice_get, slice_index, slice_set, sym, ◌∙◌, ap, subst}
+use Rattle.std.proofs.Common.{◌≡◌, ◌<◌, ◌≤◌, ◌+◌, ℕ, zero, suc, Bool, true, false, nat_lt, arith, refl, List, [], ◌∷◌, ◌++◌, Some, Result, Ok, Err, IfErr, OnErr, OnOk, length, get_or, slice_get, slice_index, slice_set, sym, ◌∙◌, ap, subst}
 use Rattle.std.specs.Result.{IsErrAnd}
 use Rattle.std.proofs.lemmas.Bool.{ltb-true, ltb-false}
 use Rattle.std.proofs.lemmas.List.{length-set}
 use Rattle.std.proofs.lemmas.Option.{slice_get-get_or}
-use Rattle.disk.specs.Disk.{Device, Call, Write, Sync, Answer, Done}
-use Rattle.disk.specs.FileStates.{FileState, FileGives}
+use Rattle.disk.specs.Disk.{Device, Call, Write, Sync, Answer, Done, Fault, done_answer}
+use Rattle.disk.specs.declared.fault.DiskFault.{DiskFault}
 use Rattle.disk.specs.declared.boot.Boot.{Boot}
 use Rattle.torn_block.specs.declared.block.TheConstants.{OPEN_GATE}
 use Rattle.torn_block.specs.Layout.{cluster_version}
 use Rattle.paxos_block.specs.declared.header.Header.{Header}
 use Rattle.paxos_block.specs.Headers.{header_saying}
 use Rattle.paxos_block.specs.Shape.{Shape}
-use Rattle.folders.specs.Layout.{IsLaidOut, AreLaidOut, closed_header, header_of}
-use Rattle.folders.specs.Formatting.{IsLaidOutClosed, HasGateOpened, MakesOnly, nothing, and_then, OpensGate, OpensNoGate, EachBecame, FirstBecame, AreClosed, AreOpened, AreLaidOutTogether, AreNew, StopsOpening, StopsLaying}
+use Rattle.folders.specs.Layout.{IsLaidOut, closed_header, header_of}
+use Rattle.folders.specs.Formatting.{IsLaidOutClosed, HasGateOpened, MakesOnly, nothing, and_then, OpensGate, OpensNoGate, EachBecame, FirstBecame, AreClosed, AreOpened, AreLaidOutTogether, EndsInFault, OneBecame, StopsOpening, StopsLaying}
 use Rattle.folders.specs.declared.layout.LayFault.{LayFault}
 use Rattle.folders.specs.declared.layout.LayFault.TheVariants.{NotWhole, NotOpened}
 
@@ -25,6 +25,24 @@ one_call gives may old new call is answer gave = and_then old old new (nothing o
 pub together : {D : Type 0} (gives : D → Call → Answer → D → Type 0) (may : Call → Type 0) (old between new : D) → MakesOnly gives may old between → MakesOnly gives may between new → MakesOnly gives may old new
 together gives may old between new first (nothing disk) = first
 together gives may old between new first (and_then from last to made call is answer gave) = and_then old last to (together gives may old from last first made) call is answer gave
+
+-- the last one was answered with a fault
+pub fails_in : {D : Type 0} (gives : D → Call → Answer → D → Type 0) (may : Call → Type 0) (old last new : D) → MakesOnly gives may old last → (call : Call) → may call → (fault : DiskFault) → gives last call (Fault fault) new → EndsInFault gives may old new
+fails_in gives may old last new made call is fault failed = record { last = last; made = made; call = call; is = is; fault = fault; failed = failed }
+
+pub fails_after : {D : Type 0} (gives : D → Call → Answer → D → Type 0) (may : Call → Type 0) (old between new : D) → MakesOnly gives may old between → EndsInFault gives may between new → EndsInFault gives may old new
+fails_after gives may old between new first f = record { last = f.last; made = together gives may old between f.last first f.made; call = f.call; is = f.is; fault = f.fault; failed = f.failed }
+
+-- so the function fails that made it
+pub or_fails : {D T : Type 0} (gives : D → Call → Answer → D → Type 0) (may : Call → Type 0) (old last new : D) → MakesOnly gives may old last → (call : Call) → may call
+    → (result : Result T DiskFault) → gives last call (done_answer result) new → OnErr result (EndsInFault gives may old new)
+or_fails gives may old last new made call is (Ok done) gave = tt
+or_fails gives may old last new made call is (Err fault) gave = fails_in gives may old last new made call is fault gave
+
+-- where a function failed, this is so
+pub on_err : {T E : Type 0} (P : Type 0) → P → (result : Result T E) → OnErr result P
+on_err P so (Ok done) = tt
+on_err P so (Err fault) = so
 
 -- DISKS ONE AFTER ANOTHER
 
@@ -79,6 +97,14 @@ one_more {X} becomes n old now a b at_a one w = record { as_many = length-set no
 
     first : (k : ℕ) (x y : X) → k < n + 1 → slice_get old k ≡ Some x → slice_get (slice_set now n b) k ≡ Some y → becomes k x y
     first k x y below = up_to (λ (m : ℕ). slice_get old m ≡ Some x → slice_get (slice_set now n b) m ≡ Some y → becomes m x y) n k (lower k x y) (here x y) below
+
+-- and of this one more is known
+pub one_became : {X : Type 0} (each : ℕ → X → X → Type 0) (becomes : X → X → Type 0) (n : ℕ) (old now : List X) (a b : X) → slice_get now n ≡ Some a → becomes a b → FirstBecame each n old now → OneBecame becomes n old (slice_set now n b)
+one_became each becomes n old now a b at_a one w = record { before = a; after = b; was = sym (w.others n (omega arith)) ∙ at_a; is = set_same now n a b at_a; became = one }
+
+-- which stays so when another one is changed
+pub one_stays : {X : Type 0} (becomes : X → X → Type 0) (k n : ℕ) (old now : List X) (b : X) → k < n → OneBecame becomes k old now → OneBecame becomes k old (slice_set now n b)
+one_stays becomes k n old now b below one = record { before = one.before; after = one.after; was = one.was; is = set_other now n k b (λ e. let same : k ≡ n = e in omega (arith, below, same)) ∙ one.is; became = one.became }
 
 -- what it became may be known of more than the disk: so it is also once this other thing is known
 pub known_more : {X : Type 0} (one other : ℕ → X → X → Type 0) (n : ℕ) (old now : List X) → ((k : ℕ) (a b : X) → k < n → one k a b → other k a b) → FirstBecame one n old now → FirstBecame other n old now
@@ -225,32 +251,20 @@ pub all_laid_out : {D T : Type 0} (gives : D → Call → Answer → D → Type 
 all_laid_out gives config cluster boots old whole new count closed (Ok done) opened = laid_out_together gives config cluster boots old whole new count closed opened
 all_laid_out gives config cluster boots old whole new count closed (Err why) opened = tt
 
-at_place : {X : Type 0} (xs : List X) (k : ℕ) → k < length xs → (x : X) × (slice_get xs k ≡ Some x)
-at_place [] k less = absurd (omega (arith, less))
-at_place (y ∷ ys) zero less = (y, refl)
-at_place (y ∷ ys) (suc k) less = let below : k < length ys = omega (arith, less) in at_place ys k below
-
--- of files and devices with room for them
-pub laid_out_of_new : (config : Shape) (cluster : ℕ) (old new : List FileState) → AreNew config old → AreLaidOutTogether FileGives config cluster old new → AreLaidOut config cluster config.disks
-laid_out_of_new config cluster old new fresh w disk below =
-    let less : disk < length old = omega (arith, below, fresh.as_many) in
-    let (a, at_a) = at_place old disk less in
-    let (b, at_b) = there old new disk a w.images.as_many at_a in
-    record { old = a; new = b; room = fresh.room disk a at_a; laid_out = w.images.each disk a b at_a at_b }
-
 -- STOPS
 
 pub not_whole : {D T : Type 0} (gives : D → Call → Answer → D → Type 0) (config : Shape) (cluster : ℕ) (old new : List D) (disk : ℕ) → disk < config.disks
+    → OneBecame (EndsInFault gives (OpensNoGate (header_of config cluster disk))) disk old new
     → EachBecame (λ (k : ℕ) (a b : D). MakesOnly gives (OpensNoGate (header_of config cluster k)) a b) old new → (why : LayFault) → why ≡ NotWhole disk
     → (result : Result T LayFault) → IsErrAnd result (λ fault. fault ≡ why) → IfErr result (StopsLaying gives config cluster old new)
-not_whole gives config cluster old new disk below made why is (Ok done) ended = absurd ended
-not_whole gives config cluster old new disk below made why is (Err fault) ended = subst (StopsLaying gives config cluster old new) (sym (ended ∙ is)) (below, made)
+not_whole gives config cluster old new disk below one made why is (Ok done) ended = absurd ended
+not_whole gives config cluster old new disk below one made why is (Err fault) ended = subst (StopsLaying gives config cluster old new) (sym (ended ∙ is)) (below, one, made)
 
 pub not_opened : {D T : Type 0} (gives : D → Call → Answer → D → Type 0) (config : Shape) (old new : List D) (disk : ℕ) → disk < config.disks
-    → EachBecame (λ (k : ℕ) (a b : D). MakesOnly gives OpensGate a b) old new → (why : LayFault) → why ≡ NotOpened disk
+    → OneBecame (EndsInFault gives OpensGate) disk old new → EachBecame (λ (k : ℕ) (a b : D). MakesOnly gives OpensGate a b) old new → (why : LayFault) → why ≡ NotOpened disk
     → (result : Result T LayFault) → IsErrAnd result (λ fault. fault ≡ why) → IfErr result (StopsOpening gives config old new)
-not_opened gives config old new disk below made why is (Ok done) ended = absurd ended
-not_opened gives config old new disk below made why is (Err fault) ended = subst (StopsOpening gives config old new) (sym (ended ∙ is)) (below, made)
+not_opened gives config old new disk below one made why is (Ok done) ended = absurd ended
+not_opened gives config old new disk below one made why is (Err fault) ended = subst (StopsOpening gives config old new) (sym (ended ∙ is)) (below, one, made)
 
 -- once all were whole
 pub stops_after : {D T : Type 0} (gives : D → Call → Answer → D → Type 0) (config : Shape) (cluster : ℕ) (boots : List Boot) (old whole new : List D) → length old ≡ config.disks → AreClosed gives config cluster boots config.disks old whole

@@ -1,7 +1,8 @@
 -- How the images of a set are laid out together: no gate is opened before each of them is whole.
 use Rattle.std.specs.Prelude.{◌≡◌, ◌⊎◌, ◌<◌, ◌≤◌, ℕ, List, [], ◌∷◌, length, replicate, slice_get, Some}
-use Rattle.disk.specs.Disk.{Device, Call, Attach, Write, Sync, Answer, Booted, Done}
-use Rattle.disk.specs.FileStates.{FileState}
+use Rattle.disk.specs.Disk.{Device, Call, Attach, Write, Sync, Answer, Booted, Done, Fault}
+use Rattle.disk.specs.declared.fault.DiskFault.{DiskFault}
+use Rattle.disk.specs.FileStates.{FileState, FileGives}
 use Rattle.disk.specs.declared.boot.Boot.{Boot}
 use Rattle.torn_block.specs.Layout.{cluster_version}
 use Rattle.torn_block.specs.declared.block.TheConstants.{OPEN_GATE}
@@ -37,6 +38,15 @@ pub data MakesOnly {D : Type 0} (gives : D → Call → Answer → D → Type 0)
   nothing : (disk : D) → MakesOnly gives may disk disk
   and_then : (old between new : D) → MakesOnly gives may old between → (call : Call) → may call → (answer : Answer) → gives between call answer new → MakesOnly gives may old new
 
+-- only such calls were made, and the last of them was answered with a fault
+pub record EndsInFault {D : Type 0} (gives : D → Call → Answer → D → Type 0) (may : Call → Type 0) (old new : D) : Type 0 where
+  pub last : D
+  pub made : MakesOnly gives may old last
+  pub call : Call
+  pub is : may call
+  pub fault : DiskFault
+  pub failed : gives last call (Fault fault) new
+
 -- the call opens no gate: it writes zeros, or this header with a closed gate, if it writes at all
 abbrev pub OpensNoGate : Header → Call → Type 0
 OpensNoGate header (Write boot at from) = (from ≡ replicate (length from) 0) ⊎ ((at ≡ 0) × (from ≡ closed_header header))
@@ -65,6 +75,14 @@ pub record FirstBecame {D : Type 0} (becomes : ℕ → D → D → Type 0) (n : 
   pub first : (k : ℕ) (a b : D) → k < n → slice_get old k ≡ Some a → slice_get new k ≡ Some b → becomes k a b
   pub others : (k : ℕ) → n ≤ k → slice_get new k ≡ slice_get old k
 
+-- the disk of this number became another one so
+pub record OneBecame {D : Type 0} (becomes : D → D → Type 0) (n : ℕ) (old new : List D) : Type 0 where
+  pub before : D
+  pub after : D
+  pub was : slice_get old n ≡ Some before
+  pub is : slice_get new n ≡ Some after
+  pub became : becomes before after
+
 -- the first so many images were laid out with closed gates, under these boots of their disks
 abbrev pub AreClosed : {D : Type 0} → (D → Call → Answer → D → Type 0) → Shape → (cluster : ℕ) → List Boot → (n : ℕ) → (old new : List D) → Type 0
 AreClosed gives config cluster boots = FirstBecame (λ disk old new. (boot : Boot) × (slice_get boots disk ≡ Some boot) × IsLaidOutClosed gives old (header_of config cluster disk) boot.number new)
@@ -87,11 +105,14 @@ pub record AreLaidOutTogether {D : Type 0} (gives : D → Call → Answer → D 
 -- Of one of the disks a call failed that was to open a gate: nothing else was asked of any disk, but what opens gates.
 abbrev pub StopsOpening : {D : Type 0} → (D → Call → Answer → D → Type 0) → Shape → (old new : List D) → LayFault → Type 0
 StopsOpening gives config old new (NotWhole disk) = ⊥
-StopsOpening gives config old new (NotOpened disk) = (disk < config.disks) × EachBecame (λ disk old new. MakesOnly gives OpensGate old new) old new
+StopsOpening gives config old new (NotOpened disk) =
+    (disk < config.disks) × OneBecame (EndsInFault gives OpensGate) disk old new × EachBecame (λ disk old new. MakesOnly gives OpensGate old new) old new
 
 -- Of one of the disks a call failed. Before each image was whole no gate was opened on any disk; or all were whole by then, and gates were opened.
 abbrev pub StopsLaying : {D : Type 0} → (D → Call → Answer → D → Type 0) → Shape → (cluster : ℕ) → (old new : List D) → LayFault → Type 0
-StopsLaying {D} gives config cluster old new (NotWhole disk) = (disk < config.disks) × EachBecame (λ disk old new. MakesOnly gives (OpensNoGate (header_of config cluster disk)) old new) old new
+StopsLaying {D} gives config cluster old new (NotWhole disk) =
+    (disk < config.disks) × OneBecame (EndsInFault gives (OpensNoGate (header_of config cluster disk))) disk old new
+    × EachBecame (λ disk old new. MakesOnly gives (OpensNoGate (header_of config cluster disk)) old new) old new
 StopsLaying {D} gives config cluster old new (NotOpened disk) =
     (whole : List D) × AreWhole gives config cluster old whole × StopsOpening gives config whole new (NotOpened disk)
 
@@ -99,3 +120,10 @@ StopsLaying {D} gives config cluster old new (NotOpened disk) =
 pub record AreNew (config : Shape) (devices : List FileState) : Type 0 where
   pub as_many : length devices ≡ config.disks
   pub room : (k : ℕ) (device : FileState) → slice_get devices k ≡ Some device → image_length cluster_version config.slots ≤ device.size
+
+-- files or devices with room for them were laid out together as the images of a folder
+pub record WereLaidOut (config : Shape) (cluster : ℕ) : Type 0 where
+  pub old : List FileState
+  pub new : List FileState
+  pub fresh : AreNew config old
+  pub laid_out : AreLaidOutTogether FileGives config cluster old new

@@ -1,7 +1,6 @@
--- How an image is laid out: the calls of its disk, in their order, all of which succeeded; and all images of a set.
-use Rattle.std.specs.Prelude.{◌≡◌, ◌+◌, ◌<◌, ◌≤◌, ℕ, List, [], ◌∷◌, drop, replicate}
+-- How an image is laid out: the calls of its disk, in their order, all of which succeeded.
+use Rattle.std.specs.Prelude.{◌≡◌, ◌+◌, ℕ, List, [], ◌∷◌, drop, replicate}
 use Rattle.disk.specs.Disk.{Call, Attach, Write, Sync, Answer, Booted, Done}
-use Rattle.disk.specs.FileStates.{FileState, FileGives}
 use Rattle.torn_block.specs.Layout.{cluster_version}
 use Rattle.torn_block.specs.declared.block.TheConstants.{OPEN_GATE}
 use Rattle.paxos_block.specs.declared.header.Header.{Header}
@@ -39,15 +38,3 @@ pub record IsLaidOut {D : Type 0} (gives : D → Call → Answer → D → Type 
   pub syncs_header : gives closed (Sync boot) Done ready
   pub opens : gives ready (Write boot 0 (OPEN_GATE ∷ [])) Done opened
   pub syncs_gate : gives opened (Sync boot) Done new
-
--- A file or device with room for the image of this disk was laid out as that image. Nothing is known of the bytes of a file, so this says which
--- calls were made, and how much of it was made zeros.
-pub record WasLaidOut (config : Shape) (cluster disk : ℕ) : Type 0 where
-  pub old : FileState
-  pub new : FileState
-  pub room : image_length cluster_version config.slots ≤ old.size
-  pub laid_out : IsLaidOut FileGives old (header_of config cluster disk) new
-
--- for each of the first so many disks one was
-abbrev pub AreLaidOut : Shape → (cluster n : ℕ) → Type 0
-AreLaidOut config cluster n = (disk : ℕ) → disk < n → WasLaidOut config cluster disk

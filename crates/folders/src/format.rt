@@ -3,8 +3,7 @@ ghost use Rattle.torn_block.specs.Layout.{cluster_version};
 ghost use Rattle.paxos_block.specs.Places.{image_length};
 ghost use Rattle.folders.specs.SetFaults.{IsFormatFault};
 ghost use Rattle.folders.specs.Finishing.{AreThere, WereFinished};
-ghost use Rattle.folders.specs.Formatting.{AreNew};
-ghost use Rattle.folders.specs.Layout.{AreLaidOut};
+ghost use Rattle.folders.specs.Formatting.{AreNew, WereLaidOut};
 
 use crate::fault::FolderFault;
 use crate::image::{Access, first_bytes, image_path, open_cut_to_header};
@@ -30,7 +29,7 @@ pub fn format_folder<R: Files + AllocGlobal>(
 ) -> Result<(), FolderFault>
 where
     R::File: FileExt + OpenFile + Drop,
-    ensures laid_out { OnOk result (AreLaidOut config cluster config.disks ⊎ WereFinished config cluster) }
+    ensures laid_out { OnOk result (WereLaidOut config cluster ⊎ WereFinished config cluster) }
     ensures fault { IfErr result (IsFormatFault config.disks) }
 {
     if finish_folder(rt, folder, config, cluster)? {
@@ -91,7 +90,7 @@ fn make_folder<R: Files + AllocGlobal>(
 ) -> Result<(), FolderFault>
 where
     R::File: FileExt + OpenFile + Drop,
-    ensures laid_out { OnOk result (AreLaidOut config cluster config.disks) }
+    ensures laid_out { OnOk result (WereLaidOut config cluster) }
     ensures fault { IfErr result (IsFormatFault config.disks) }
 {
     refuse_taken(rt, folder, config)?;

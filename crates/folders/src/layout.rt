@@ -1,9 +1,9 @@
-ghost use Rattle.std.specs.Prelude.{◌≡◌, ◌≤◌, ◌<◌, ℕ, Some, OnOk, IfOk, IfErr, length, slice_get};
+ghost use Rattle.std.specs.Prelude.{◌≡◌, ◌≤◌, ◌<◌, ℕ, Some, OnErr, OnOk, IfOk, IfErr, length, slice_get};
 ghost use Rattle.torn_block.specs.Layout.{cluster_version};
 ghost use Rattle.paxos_block.specs.Headers.{header_saying};
 ghost use Rattle.paxos_block.specs.Places.{image_length};
 ghost use Rattle.paxos_block.specs.declared.header.Header.{Header as Said};
-ghost use Rattle.folders.specs.Formatting.{AreClosed, AreLaidOutTogether, AreOpened, HasGateOpened, HaveRoom, IsLaidOutClosed, MakesOnly, OpensGate, OpensNoGate, StopsLaying, StopsOpening};
+ghost use Rattle.folders.specs.Formatting.{AreClosed, AreLaidOutTogether, AreOpened, EndsInFault, HasGateOpened, HaveRoom, IsLaidOutClosed, MakesOnly, OpensGate, OpensNoGate, StopsLaying, StopsOpening};
 ghost use Rattle.folders.specs.Layout.{WritesZeros, header_of};
 
 use disk::{Boot, Disk, DiskFault};
@@ -84,6 +84,7 @@ fn write_image<D: Disk>(
     requires large { image_length cluster_version config.slots ≤ (D.device device.old).size }
     ensures whole { IfOk result (λ boot. IsLaidOutClosed D.gives device.old (header_of config cluster disk) boot.number device.new) }
     ensures fault { IfErr result (λ why. why ≡ LayFault.NotWhole disk) }
+    ensures failed { OnErr result (EndsInFault D.gives (OpensNoGate (header_of config cluster disk)) device.old device.new) }
     ensures closed { MakesOnly D.gives (OpensNoGate (header_of config cluster disk)) device.old device.new }
     ensures device { D.device device.new ≡ D.device device.old }
 {
@@ -103,6 +104,7 @@ fn put_closed<D: Disk>(
     requires disk { disk < config.disks }
     requires large { image_length cluster_version config.slots ≤ (D.device device.old).size }
     ensures whole { IfOk result (λ boot. IsLaidOutClosed D.gives device.old (header_of config cluster disk) boot.number device.new) }
+    ensures failed { OnErr result (EndsInFault D.gives (OpensNoGate (header_of config cluster disk)) device.old device.new) }
     ensures closed { MakesOnly D.gives (OpensNoGate (header_of config cluster disk)) device.old device.new }
     ensures device { D.device device.new ≡ D.device device.old }
 {
@@ -134,6 +136,7 @@ fn open_gate<D: Disk>(device: &mut D, boot: Boot, disk: u8) -> Result<(), LayFau
     requires { 1 ≤ (D.device device.old).size }
     ensures opened { OnOk result (HasGateOpened D.gives device.old boot.number device.new) }
     ensures fault { IfErr result (λ why. why ≡ LayFault.NotOpened disk) }
+    ensures failed { OnErr result (EndsInFault D.gives OpensGate device.old device.new) }
     ensures only { MakesOnly D.gives OpensGate device.old device.new }
     ensures device { D.device device.new ≡ D.device device.old }
 {
@@ -146,6 +149,7 @@ fn open_gate<D: Disk>(device: &mut D, boot: Boot, disk: u8) -> Result<(), LayFau
 fn put_gate<D: Disk>(device: &mut D, boot: Boot) -> Result<(), DiskFault>
     requires { 1 ≤ (D.device device.old).size }
     ensures opened { OnOk result (HasGateOpened D.gives device.old boot.number device.new) }
+    ensures failed { OnErr result (EndsInFault D.gives OpensGate device.old device.new) }
     ensures only { MakesOnly D.gives OpensGate device.old device.new }
     ensures device { D.device device.new ≡ D.device device.old }
 {
@@ -157,6 +161,7 @@ fn put_gate<D: Disk>(device: &mut D, boot: Boot) -> Result<(), DiskFault>
 pub fn put_zeros<D: Disk>(device: &mut D, boot: Boot, size: u64) -> Result<(), DiskFault>
     requires { size ≤ (D.device device.old).size }
     ensures zeros { OnOk result (WritesZeros D.gives boot.number 0 size device.old device.new) }
+    ensures failed { OnErr result ((header : Said) → EndsInFault D.gives (OpensNoGate header) device.old device.new) }
     ensures closed { (header : Said) → MakesOnly D.gives (OpensNoGate header) device.old device.new }
     ensures device { D.device device.new ≡ D.device device.old }
 {

@@ -1,12 +1,12 @@
-ghost use Rattle.std.specs.Prelude.{◌≡◌, ◌==◌, ◌+◌, ◌≤◌, ◌<◌, replicate, true, false, IfOk, IfErr, OnOk, length};
+ghost use Rattle.std.specs.Prelude.{◌≡◌, ◌==◌, ◌+◌, ◌≤◌, ◌<◌, replicate, true, false, IfOk, IfErr, OnErr, OnOk, length};
 ghost use Rattle.std.specs.List.{list_all};
 ghost use Rattle.disk.specs.Disk.{Read, Told};
 ghost use Rattle.torn_block.specs.Layout.{cluster_version};
 ghost use Rattle.torn_block.specs.declared.layout.TheConstants.{HEADER_LENGTH};
 ghost use Rattle.paxos_block.specs.Places.{image_length};
 ghost use Rattle.attempt.specs.Looking.{OnlyReads};
-ghost use Rattle.folders.specs.Finishing.{AreFinished, AreLeft, AreOnlyRead, FindsLeft, HasReadZeros, HaveSize, OpensFound, ReadsZeros, StopsFinishing};
-ghost use Rattle.folders.specs.Formatting.{MakesOnly};
+ghost use Rattle.folders.specs.Finishing.{AreFinished, AreOnlyRead, AreUnfinished, FindsLeft, HasReadZeros, HaveNothingLeft, HaveSize, HoldsMore, OpensFound, OpensFoundGate, ReadsNoZeros, ReadsZeros, StopsFinishing, StopsReading};
+ghost use Rattle.folders.specs.Formatting.{EndsInFault, MakesOnly};
 ghost use Rattle.folders.specs.Layout.{header_of};
 
 use crate::image::first_bytes;
@@ -32,8 +32,9 @@ pub fn finish<D: Disk>(devices: &mut [D], config: Config, cluster: u64) -> Resul
     requires as_many { length devices.old ≡ config.disks }
     requires sizes { HaveSize D.device (image_length cluster_version config.slots) devices.old }
     ensures finished { IfOk result (λ finished. finished ≡ true → AreFinished D.gives config cluster devices.old devices.new) }
+    ensures refused { IfOk result (λ finished. finished ≡ false → HaveNothingLeft D.gives config cluster devices.old devices.new) }
     ensures read { IfOk result (λ finished. finished ≡ false → AreOnlyRead D.gives devices.old devices.new) }
-    ensures stopped { IfErr result (StopsFinishing D.gives config cluster devices.old) }
+    ensures stopped { IfErr result (StopsFinishing D.gives config cluster devices.old devices.new) }
 {
     if !are_left(devices, config, cluster) {
         return Ok(false);
@@ -48,7 +49,8 @@ pub fn finish<D: Disk>(devices: &mut [D], config: Config, cluster: u64) -> Resul
 fn are_left<D: Disk>(devices: &mut [D], config: Config, cluster: u64) -> bool
     requires as_many { length devices.old ≡ config.disks }
     requires sizes { HaveSize D.device (image_length cluster_version config.slots) devices.old }
-    ensures left { result ≡ true → AreLeft D.gives config cluster devices.old devices.new }
+    ensures left { result ≡ true → AreUnfinished D.gives config cluster devices.old devices.new }
+    ensures none { result ≡ false → HaveNothingLeft D.gives config cluster devices.old devices.new }
     ensures read { AreOnlyRead D.gives devices.old devices.new }
     ensures sizes { HaveSize D.device (image_length cluster_version config.slots) devices.new }
     ensures as_many { length devices.new ≡ length devices.old }
@@ -94,6 +96,8 @@ fn holds_nothing<D: Disk>(device: &mut D, size: u64) -> Result<bool, DiskFault>
     requires header { HEADER_LENGTH ≤ size }
     requires room { size ≤ (D.device device.old).size }
     ensures zeros { IfOk result (λ nothing. nothing ≡ true → HasReadZeros D.gives size device.old device.new) }
+    ensures more { IfOk result (λ nothing. nothing ≡ false → HoldsMore D.gives device.old device.new) }
+    ensures failed { OnErr result (HoldsMore D.gives device.old device.new) }
     ensures read { MakesOnly D.gives OnlyReads device.old device.new }
     ensures device { D.device device.new ≡ D.device device.old }
 {
@@ -105,6 +109,8 @@ fn reads_zeros<D: Disk>(device: &mut D, boot: Boot, size: u64) -> Result<bool, D
     requires header { HEADER_LENGTH ≤ size }
     requires room { size ≤ (D.device device.old).size }
     ensures zeros { IfOk result (λ nothing. nothing ≡ true → ReadsZeros D.gives boot.number HEADER_LENGTH size device.old device.new) }
+    ensures more { IfOk result (λ nothing. nothing ≡ false → StopsReading D.gives boot.number device.old device.new) }
+    ensures failed { OnErr result (StopsReading D.gives boot.number device.old device.new) }
     ensures read { MakesOnly D.gives OnlyReads device.old device.new }
     ensures device { D.device device.new ≡ D.device device.old }
 {
@@ -124,6 +130,8 @@ fn reads_zeros_at<D: Disk>(device: &mut D, boot: Boot, at: u64, len: u64) -> Res
     requires few { len ≤ CHUNK }
     requires room { at + len ≤ (D.device device.old).size }
     ensures zeros { IfOk result (λ zero. zero ≡ true → D.gives device.old (Read boot.number at len) (Told (replicate len 0)) device.new) }
+    ensures more { IfOk result (λ zero. zero ≡ false → ReadsNoZeros D.gives boot.number at len device.old device.new) }
+    ensures failed { OnErr result (ReadsNoZeros D.gives boot.number at len device.old device.new) }
     ensures read { MakesOnly D.gives OnlyReads device.old device.new }
     ensures device { D.device device.new ≡ D.device device.old }
 {
@@ -144,6 +152,7 @@ fn open_found_gate<D: Disk>(device: &mut D, disk: u8) -> Result<(), LayFault>
     requires { 1 ≤ (D.device device.old).size }
     ensures opened { OnOk result (OpensFound D.gives device.old device.new) }
     ensures fault { IfErr result (λ why. why ≡ LayFault.NotOpened disk) }
+    ensures failed { OnErr result (EndsInFault D.gives OpensFoundGate device.old device.new) }
     ensures device { D.device device.new ≡ D.device device.old }
 {
     match put_found_gate(device) {
@@ -155,6 +164,7 @@ fn open_found_gate<D: Disk>(device: &mut D, disk: u8) -> Result<(), LayFault>
 fn put_found_gate<D: Disk>(device: &mut D) -> Result<(), DiskFault>
     requires { 1 ≤ (D.device device.old).size }
     ensures opened { OnOk result (OpensFound D.gives device.old device.new) }
+    ensures failed { OnErr result (EndsInFault D.gives OpensFoundGate device.old device.new) }
     ensures device { D.device device.new ≡ D.device device.old }
 {
     let boot = device.attach()?;

@@ -4,4 +4,4 @@
 #[cfg(test)]
 mod checks;
 #[cfg(test)]
-mod folders;
+mod hosts;

@@ -4,7 +4,7 @@ use Rattle.disk.specs.FileStates.{FileState}
 use Rattle.torn_block.specs.Layout.{cluster_version}
 use Rattle.paxos_block.specs.Places.{image_length}
 use Rattle.folder_migration.specs.Migrating.{IsBlank}
-use Rattle.folder_migration.proofs.Opened.{each_more}
+use Rattle.folders.proofs.Laying.{each_more}
 use Rattle.folder_migration.proofs.new_folder.make_images.Goals as goal
 
 pub loop-disk-preserved : goal.loop-disk-preserved

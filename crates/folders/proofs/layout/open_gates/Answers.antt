@@ -1,8 +1,8 @@
 use Rattle.std.proofs.Common.{◌≡◌, ◌<◌, ◌≤◌, ◌+◌, ℕ, Some, get_or, length, slice_get, slice_set, arith, sym, subst}
 use Rattle.std.proofs.lemmas.Option.{slice_get-get_or}
 use Rattle.disk.specs.Disk.{Device}
-use Rattle.folders.specs.Formatting.{AreOpened, EachBecame, HaveRoom, MakesOnly, OpensGate}
-use Rattle.folders.proofs.Laying.{one_more, none_became, same_yet, called, devices_stay, not_opened, opened_under}
+use Rattle.folders.specs.Formatting.{AreOpened, EachBecame, EndsInFault, HaveRoom, MakesOnly, OneBecame, OpensGate}
+use Rattle.folders.proofs.Laying.{one_more, none_became, same_yet, called, devices_stay, not_opened, one_became, opened_under}
 use Rattle.folders.proofs.layout.open_gates.Goals as goal
 
 pub loop-disk-init : goal.loop-disk-init
@@ -27,7 +27,9 @@ returns-in_err-open_gate-clause-stopped g c =
     let after = c.open_gate.new.device in
     let below : disk < c.args.config.disks = omega (arith, c.loop-disk-test.true, c.disks-disk-end.ensures) in
     let made = called g.D.Disk.gives (λ (k : ℕ). OpensGate) disk c.args.devices.now devices before after at c.open_gate.ensures.only c.loop-disk.invariant.calls in
+    let one = one_became _ (EndsInFault g.D.Disk.gives OpensGate) disk c.args.devices.now devices before after at c.in_err-open_gate.ensures.failed c.loop-disk.invariant.opened in
     not_opened g.D.Disk.gives c.args.config c.args.devices.now (slice_set devices c.from-in-loop-disk.result after) disk below
+    (subst (λ (n : ℕ). OneBecame (EndsInFault g.D.Disk.gives OpensGate) disk c.args.devices.now (slice_set devices n after)) (sym c.from-in-loop-disk.ensures) one)
     (subst (λ (n : ℕ). EachBecame (λ disk old new. MakesOnly g.D.Disk.gives OpensGate old new) c.args.devices.now (slice_set devices n after)) (sym c.from-in-loop-disk.ensures) made)
     c.in_err-open_gate.field-0.0 c.in_err-open_gate.ensures.fault c.from_residual.result c.from_residual.ensures.1
 

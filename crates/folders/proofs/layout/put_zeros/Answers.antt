@@ -1,8 +1,10 @@
 use Rattle.std.proofs.Common.{rules, ◌≤◌, ℕ, List, refl, subst, sym, arith, inl, replicate, ap}
 use Rattle.std.proofs.lemmas.List.{take-replicate, length-replicate}
 use Rattle.disk.specs.Disk.{Write, Done, Fault}
-use Rattle.folders.specs.Formatting.{nothing, and_then}
+use Rattle.folders.specs.Formatting.{EndsInFault, OpensNoGate, nothing, and_then}
 use Rattle.folders.specs.Layout.{none, more}
+use Rattle.paxos_block.specs.declared.header.Header.{Header}
+use Rattle.folders.proofs.Laying.{fails_in, on_err}
 use Rattle.folders.proofs.layout.put_zeros.Goals as goal
 
 pub loop-at-init : goal.loop-at-init
@@ -33,3 +35,15 @@ returns-in_err-write-clause-closed g c = λ header.
     (take-replicate len 4096 0 few) c.in_err-write.ensures.gives in
     and_then c.args.device.now c.loop-at.device c.write.new.self (c.loop-at.invariant.closed header) (Write c.args.boot.number c.loop-at.at (replicate len 0))
     (inl (ap (λ (n : ℕ). replicate n 0) (sym (length-replicate len 0)))) (Fault c.in_err-write.field-0.0) gave
+
+pub returns-in_err-write-clause-failed : goal.returns-in_err-write-clause-failed
+returns-in_err-write-clause-failed g c =
+    let len = c.min-len.result in
+    let few : len ≤ 4096 = search rules in
+    let gave =
+    subst (λ (bytes : List ℕ). g.D.Disk.gives c.loop-at.device (Write c.args.boot.number c.loop-at.at bytes) (Fault c.in_err-write.field-0.0) c.write.new.self)
+    (take-replicate len 4096 0 few) c.in_err-write.ensures.gives in
+    on_err ((header : Header) → EndsInFault g.D.Disk.gives (OpensNoGate header) c.args.device.now c.write.new.self)
+    (λ header. fails_in g.D.Disk.gives (OpensNoGate header) c.args.device.now c.loop-at.device c.write.new.self (c.loop-at.invariant.closed header) (Write c.args.boot.number c.loop-at.at (replicate len 0))
+    (inl (ap (λ (n : ℕ). replicate n 0) (sym (length-replicate len 0)))) c.in_err-write.field-0.0 gave)
+    c.from_residual.result

@@ -5,8 +5,8 @@ use Rattle.disk.specs.Disk.{Device}
 use Rattle.torn_block.specs.Layout.{cluster_version}
 use Rattle.paxos_block.specs.Places.{image_length}
 use Rattle.folders.specs.Layout.{header_of}
-use Rattle.folders.specs.Formatting.{EachBecame, AreClosed, HaveRoom, MakesOnly, OpensNoGate}
-use Rattle.folders.proofs.Laying.{one_more_closed, none_became, same_yet, called, devices_stay, not_whole}
+use Rattle.folders.specs.Formatting.{EachBecame, EndsInFault, AreClosed, HaveRoom, MakesOnly, OneBecame, OpensNoGate}
+use Rattle.folders.proofs.Laying.{one_more_closed, none_became, same_yet, called, devices_stay, not_whole, one_became}
 use Rattle.folders.proofs.layout.write_images.Goals as goal
 
 pub loop-disk-init : goal.loop-disk-init
@@ -31,7 +31,10 @@ returns-in_err-boot-clause-stopped g c =
     let after = c.write_image.new.device in
     let below : disk < c.args.config.disks = omega (arith, c.loop-disk-test.true, c.disks-disk-end.ensures) in
     let made = called g.D.Disk.gives (λ (k : ℕ). OpensNoGate (header_of c.args.config c.args.cluster k)) disk c.args.devices.now devices before after at c.write_image.ensures.closed c.loop-disk.invariant.calls in
+    let header = header_of c.args.config c.args.cluster disk in
+    let one = one_became _ (EndsInFault g.D.Disk.gives (OpensNoGate header)) disk c.args.devices.now devices before after at c.in_err-boot.ensures.failed c.loop-disk.invariant.closed in
     not_whole g.D.Disk.gives c.args.config c.args.cluster c.args.devices.now (slice_set devices c.from.result after) disk below
+    (subst (λ (n : ℕ). OneBecame (EndsInFault g.D.Disk.gives (OpensNoGate header)) disk c.args.devices.now (slice_set devices n after)) (sym c.from.ensures) one)
     (subst (λ (n : ℕ). EachBecame (λ disk old new. MakesOnly g.D.Disk.gives (OpensNoGate (header_of c.args.config c.args.cluster disk)) old new) c.args.devices.now (slice_set devices n after)) (sym c.from.ensures) made)
     c.in_err-boot.field-0.0 c.in_err-boot.ensures.fault c.from_residual.result c.from_residual.ensures.1
 

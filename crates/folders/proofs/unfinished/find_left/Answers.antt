@@ -4,9 +4,10 @@ use Rattle.torn_block.specs.Layout.{cluster_version}
 use Rattle.torn_block.specs.declared.block.TheConstants.{OPEN_GATE}
 use Rattle.torn_block.specs.declared.layout.TheConstants.{HEADER_LENGTH}
 use Rattle.paxos_block.specs.Headers.{header_saying}
+use Rattle.folders.specs.Finishing.{IsClosedHeader, in_use}
 use Rattle.folders.specs.Layout.{header_of}
 use Rattle.folders.proofs.Laying.{opened_already, together}
-use Rattle.folders.proofs.OnlyReading.{asked_first}
+use Rattle.folders.proofs.OnlyReading.{asked_first, told_another, told_none}
 use Rattle.folders.proofs.unfinished.find_left.Goals as goal
 
 pub returns-in_default-clause-read : goal.returns-in_default-clause-read
@@ -51,3 +52,24 @@ returns-in_default-holds_nothing-2-clause-read g c =
     let large : HEADER_LENGTH ≤ (g.D.Disk.device c.args.device.now).size = search rules in
     let first = asked_first g.D.Disk.gives c.args.device.now c.first_bytes.new.device _ _ large c.first_bytes.result c.first_bytes.ensures.told c.first_bytes.ensures.fault in
     together g.D.Disk.gives OnlyReads c.args.device.now c.first_bytes.new.device c.holds_nothing.new.device first c.holds_nothing.ensures.read
+
+pub returns-in_default-clause-found : goal.returns-in_default-clause-found
+returns-in_default-clause-found g c =
+    told_none g.D.Disk.gives (header_of c.args.config c.args.cluster c.args.disk) (g.D.Disk.device c.args.device.now).size c.args.device.now c.first_bytes.new.device c.requires.size c.first_bytes.result c.in_default.not-Ok c.first_bytes.ensures.fault
+
+pub returns-then-ne-clause-found : goal.returns-then-ne-clause-found
+returns-then-ne-clause-found g c =
+    let large : HEADER_LENGTH ≤ (g.D.Disk.device c.args.device.now).size = search rules in
+    told_another g.D.Disk.gives (header_of c.args.config c.args.cluster c.args.disk) c.args.device.now c.first_bytes.new.device c.in-Ok.bytes c.header_bytes.result (c.in-Ok.ensures.told large) c.header_bytes.ensures (sym c.ne.ensures ∙ c.if-ne.true)
+
+pub returns-in_default-holds_nothing-clause-found : goal.returns-in_default-holds_nothing-clause-found
+returns-in_default-holds_nothing-clause-found g c =
+    let large : HEADER_LENGTH ≤ (g.D.Disk.device c.args.device.now).size = search rules in
+    let closed : IsClosedHeader (header_of c.args.config c.args.cluster c.args.disk) c.in-Ok.bytes = record { closed = search rules; right = search rules } in
+    in_use c.in-Ok.bytes c.first_bytes.new.device (c.in-Ok.ensures.told large) closed (c.in_default-holds_nothing.ensures.more (search rules))
+
+pub returns-in_default-holds_nothing-2-clause-found : goal.returns-in_default-holds_nothing-2-clause-found
+returns-in_default-holds_nothing-2-clause-found g c =
+    let large : HEADER_LENGTH ≤ (g.D.Disk.device c.args.device.now).size = search rules in
+    let closed : IsClosedHeader (header_of c.args.config c.args.cluster c.args.disk) c.in-Ok.bytes = record { closed = search rules; right = search rules } in
+    in_use c.in-Ok.bytes c.first_bytes.new.device (c.in-Ok.ensures.told large) closed c.in_default-holds_nothing.ensures.failed

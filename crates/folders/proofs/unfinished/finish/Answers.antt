@@ -1,10 +1,10 @@
 use Rattle.std.proofs.Common.{rules, ◌≡◌, ◌≤◌, ◌<◌, ◌+◌, ℕ, Some, arith, get_or, length, slice_get, slice_set, subst, sym}
 use Rattle.std.proofs.lemmas.Option.{slice_get-get_or}
 use Rattle.disk.specs.Disk.{Device}
-use Rattle.folders.specs.Finishing.{OpensFound}
-use Rattle.folders.specs.Formatting.{FirstBecame, HaveRoom}
-use Rattle.folders.proofs.Laying.{devices_stay, none_became, one_more}
-use Rattle.folders.proofs.Finishing.{finished, not_finished, room_for_gate}
+use Rattle.folders.specs.Finishing.{OpensFound, OpensFoundGate}
+use Rattle.folders.specs.Formatting.{EachBecame, EndsInFault, FirstBecame, HaveRoom, MakesOnly, OneBecame}
+use Rattle.folders.proofs.Laying.{devices_stay, none_became, one_became, one_more}
+use Rattle.folders.proofs.Finishing.{calls_until, finished, not_finished, room_for_gate}
 use Rattle.folders.proofs.unfinished.finish.Goals as goal
 
 pub loop-disk-init : goal.loop-disk-init
@@ -21,8 +21,19 @@ open_found_gate-requires g c =
 
 pub returns-in_err-open_found_gate-clause-stopped : goal.returns-in_err-open_found_gate-clause-stopped
 returns-in_err-open_found_gate-clause-stopped g c =
-    let below : c.loop-disk.disk < c.args.config.disks = omega (arith, c.loop-disk-test.true, c.disks-disk-end.ensures) in
-    not_finished g.D.Disk.gives c.args.config c.args.cluster c.args.devices.now c.are_left.new.devices c.loop-disk.disk below (c.are_left.ensures.left (search rules))
+    let devices = c.loop-disk.devices in
+    let disk = c.loop-disk.disk in
+    let before = get_or devices c.from.result c.index-devices-from.result in
+    let within : c.from.result < length devices = omega (arith, c.from.ensures, c.loop-disk-test.true, c.disks-disk-end.ensures, c.requires.as_many, c.are_left.ensures.as_many, c.loop-disk.invariant.opened.as_many) in
+    let at : slice_get devices disk ≡ Some before = subst (λ (k : ℕ). slice_get devices k ≡ Some before) c.from.ensures (slice_get-get_or devices c.from.result c.index-devices-from.result within) in
+    let after = c.open_found_gate.new.device in
+    let below : disk < c.args.config.disks = omega (arith, c.loop-disk-test.true, c.disks-disk-end.ensures) in
+    let failed = c.in_err-open_found_gate.ensures.failed in
+    let one = one_became (λ (k : ℕ) old new. OpensFound g.D.Disk.gives old new) (EndsInFault g.D.Disk.gives OpensFoundGate) disk c.are_left.new.devices devices before after at failed c.loop-disk.invariant.opened in
+    let made = calls_until g.D.Disk.gives disk c.are_left.new.devices devices before after at failed c.loop-disk.invariant.opened in
+    not_finished g.D.Disk.gives c.args.config c.args.cluster c.args.devices.now c.are_left.new.devices (slice_set devices c.from.result after) disk below (c.are_left.ensures.left (search rules))
+    (subst (λ (n : ℕ). OneBecame (EndsInFault g.D.Disk.gives OpensFoundGate) disk c.are_left.new.devices (slice_set devices n after)) (sym c.from.ensures) one)
+    (subst (λ (n : ℕ). EachBecame (λ disk old new. MakesOnly g.D.Disk.gives OpensFoundGate old new) c.are_left.new.devices (slice_set devices n after)) (sym c.from.ensures) made)
     c.in_err-open_found_gate.field-0.0 c.in_err-open_found_gate.ensures.fault c.from_residual.result c.from_residual.ensures.1
 
 pub loop-disk-preserved : goal.loop-disk-preserved

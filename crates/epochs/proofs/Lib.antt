@@ -1,0 +1,10 @@
+pub mod Beats
+pub mod Bytes
+pub mod Numbers
+pub mod OneLog
+pub mod Readings
+pub mod Rounds
+pub mod Serving
+pub mod Showing
+pub mod Standings
+pub mod Steps

@@ -1,0 +1,624 @@
+-- Whatever hosts of all epochs do to a disk, the image of each epoch serves what is done to it.
+use Rattle.std.specs.Prelude.{◌⊎◌, ◌%◌, ◌^◌, ◌&&◌}
+use Rattle.std.proofs.Common.{ℕ, ◌≡◌, ◌+◌, ◌≤◌, ◌<◌, ◌==◌, Bool, true, false, true≢false, cond, List, [], ◌∷◌, length, refl, sym, ◌∙◌, ap, subst, inl, inr, arith}
+use Rattle.std.proofs.lemmas.Bool.{cases_lt, cases_eq, cases_Bool, eqb-true, eq-eqb, and_parts}
+use Rattle.std.proofs.lemmas.List.{length-replicate}
+use Rattle.disk.specs.declared.fault.DiskFault.TheVariants.{Failed}
+use Rattle.disk.specs.Disk.{DiskState, Call, Attach, Read, Write, Sync, Answer, Booted, Told, Done, Fault, Step, Crashes, lost}
+use Rattle.disk.specs.Crash.{IsWhole}
+use Rattle.disk.specs.Simulated.{fresh_disk}
+use Rattle.disk.specs.Steps.{HasShape, WritesOn}
+use Rattle.disk.proofs.StepLemmas.{shape_keeps}
+use Rattle.paxos_block.specs.Shape.{Shape}
+use Rattle.world.specs.Entry.{Filled, Start, Stop, Begin, Called, Crashed, Lost, Migrated}
+use Rattle.world.specs.Entry as entries
+use Rattle.world.specs.World.{Tears}
+use Rattle.at_once.specs.AtOnce.{Goes, Serves}
+use Rattle.at_once.specs.Power.{LosesPower, GoesOn, ServesOn}
+use Rattle.epochs.specs.Showing.{host_at, Standing, ShowsEpoch, moved, IsOf, IsElsewhere, IsRight, Restands, IsCleared}
+use Rattle.epochs.proofs.Steps.{own_calls_are_steps, own_tears_are_tears, others_leave_it, crashes_are_crashes, losses_are_losses, standings_change_nothing, fresh_disks_show_nothing}
+use Rattle.epochs.specs.Acts.{Epoch, epoch_of, is_same, base_of, standing_by, Shared, fresh_shared, Act, In, Beside, Turns, Ends, part, sure_by, IsShown, IsInside, MayMake, IsMade, IsRefused, IsCut, GoesIn, WritesBeside, IsBeside, IsTurned, IsTurning, HasCrashed, IsModelCrash, IsLost, ServesAll, AreasServe, AreasServeOn}
+use Rattle.epochs.proofs.Standings.{by_is, by_below, inside_is, IsNext, restands, areas_apart, area_fits, LeavesCleared, cleared_steps, cleared_crashed, cleared_lost}
+
+-- how hosts stand in an epoch, and the image that the disk shows of it
+abbrev standings : Epoch → Shared → ℕ → Standing
+standings e s g = standing_by e.number (s.sure e.area g)
+
+abbrev Shows : ℕ → Epoch → Shared → DiskState → Type 0
+Shows n e s image = ShowsEpoch n (base_of n e.area) (standings e s) s.whole image
+
+-- there is room for two areas, and each number that is seen is sure, or follows one that is
+record Ordered (n : ℕ) (s : Shared) : Type 0 where
+  room : 4096 + n + n ≤ length s.whole.bytes
+  marked : IsWhole s.whole
+  next : (area host : ℕ) → area < 2 → IsNext n (base_of n area) host (s.sure area host) (s.seen area host) s.whole
+
+-- a sync makes sure of what is seen, or nothing does
+sure_either : (call : Call) (answer : Answer) (s : Shared) → (sure_by call answer s ≡ s.sure) ⊎ (sure_by call answer s ≡ s.seen)
+sure_either Attach answer s = inl refl
+sure_either (Read boot at len) answer s = inl refl
+sure_either (Write boot at from) answer s = inl refl
+sure_either (Sync boot) Done s = inr refl
+sure_either (Sync boot) (Booted b) s = inl refl
+sure_either (Sync boot) (Told bytes) s = inl refl
+sure_either (Sync boot) (Fault fault) s = inl refl
+
+is_next : (n base host sure seen : ℕ) (old new : DiskState) → (sure % 2 ≡ 1 → IsCleared n base host old → IsCleared n base host new) → IsNext n base host sure seen old → IsNext n base host sure seen new
+is_next n base host sure seen old new kept (inl same) = inl same
+is_next n base host sure seen old new kept (inr more) = inr (more.0, λ odd. kept odd (more.1 odd))
+
+-- WHAT BECOMES OF NUMBERS
+
+module _ (n : ℕ) (old new : Shared) (kept : (area host : ℕ) → area < 2 → IsNext n (base_of n area) host (old.sure area host) (old.seen area host) new.whole) where
+  -- a host stands by what was sure, or by what was seen
+  module _ (either : (area host : ℕ) → (new.sure area host ≡ old.sure area host) ⊎ (new.sure area host ≡ old.seen area host)) where
+    restood : (e : Epoch) → e.area < 2 → e.number % 2 ≡ 0 → (image : DiskState) → ShowsEpoch n (base_of n e.area) (standings e old) new.whole image → Shows n e new image
+    restood e is_area even image shows =
+        standings_change_nothing n (base_of n e.area) (standings e old) (standings e new) new.whole image shows (λ host.
+        elim (either e.area host) [
+          | inl same ↦ inl (ap (standing_by e.number) same)
+          | inr now ↦
+              subst (λ (m : ℕ). Restands n (base_of n e.area) host (standing_by e.number (old.sure e.area host)) (standing_by e.number m) new.whole) (sym now)
+              (restands n (base_of n e.area) host e.number (old.sure e.area host) (old.seen e.area host) new.whole even (kept e.area host is_area))
+        ])
+
+  module _ (room : 4096 + n + n ≤ length new.whole.bytes) (marked : IsWhole new.whole) (seen : new.seen ≡ old.seen) (call : Call) (answer : Answer) (sure : new.sure ≡ sure_by call answer old) where
+    either_by : (area host : ℕ) → (new.sure area host ≡ old.sure area host) ⊎ (new.sure area host ≡ old.seen area host)
+    either_by area host =
+        elim (sure_either call answer old) [
+          | inl same ↦ inl (λ i. (sure ∙ same) i area host)
+          | inr now ↦ inr (λ i. (sure ∙ now) i area host)
+        ]
+
+    ordered : Ordered n new
+    ordered =
+        record {
+          room = room;
+          marked = marked;
+          next = λ area host is_area.
+              let same_seen : new.seen area host ≡ old.seen area host = (λ i. seen i area host) in
+              elim (either_by area host) [
+                | inl same ↦
+                    subst (λ (m : ℕ). IsNext n (base_of n area) host (new.sure area host) m new.whole) (sym same_seen)
+                    (subst (λ (m : ℕ). IsNext n (base_of n area) host m (old.seen area host) new.whole) (sym same) (kept area host is_area))
+                | inr now ↦ inl (same_seen ∙ sym now)
+              ];
+        }
+
+-- CALLS
+
+module _ (n : ℕ) (old new : Shared) (is : Ordered n old) where
+  area_room : (area : ℕ) → area < 2 → base_of n area + n ≤ length old.whole.bytes
+  area_room area is_area = area_fits n area (length old.whole.bytes) is.room
+
+  -- what a call leaves that writes nothing of a host that is about to come
+  module _ (call : Call) (told : Answer) (step : Step old.whole call told new.whole) (writes : WritesOn old.whole call)
+      (leaves : (area host : ℕ) → area < 2 → old.sure area host % 2 ≡ 1 → (old.seen area host ≡ old.sure area host + 1) → LeavesCleared n (base_of n area) host old.whole call) where
+    shape : HasShape (length old.whole.bytes) new.whole
+    shape = shape_keeps (length old.whole.bytes) old.whole new.whole call told (is.marked, refl) writes step
+
+    room_new : 4096 + n + n ≤ length new.whole.bytes
+    room_new = omega (arith, is.room, shape.1)
+
+    marked_new : IsWhole new.whole
+    marked_new = shape.0
+
+    kept_new : (area host : ℕ) → area < 2 → IsNext n (base_of n area) host (old.sure area host) (old.seen area host) new.whole
+    kept_new area host is_area =
+        elim (is.next area host is_area) [
+          | inl same ↦ inl same
+          | inr more ↦
+              inr (more.0, λ odd. cleared_steps n (base_of n area) host old.whole (area_room area is_area) is.marked (more.1 odd) new.whole call told (leaves area host is_area odd more.0) step)
+        ]
+
+  -- A HOST OF AN EPOCH
+
+  module _ (e : Epoch) (e_area : e.area < 2) (e_even : e.number % 2 ≡ 0) where
+    abbrev base : ℕ
+    base = base_of n e.area
+
+    -- a byte of a host that does not have this number here
+    off_own : (at len area p : ℕ) → IsInside n e at len old → area < 2 → 4096 ≤ p → p < n → (area ≡ e.area → old.sure e.area (host_at p) ≡ e.number → ⊥) → (base_of n area + p < base + at) ⊎ (base + at + len ≤ base_of n area + p)
+    off_own at len area p inside is_area high below other =
+        elim (cases_eq area e.area) [
+          | inl same ↦
+              (let bases : base_of n area ≡ base = ap (base_of n) same in
+              elim (cases_lt p at) [
+                | inl before ↦ inl (omega (arith, before, bases))
+                | inr from_there ↦
+                    elim (cases_lt p (at + len)) [
+                      | inl within ↦ absurd (other same (inside.2 p from_there within).0)
+                      | inr behind ↦ inr (omega (arith, behind, bases))
+                    ]
+              ])
+          | inr differ ↦
+              (let ends = inside.1 in
+              elim (areas_apart n area e.area is_area e_area differ) [
+                | inl before ↦ inl (omega (arith, before, below))
+                | inr behind ↦ inr (omega (arith, behind, ends))
+              ])
+        ]
+
+    fits_own : (at len : ℕ) → IsInside n e at len old → base + at + len ≤ length old.whole.bytes
+    fits_own at len inside = let ends = inside.1 in let room = area_room e.area e_area in omega (arith, ends, room)
+
+    writes_own : (shown : ℕ → Bool) (call : Call) → MayMake n e shown old call → WritesOn old.whole (moved base call)
+    writes_own shown Attach may = tt
+    writes_own shown (Read boot at len) may = tt
+    writes_own shown (Write boot at from) may = fits_own at (length from) may
+    writes_own shown (Sync boot) may = tt
+
+    leaves_own : (shown : ℕ → Bool) (call : Call) → MayMake n e shown old call → (area host : ℕ) → area < 2 → old.sure area host % 2 ≡ 1 → (old.seen area host ≡ old.sure area host + 1) → LeavesCleared n (base_of n area) host old.whole (moved base call)
+    leaves_own shown Attach may area host is_area odd more = tt
+    leaves_own shown (Read boot at len) may area host is_area odd more = tt
+    leaves_own shown (Write boot at from) may area host is_area odd more = (
+      fits_own at (length from) may,
+      λ p high below own. off_own at (length from) area p may is_area high below (λ same inside.
+          let there : old.sure area host ≡ e.number = (λ i. old.sure (same i) (sym own i)) ∙ inside in
+          omega (arith, there, odd, e_even)),
+    )
+    leaves_own shown (Sync boot) may area host is_area odd more = tt
+
+    -- to another epoch it is elsewhere
+    elsewhere_own : (shown : ℕ → Bool) (call : Call) → MayMake n e shown old call → (t : Epoch) → t.area < 2 → is_same e t ≡ false → IsElsewhere n (base_of n t.area) (standings t old) old.whole (moved base call)
+    elsewhere_own shown Attach may t t_area differ = tt
+    elsewhere_own shown (Read boot at len) may t t_area differ = tt
+    elsewhere_own shown (Write boot at from) may t t_area differ = (
+      fits_own at (length from) may,
+      λ p high below inside. off_own at (length from) t.area p may t_area high below (λ same number.
+          let there : old.sure t.area (host_at p) ≡ t.number = inside_is t.number (old.sure t.area (host_at p)) inside in
+          let one : e.number ≡ t.number = sym number ∙ (λ i. old.sure (sym same i) (host_at p)) ∙ there in
+          let both : is_same e t ≡ true = (λ i. eq-eqb e.area t.area (sym same) i && eq-eqb e.number t.number one i) in
+          true≢false (sym both ∙ differ)),
+    )
+    elsewhere_own shown (Sync boot) may t t_area differ = tt
+
+    -- who is shown is shown rightly
+    right_shown : (image : DiskState) (shown : ℕ → Bool) (at len : ℕ) → 4096 ≤ at → at + len ≤ n → IsShown e shown old → Shows n e old image → IsRight base at len shown old.whole image
+    right_shown image shown at len high ends given shows host =
+        elim (cases_lt host 16) [
+          | inl few ↦
+              elim (given host few) [
+                | inl is_shown ↦
+                    inl (
+                      is_shown.0,
+                      λ p from_there within own.
+                          let here : old.sure e.area (host_at p) ≡ old.sure e.area host = ap (old.sure e.area) own in
+                          elim (is.next e.area host e_area) [
+                            | inl same ↦ shows.bytes p (omega (arith, high, from_there)) (omega (arith, within, ends)) (by_is e.number (old.sure e.area (host_at p)) (here ∙ sym same ∙ is_shown.1))
+                            | inr more ↦
+                                (let sum = more.0 in
+                                let now = is_shown.1 in
+                                let below : old.sure e.area (host_at p) < e.number = omega (arith, here, sum, now) in
+                                shows.blank p (omega (arith, within, ends)) (inr (by_below e.number (old.sure e.area (host_at p)) below))
+                                ∙ sym ((more.1 (omega (arith, sum, now, e_even))).bytes p (omega (arith, high, from_there)) (omega (arith, within, ends)) own))
+                          ],
+                    )
+                | inr hidden ↦
+                    inr (
+                      hidden.0,
+                      λ p from_there within own.
+                          let here : old.sure e.area (host_at p) ≡ old.sure e.area host = ap (old.sure e.area) own in
+                          let less = hidden.1 in
+                          let below : old.sure e.area (host_at p) < e.number = (elim (is.next e.area host e_area) [
+                            | inl same ↦ omega (arith, here, same, less)
+                            | inr more ↦ (let sum = more.0 in omega (arith, here, sum, less))
+                          ]) in
+                          shows.blank p (omega (arith, within, ends)) (inr (by_below e.number (old.sure e.area (host_at p)) below)),
+                    )
+              ]
+          | inr none ↦
+              elim (cases_Bool (shown host)) [
+                | inl with_it ↦ inl (with_it, λ p from_there within own. absurd (omega (arith, own, none)))
+                | inr without ↦ inr (without, λ p from_there within own. absurd (omega (arith, own, none)))
+              ]
+        ]
+
+    own_is : (image : DiskState) (shown : ℕ → Bool) (call : Call) → MayMake n e shown old call → Shows n e old image → IsOf n base (standings e old) shown old.whole image call
+    own_is image shown Attach may shows = tt
+    own_is image shown (Read boot at len) may shows = (may.0, may.2, right_shown image shown at len may.1 may.2 may.3 shows)
+    own_is image shown (Write boot at from) may shows = (may.0, may.1, λ p from_there within. by_is e.number (old.sure e.area (host_at p)) (may.2 p from_there within).0)
+    own_is image shown (Sync boot) may shows = tt
+
+    -- its call, to its own image
+    record Comes (IsNext_ : DiskState → Type 0) : Type 0 where
+      image_new : DiskState
+      goes : IsNext_ image_new
+      shows_new : Shows n e new image_new
+      ordered_new : Ordered n new
+
+    made_own : (image : DiskState) (shown : ℕ → Bool) (call : Call) (answer : Answer) → Shows n e old image → IsMade n e shown old new call answer → Comes (λ left. Step image call answer left)
+    made_own image shown call answer shows made =
+        let writes = writes_own shown call made.may in
+        let leaves = leaves_own shown call made.may in
+        let kept = kept_new (moved base call) made.told made.step writes leaves in
+        let room = room_new (moved base call) made.told made.step writes leaves in
+        let marked = marked_new (moved base call) made.told made.step writes leaves in
+        let next = own_calls_are_steps n base (standings e old) shown old.whole new.whole image call made.told shows (own_is image shown call made.may shows) made.step in
+        record {
+          image_new = next.0;
+          goes = subst (λ (a : Answer). Step image call a next.0) (sym made.given) next.1;
+          shows_new = restood n old new kept (either_by n old new kept room marked made.seen call answer made.sure) e e_area e_even next.0 next.2;
+          ordered_new = ordered n old new kept room marked made.seen call answer made.sure;
+        }
+
+    -- to another's
+    made_other : (t : Epoch) → t.area < 2 → t.number % 2 ≡ 0 → is_same e t ≡ false → (image : DiskState) (shown : ℕ → Bool) (call : Call) (answer : Answer) → Shows n t old image → IsMade n e shown old new call answer → Shows n t new image × Ordered n new
+    made_other t t_area t_even differ image shown call answer shows made =
+        let writes = writes_own shown call made.may in
+        let leaves = leaves_own shown call made.may in
+        let kept = kept_new (moved base call) made.told made.step writes leaves in
+        let room = room_new (moved base call) made.told made.step writes leaves in
+        let marked = marked_new (moved base call) made.told made.step writes leaves in
+        let half = others_leave_it n (base_of n t.area) (standings t old) old.whole new.whole image (moved base call) made.told shows (elsewhere_own shown call made.may t t_area differ) made.step in (
+          restood n old new kept (either_by n old new kept room marked made.seen call answer made.sure) t t_area t_even image half,
+          ordered n old new kept room marked made.seen call answer made.sure,
+        )
+
+    -- a refused read
+    refused_own : (image : DiskState) (call : Call) (answer : Answer) → Shows n e old image → IsRefused old new call answer → Comes (λ left. Step image call answer left)
+    refused_own image call answer shows refused =
+        record {
+          image_new = image;
+          goes =
+              subst (λ (x : Call). Step image x answer image) (sym refused.is)
+              (subst (λ (a : Answer). Step image (Read old.whole.boot refused.at refused.len) a image) (sym refused.given)
+              (shows.gone ∙ refused.there, sym shows.boot, refl));
+          shows_new = subst (λ (s : Shared). Shows n e s image) (sym refused.same) shows;
+          ordered_new = subst (Ordered n) (sym refused.same) is;
+        }
+
+    refused_other : (t : Epoch) (image : DiskState) (call : Call) (answer : Answer) → Shows n t old image → IsRefused old new call answer → Shows n t new image × Ordered n new
+    refused_other t image call answer shows refused = (subst (λ (s : Shared). Shows n t s image) (sym refused.same) shows, subst (Ordered n) (sym refused.same) is)
+
+    -- a write within which it stopped
+    module _ (boot at : ℕ) (from : List ℕ) (cut : IsCut n e old new (Write boot at from)) where
+      cut_step : Step old.whole (moved base (Write boot at from)) (Fault Failed) new.whole
+      cut_step = (cut.1.0, cut.1.1, cut.1.2)
+
+      cut_kept : (area host : ℕ) → area < 2 → IsNext n (base_of n area) host (old.sure area host) (old.seen area host) new.whole
+      cut_kept =
+          kept_new (moved base (Write boot at from)) (Fault Failed) cut_step (writes_own (λ h. true) (Write boot at from) cut.0) (leaves_own (λ h. true) (Write boot at from) cut.0)
+
+      cut_room : 4096 + n + n ≤ length new.whole.bytes
+      cut_room = room_new (moved base (Write boot at from)) (Fault Failed) cut_step (writes_own (λ h. true) (Write boot at from) cut.0) (leaves_own (λ h. true) (Write boot at from) cut.0)
+
+      cut_marked : IsWhole new.whole
+      cut_marked = marked_new (moved base (Write boot at from)) (Fault Failed) cut_step (writes_own (λ h. true) (Write boot at from) cut.0) (leaves_own (λ h. true) (Write boot at from) cut.0)
+
+      cut_own : (image : DiskState) → Shows n e old image → Comes (λ left. Tears (Write boot at from) image left)
+      cut_own image shows =
+          let next = own_tears_are_tears n base (standings e old) (λ h. true) old.whole new.whole image boot at from shows (own_is image (λ h. true) (Write boot at from) cut.0 shows) cut.1.2 in
+          record {
+            image_new = next.0;
+            goes = (shows.gone ∙ cut.1.0, cut.1.1 ∙ sym shows.boot, next.1);
+            shows_new = restood n old new cut_kept (either_by n old new cut_kept cut_room cut_marked cut.2 (Write boot at from) Done cut.3) e e_area e_even next.0 next.2;
+            ordered_new = ordered n old new cut_kept cut_room cut_marked cut.2 (Write boot at from) Done cut.3;
+          }
+
+      cut_other : (t : Epoch) → t.area < 2 → t.number % 2 ≡ 0 → is_same e t ≡ false → (image : DiskState) → Shows n t old image → Shows n t new image × Ordered n new
+      cut_other t t_area t_even differ image shows =
+          let half = others_leave_it n (base_of n t.area) (standings t old) old.whole new.whole image (moved base (Write boot at from)) (Fault Failed) shows (elsewhere_own (λ h. true) (Write boot at from) cut.0 t t_area differ) cut_step in (
+            restood n old new cut_kept (either_by n old new cut_kept cut_room cut_marked cut.2 (Write boot at from) Done cut.3) t t_area t_even image half,
+            ordered n old new cut_kept cut_room cut_marked cut.2 (Write boot at from) Done cut.3,
+          )
+
+    -- ONE ACT IN AN EPOCH
+
+    goes_own : (c : Shape) (k : ℕ) (image : DiskState) (shown : ℕ → Bool) (entry : Filled) → Shows n e old image → GoesIn n e shown old entry new → Comes (λ left. Goes c k image entry left)
+    goes_own c k image shown (Called h d call answer left) shows (inl made) = made_own image shown call answer shows made
+    goes_own c k image shown (Called h d call answer left) shows (inr refused) = refused_own image call answer shows refused
+    goes_own c k image shown (entries.Torn h d Attach left) shows goes = absurd goes
+    goes_own c k image shown (entries.Torn h d (Read boot at len) left) shows goes = absurd goes
+    goes_own c k image shown (entries.Torn h d (Write boot at from) left) shows goes = cut_own boot at from goes image shows
+    goes_own c k image shown (entries.Torn h d (Sync boot) left) shows goes = absurd goes
+    goes_own c k image shown (Start h) shows goes = absurd goes
+    goes_own c k image shown (Stop h) shows goes = absurd goes
+    goes_own c k image shown (Begin h task) shows goes = absurd goes
+    goes_own c k image shown (Crashed d left) shows goes = absurd goes
+    goes_own c k image shown (Lost d) shows goes = absurd goes
+    goes_own c k image shown (Migrated disks log) shows goes = absurd goes
+
+    goes_other : (t : Epoch) → t.area < 2 → t.number % 2 ≡ 0 → is_same e t ≡ false → (image : DiskState) (shown : ℕ → Bool) (entry : Filled) → Shows n t old image → GoesIn n e shown old entry new → Shows n t new image × Ordered n new
+    goes_other t t_area t_even differ image shown (Called h d call answer left) shows (inl made) = made_other t t_area t_even differ image shown call answer shows made
+    goes_other t t_area t_even differ image shown (Called h d call answer left) shows (inr refused) = refused_other t image call answer shows refused
+    goes_other t t_area t_even differ image shown (entries.Torn h d Attach left) shows goes = absurd goes
+    goes_other t t_area t_even differ image shown (entries.Torn h d (Read boot at len) left) shows goes = absurd goes
+    goes_other t t_area t_even differ image shown (entries.Torn h d (Write boot at from) left) shows goes = cut_other boot at from goes t t_area t_even differ image shows
+    goes_other t t_area t_even differ image shown (entries.Torn h d (Sync boot) left) shows goes = absurd goes
+    goes_other t t_area t_even differ image shown (Start h) shows goes = absurd goes
+    goes_other t t_area t_even differ image shown (Stop h) shows goes = absurd goes
+    goes_other t t_area t_even differ image shown (Begin h task) shows goes = absurd goes
+    goes_other t t_area t_even differ image shown (Crashed d left) shows goes = absurd goes
+    goes_other t t_area t_even differ image shown (Lost d) shows goes = absurd goes
+    goes_other t t_area t_even differ image shown (Migrated disks log) shows goes = absurd goes
+
+  -- WHAT IS DONE BESIDE
+
+  module _ (t : Epoch) (t_area : t.area < 2) (t_even : t.number % 2 ≡ 0) (image : DiskState) (shows : Shows n t old image) where
+    writes_beside : (call : Call) → WritesBeside n old call → WritesOn old.whole call
+    writes_beside Attach may = tt
+    writes_beside (Read boot at len) may = tt
+    writes_beside (Write boot at from) may = may.0
+    writes_beside (Sync boot) may = tt
+
+    -- a byte of a host that is not clearing is not written
+    off_beside : (boot at : ℕ) (from : List ℕ) → WritesBeside n old (Write boot at from) → (area p : ℕ) → area < 2 → 4096 ≤ p → p < n → (old.sure area (host_at p) % 2 ≡ 1 → old.seen area (host_at p) ≡ old.sure area (host_at p) → ⊥) →
+        (base_of n area + p < at) ⊎ (at + length from ≤ base_of n area + p)
+    off_beside boot at from may area p is_area high below other =
+        elim (cases_lt (base_of n area + p) at) [
+          | inl before ↦ inl before
+          | inr from_there ↦
+              elim (cases_lt (base_of n area + p) (at + length from)) [
+                | inl within ↦ absurd (let clears = may.1 area p is_area high below from_there within in other clears.0 clears.1)
+                | inr behind ↦ inr behind
+              ]
+        ]
+
+    leaves_beside : (call : Call) → WritesBeside n old call → (area host : ℕ) → area < 2 → old.sure area host % 2 ≡ 1 → (old.seen area host ≡ old.sure area host + 1) → LeavesCleared n (base_of n area) host old.whole call
+    leaves_beside Attach may area host is_area odd more = tt
+    leaves_beside (Read boot at len) may area host is_area odd more = tt
+    leaves_beside (Write boot at from) may area host is_area odd more = (
+      may.0,
+      λ p high below own. off_beside boot at from may area p is_area high below (λ is_odd rests.
+          let same : old.seen area host ≡ old.sure area host = (λ i. old.seen area (sym own i)) ∙ rests ∙ (λ i. old.sure area (own i)) in
+          omega (arith, same, more)),
+    )
+    leaves_beside (Sync boot) may area host is_area odd more = tt
+
+    elsewhere_beside : (call : Call) → WritesBeside n old call → IsElsewhere n (base_of n t.area) (standings t old) old.whole call
+    elsewhere_beside Attach may = tt
+    elsewhere_beside (Read boot at len) may = tt
+    elsewhere_beside (Write boot at from) may = (
+      may.0,
+      λ p high below inside. off_beside boot at from may t.area p t_area high below (λ is_odd rests.
+          let own = inside_is t.number (old.sure t.area (host_at p)) inside in
+          omega (arith, own, is_odd, t_even)),
+    )
+    elsewhere_beside (Sync boot) may = tt
+
+    goes_beside : (call : Call) (answer : Answer) → IsBeside n old new call answer → Shows n t new image × Ordered n new
+    goes_beside call answer beside =
+        let writes = writes_beside call beside.writes in
+        let leaves = leaves_beside call beside.writes in
+        let kept = kept_new call answer beside.step writes leaves in
+        let room = room_new call answer beside.step writes leaves in
+        let marked = marked_new call answer beside.step writes leaves in
+        let half = others_leave_it n (base_of n t.area) (standings t old) old.whole new.whole image call answer shows (elsewhere_beside call beside.writes) beside.step in (
+          restood n old new kept (either_by n old new kept room marked beside.seen call answer beside.sure) t t_area t_even image half,
+          ordered n old new kept room marked beside.seen call answer beside.sure,
+        )
+
+    -- a number turns
+    turned_next : (area host : ℕ) → IsTurned n old new area host → (a h : ℕ) → a < 2 → IsNext n (base_of n a) h (old.sure a h) (new.seen a h) old.whole
+    turned_next area host turned a h is_area =
+        elim (cases_Bool ((a == area) && (h == host))) [
+          | inl own ↦
+              (let both = and_parts (a == area) (h == host) own in
+              let is_a : a ≡ area = eqb-true a area both.0 in
+              let is_h : h ≡ host = eqb-true h host both.1 in
+              subst (λ (x : ℕ). IsNext n (base_of n x) h (old.sure x h) (new.seen x h) old.whole) (sym is_a)
+              (subst (λ (y : ℕ). IsNext n (base_of n area) y (old.sure area y) (new.seen area y) old.whole) (sym is_h)
+              (inr (turned.next ∙ ap (λ (m : ℕ). m + 1) turned.turning.rests, turned.turning.cleared))))
+          | inr off ↦ subst (λ (m : ℕ). IsNext n (base_of n a) h (old.sure a h) m old.whole) (sym (turned.others a h off)) (is.next a h is_area)
+        ]
+
+    goes_turned : (area host : ℕ) → IsTurned n old new area host → Shows n t new image × Ordered n new
+    goes_turned area host turned =
+        let to_new : (a h : ℕ) → a < 2 → IsNext n (base_of n a) h (new.sure a h) (new.seen a h) new.whole = (λ a h is_area.
+        subst (λ (f : ℕ → ℕ → ℕ). IsNext n (base_of n a) h (f a h) (new.seen a h) new.whole) (sym turned.sure)
+        (subst (λ (d : DiskState). IsNext n (base_of n a) h (old.sure a h) (new.seen a h) d) (sym turned.whole) (turned_next area host turned a h is_area))) in (
+          subst (λ (f : ℕ → ℕ → ℕ). ShowsEpoch n (base_of n t.area) (λ g. standing_by t.number (f t.area g)) new.whole image) (sym turned.sure)
+              (subst (λ (d : DiskState). ShowsEpoch n (base_of n t.area) (standings t old) d image) (sym turned.whole) shows),
+          record {
+            room = subst (λ (d : DiskState). 4096 + n + n ≤ length d.bytes) (sym turned.whole) is.room;
+            marked = subst IsWhole (sym turned.whole) is.marked;
+            next = to_new;
+          },
+        )
+
+    -- CRASHES AND LOSSES
+
+    record Ends_ (IsNext_ : DiskState → Type 0) : Type 0 where
+      image_left : DiskState
+      goes_there : IsNext_ image_left
+      shows_left : Shows n t new image_left
+      ordered_left : Ordered n new
+
+    -- what a crash leaves that keeps what is synced, with what each number is then
+    module _ (seen : (area host : ℕ) → (new.seen area host ≡ old.sure area host) ⊎ (new.seen area host ≡ old.seen area host) ⊎ ((new.seen area host ≡ old.seen area host + 1) × IsTurning n old area host)) (sure : new.sure ≡ new.seen)
+        (kept : (area host : ℕ) → area < 2 → IsCleared n (base_of n area) host old.whole → IsCleared n (base_of n area) host new.whole) (size : length new.whole.bytes ≡ length old.whole.bytes) (flags : length new.whole.unsynced ≡ length old.whole.bytes) where
+      -- the same, with what is there after the crash as what was seen
+      abbrev old_left : Shared
+      old_left = record { whole = old.whole; seen = new.seen; sure = old.sure }
+
+      crash_kept : (area host : ℕ) → area < 2 → IsNext n (base_of n area) host (old.sure area host) (new.seen area host) new.whole
+      crash_kept area host is_area =
+          elim (seen area host) [
+            | inl was_sure ↦ inl was_sure
+            | inr (inl was_seen) ↦
+                subst (λ (m : ℕ). IsNext n (base_of n area) host (old.sure area host) m new.whole) (sym was_seen)
+                (is_next n (base_of n area) host (old.sure area host) (old.seen area host) old.whole new.whole (λ odd cleared. kept area host is_area cleared) (is.next area host is_area))
+            | inr (inr next) ↦ inr (next.0 ∙ ap (λ (m : ℕ). m + 1) next.1.rests, λ odd. kept area host is_area (next.1.cleared odd))
+          ]
+
+      crash_either : (area host : ℕ) → (new.sure area host ≡ old.sure area host) ⊎ (new.sure area host ≡ new.seen area host)
+      crash_either area host = inr (λ i. sure i area host)
+
+      crash_shows : (left : DiskState) → ShowsEpoch n (base_of n t.area) (standings t old) new.whole left → Shows n t new left
+      crash_shows left half = restood n old_left new crash_kept crash_either t t_area t_even left half
+
+      crash_ordered : Ordered n new
+      crash_ordered =
+          record {
+            room = omega (arith, is.room, size);
+            marked = flags ∙ sym size;
+            next = λ area host is_area. inl (λ i. sym sure i area host);
+          }
+
+    goes_crashed : (c : Shape) (k : ℕ) → HasCrashed IsModelCrash c k n old new → Ends_ (λ left. (k < c.disks) × (image.gone ≡ false) × (image.boot < 2 ^ 62) × Crashes image left)
+    goes_crashed c k crashed =
+        let crash = crashed.crashes.1 in
+        let next = crashes_are_crashes n (base_of n t.area) (standings t old) old.whole new.whole image shows crash in
+        let kept : (area host : ℕ) → area < 2 → IsCleared n (base_of n area) host old.whole → IsCleared n (base_of n area) host new.whole =
+        (λ area host is_area cleared. cleared_crashed n (base_of n area) host old.whole (area_room area is_area) is.marked cleared new.whole crash) in
+        let flags : length new.whole.unsynced ≡ length old.whole.bytes = ap (λ (l : List Bool). length l) crash.unsynced ∙ length-replicate (length old.whole.bytes) false in
+        record {
+          image_left = next.0;
+          goes_there = (crashed.inside, shows.gone ∙ crashed.there, subst (λ (b : ℕ). b < 2 ^ 62) (sym shows.boot) crashed.crashes.0, next.1);
+          shows_left = crash_shows crashed.seen crashed.sure kept crash.bytes.as_many flags next.0 next.2;
+          ordered_left = crash_ordered crashed.seen crashed.sure kept crash.bytes.as_many flags;
+        }
+
+    -- a loss of power is a crash but for the boot number
+    abbrev model : DiskState
+    model = record { bytes = new.whole.bytes; unsynced = new.whole.unsynced; boot = old.whole.boot + 1; gone = new.whole.gone }
+
+    goes_dark : (c : Shape) (k : ℕ) → HasCrashed LosesPower c k n old new → Ends_ (λ left. (k < c.disks) × (image.gone ≡ false) × LosesPower image left)
+    goes_dark c k crashed =
+        let power = crashed.crashes in
+        let crash : Crashes old.whole model = (record { bytes = power.bytes; unsynced = power.unsynced; boot = refl; gone = power.gone }) in
+        let next = crashes_are_crashes n (base_of n t.area) (standings t old) old.whole model image shows crash in
+        let left : DiskState = record { bytes = next.0.bytes; unsynced = next.0.unsynced; boot = 1; gone = next.0.gone } in
+        let half : ShowsEpoch n (base_of n t.area) (standings t old) new.whole left =
+        (record {
+          room = next.2.room;
+          marked = next.2.marked;
+          shape = next.2.shape;
+          boot = sym power.after;
+          gone = next.2.gone;
+          bytes = next.2.bytes;
+          flags = next.2.flags;
+          blank = next.2.blank;
+          still = next.2.still;
+        }) in
+        let kept : (area host : ℕ) → area < 2 → IsCleared n (base_of n area) host old.whole → IsCleared n (base_of n area) host new.whole =
+        (λ area host is_area cleared.
+        let there = cleared_crashed n (base_of n area) host old.whole (area_room area is_area) is.marked cleared model crash in
+        record { bytes = there.bytes; flags = there.flags }) in
+        let flags : length new.whole.unsynced ≡ length old.whole.bytes = ap (λ (l : List Bool). length l) power.unsynced ∙ length-replicate (length old.whole.bytes) false in
+        record {
+          image_left = left;
+          goes_there = (crashed.inside, shows.gone ∙ crashed.there, record { bytes = next.1.bytes; unsynced = next.1.unsynced; before = shows.boot ∙ power.before; after = refl; gone = next.1.gone });
+          shows_left = crash_shows crashed.seen crashed.sure kept power.bytes.as_many flags left half;
+          ordered_left = crash_ordered crashed.seen crashed.sure kept power.bytes.as_many flags;
+        }
+
+    goes_lost : (c : Shape) (k : ℕ) → IsLost c k old new → Ends_ (λ left. (k < c.disks) × (image.gone ≡ false) × (left ≡ lost image))
+    goes_lost c k is_lost =
+        let half : ShowsEpoch n (base_of n t.area) (standings t old) new.whole (lost image) =
+        subst (λ (d : DiskState). ShowsEpoch n (base_of n t.area) (standings t old) d (lost image)) (sym is_lost.whole) (losses_are_losses n (base_of n t.area) (standings t old) old.whole image shows) in
+        record {
+          image_left = lost image;
+          goes_there = (is_lost.inside, shows.gone ∙ is_lost.there, refl);
+          shows_left = subst (λ (f : ℕ → ℕ → ℕ). ShowsEpoch n (base_of n t.area) (λ g. standing_by t.number (f t.area g)) new.whole (lost image)) (sym is_lost.sure) half;
+          ordered_left = record {
+            room = subst (λ (d : DiskState). 4096 + n + n ≤ length d.bytes) (sym is_lost.whole) is.room;
+            marked = subst IsWhole (sym is_lost.whole) is.marked;
+            next = λ area host is_area.
+                subst (λ (f : ℕ → ℕ → ℕ). IsNext n (base_of n area) host (f area host) (new.seen area host) new.whole) (sym is_lost.sure)
+                (subst (λ (f : ℕ → ℕ → ℕ). IsNext n (base_of n area) host (old.sure area host) (f area host) new.whole) (sym is_lost.seen)
+                (subst (λ (d : DiskState). IsNext n (base_of n area) host (old.sure area host) (old.seen area host) d) (sym is_lost.whole)
+                (is_next n (base_of n area) host (old.sure area host) (old.seen area host) old.whole (lost old.whole)
+                (λ odd cleared. cleared_lost n (base_of n area) host old.whole (area_room area is_area) is.marked cleared) (is.next area host is_area))));
+          };
+        }
+
+-- ALL OF IT
+
+module _ (c : Shape) (k n : ℕ) (t : Epoch) (t_area : t.area < 2) (t_even : t.number % 2 ≡ 0) where
+  serves : (acts : List Act) (old : Shared) (image : DiskState) → Ordered n old → Shows n t old image → ServesAll IsModelCrash c k n old acts → Serves c k image (part t acts)
+  serves [] old image is shows all = tt
+  serves (In e shown entry ∷ acts) old image is shows all =
+      let new = all.0 in
+      let goes = all.1 in
+      elim (cases_Bool (is_same e t)) [
+        | inl same ↦
+            (let parts = and_parts (e.area == t.area) (e.number == t.number) same in
+            let one : e ≡ t = (λ i. record { area = eqb-true e.area t.area parts.0 i; number = eqb-true e.number t.number parts.1 i }) in
+            let by = goes_own n old new is t t_area t_even c k image shown entry shows (subst (λ (x : Epoch). GoesIn n x shown old entry new) one goes.2) in
+            subst (λ (b : Bool). Serves c k image (cond b (entry ∷ part t acts) (part t acts))) (sym same)
+            (by.image_new, by.goes, serves acts new by.image_new by.ordered_new by.shows_new all.2))
+        | inr differ ↦
+            (let by = goes_other n old new is e goes.0 goes.1 t t_area t_even differ image shown entry shows goes.2 in
+            subst (λ (b : Bool). Serves c k image (cond b (entry ∷ part t acts) (part t acts))) (sym differ) (serves acts new image by.1 by.0 all.2))
+      ]
+  serves (Beside call answer ∷ acts) old image is shows all =
+      let by = goes_beside n old all.0 is t t_area t_even image shows call answer all.1 in serves acts all.0 image by.1 by.0 all.2
+  serves (Turns area host ∷ acts) old image is shows all =
+      let by = goes_turned n old all.0 is t t_area t_even image shows area host all.1 in serves acts all.0 image by.1 by.0 all.2
+  serves (Ends (Crashed d left) ∷ acts) old image is shows all =
+      let by = goes_crashed n old all.0 is t t_area t_even image shows c k all.1 in (by.image_left, by.goes_there, serves acts all.0 by.image_left by.ordered_left by.shows_left all.2)
+  serves (Ends (Lost d) ∷ acts) old image is shows all =
+      let by = goes_lost n old all.0 is t t_area t_even image shows c k all.1 in (by.image_left, by.goes_there, serves acts all.0 by.image_left by.ordered_left by.shows_left all.2)
+  serves (Ends (Start h) ∷ acts) old image is shows all = absurd all.1
+  serves (Ends (Stop h) ∷ acts) old image is shows all = absurd all.1
+  serves (Ends (Begin h task) ∷ acts) old image is shows all = absurd all.1
+  serves (Ends (Called h d call answer left) ∷ acts) old image is shows all = absurd all.1
+  serves (Ends (entries.Torn h d call left) ∷ acts) old image is shows all = absurd all.1
+  serves (Ends (Migrated disks log) ∷ acts) old image is shows all = absurd all.1
+
+  -- what a host of the epoch does goes so over losses of power, too
+  on_goes : (e : Epoch) (shown : ℕ → Bool) (old new : Shared) (image left : DiskState) (entry : Filled) → GoesIn n e shown old entry new → Goes c k image entry left → GoesOn c k image entry left
+  on_goes e shown old new image left (Called h d call answer bytes) goes by = by
+  on_goes e shown old new image left (entries.Torn h d call bytes) goes by = by
+  on_goes e shown old new image left (Start h) goes by = absurd goes
+  on_goes e shown old new image left (Stop h) goes by = absurd goes
+  on_goes e shown old new image left (Begin h task) goes by = absurd goes
+  on_goes e shown old new image left (Crashed d bytes) goes by = absurd goes
+  on_goes e shown old new image left (Lost d) goes by = absurd goes
+  on_goes e shown old new image left (Migrated disks log) goes by = absurd goes
+
+  serves_on : (acts : List Act) (old : Shared) (image : DiskState) → Ordered n old → Shows n t old image → ServesAll LosesPower c k n old acts → ServesOn c k image (part t acts)
+  serves_on [] old image is shows all = tt
+  serves_on (In e shown entry ∷ acts) old image is shows all =
+      let new = all.0 in
+      let goes = all.1 in
+      elim (cases_Bool (is_same e t)) [
+        | inl same ↦
+            (let parts = and_parts (e.area == t.area) (e.number == t.number) same in
+            let one : e ≡ t = (λ i. record { area = eqb-true e.area t.area parts.0 i; number = eqb-true e.number t.number parts.1 i }) in
+            let own : GoesIn n t shown old entry new = subst (λ (x : Epoch). GoesIn n x shown old entry new) one goes.2 in
+            let by = goes_own n old new is t t_area t_even c k image shown entry shows own in
+            subst (λ (b : Bool). ServesOn c k image (cond b (entry ∷ part t acts) (part t acts))) (sym same)
+            (by.image_new, on_goes t shown old new image by.image_new entry own by.goes, serves_on acts new by.image_new by.ordered_new by.shows_new all.2))
+        | inr differ ↦
+            (let by = goes_other n old new is e goes.0 goes.1 t t_area t_even differ image shown entry shows goes.2 in
+            subst (λ (b : Bool). ServesOn c k image (cond b (entry ∷ part t acts) (part t acts))) (sym differ) (serves_on acts new image by.1 by.0 all.2))
+      ]
+  serves_on (Beside call answer ∷ acts) old image is shows all =
+      let by = goes_beside n old all.0 is t t_area t_even image shows call answer all.1 in serves_on acts all.0 image by.1 by.0 all.2
+  serves_on (Turns area host ∷ acts) old image is shows all =
+      let by = goes_turned n old all.0 is t t_area t_even image shows area host all.1 in serves_on acts all.0 image by.1 by.0 all.2
+  serves_on (Ends (Crashed d left) ∷ acts) old image is shows all =
+      let by = goes_dark n old all.0 is t t_area t_even image shows c k all.1 in (by.image_left, by.goes_there, serves_on acts all.0 by.image_left by.ordered_left by.shows_left all.2)
+  serves_on (Ends (Lost d) ∷ acts) old image is shows all =
+      let by = goes_lost n old all.0 is t t_area t_even image shows c k all.1 in (by.image_left, by.goes_there, serves_on acts all.0 by.image_left by.ordered_left by.shows_left all.2)
+  serves_on (Ends (Start h) ∷ acts) old image is shows all = absurd all.1
+  serves_on (Ends (Stop h) ∷ acts) old image is shows all = absurd all.1
+  serves_on (Ends (Begin h task) ∷ acts) old image is shows all = absurd all.1
+  serves_on (Ends (Called h d call answer left) ∷ acts) old image is shows all = absurd all.1
+  serves_on (Ends (entries.Torn h d call left) ∷ acts) old image is shows all = absurd all.1
+  serves_on (Ends (Migrated disks log) ∷ acts) old image is shows all = absurd all.1
+
+-- at first
+ordered_first : (n size : ℕ) → 4096 + n + n ≤ size → Ordered n (fresh_shared size)
+unfolding fresh_disk
+ordered_first n size fits =
+    let long = length-replicate {A = ℕ} size 0 in
+    record { room = omega (arith, fits, long); marked = length-replicate size false ∙ sym long; next = λ area host is_area. inl refl }
+
+shows_first : (n size e : ℕ) → 4096 + n + n ≤ size → Shows n (epoch_of e) (fresh_shared size) (fresh_disk n)
+shows_first n size e fits = fresh_disks_show_nothing n (base_of n (e % 2)) size (standings (epoch_of e) (fresh_shared size)) (area_fits n (e % 2) size fits)
+
+pub areas_serve : AreasServe
+areas_serve c k n size e acts fits all =
+    let area : e % 2 < 2 = omega arith in
+    let even : (e + e % 2) % 2 ≡ 0 = omega arith in
+    serves c k n (epoch_of e) area even acts (fresh_shared size) (fresh_disk n) (ordered_first n size fits) (shows_first n size e fits) all
+
+pub areas_serve_on : AreasServeOn
+areas_serve_on c k n size e acts fits all =
+    let area : e % 2 < 2 = omega arith in
+    let even : (e + e % 2) % 2 ≡ 0 = omega arith in
+    serves_on c k n (epoch_of e) area even acts (fresh_shared size) (fresh_disk n) (ordered_first n size fits) (shows_first n size e fits) all
