@@ -1,11 +1,17 @@
 -- What a claim hears of a host leaves it on the same lock.
-use Rattle.std.proofs.Common.{◌⊎◌, ℕ, Option, Some, inl, inr}
+use Rattle.std.proofs.Common.{◌≡◌, ◌≢◌, ◌⊎◌, ℕ, Option, None, Some, inl, inr, refl, arith}
+use Rattle.host.specs.declared.answer.HostAnswer.{HostAnswer}
+use Rattle.host.specs.declared.answer.HostAnswer.TheVariants.{Ack, Recovered, Looked, Beaten, Marked, Refused}
+use Rattle.lock_command.specs.declared.reply.Reply.{Reply}
 use Rattle.session.specs.Bounds.{ComesNearer}
 use Rattle.session.specs.Keeping.{IsOnSame, IsStillKnown, Keeps, KeepsReleaseUntilOut}
 use Rattle.session.specs.Outcomes.{IsOut}
 use Rattle.session.specs.declared.claim.Claim.{Claim}
 use Rattle.session.specs.declared.learned.Learned.{Learned}
+use Rattle.session.specs.declared.outcome.Failure.TheVariants.{Broken}
+use Rattle.attempt.specs.declared.refusal.Refusal.{Refusal}
 use Rattle.dlm_c.specs.Claims.{HearsOn, IsLearnedBy, IsOutBy, StaysAsked}
+use Rattle.dlm_c.specs.Hearing.{IsAnswered, IsEvent, IsRefused}
 use Rattle.c_host.specs.declared.open_host.OpenHost.{OpenHost}
 
 -- It is the same lock, and stays asked for.
@@ -45,3 +51,19 @@ hears_by event host l old new by on nearer release = record {
   asked = λ of_log. on.1;
   release = λ of_log request is. known_or_out host l old new request by (release request is);
 }
+
+-- what the host answers for a command is that it was carried out, or refused, or nothing that it could be
+pub other_answer : (answer : Option HostAnswer) (l : Learned) (old new : Claim) →
+    ((slot : ℕ) (reply : Reply) → answer ≡ Some (Ack slot reply) → ⊥) → ((refusal : Refusal) → answer ≡ Some (Refused refusal) → ⊥) →
+    IsRefused Broken l old new → IsAnswered answer l old new
+other_answer None l old new done refused is = is
+other_answer (Some (Ack slot reply)) l old new done refused is = absurd (done slot reply refl)
+other_answer (Some (Recovered length)) l old new done refused is = is
+other_answer (Some (Looked length)) l old new done refused is = is
+other_answer (Some (Beaten host)) l old new done refused is = is
+other_answer (Some (Marked count)) l old new done refused is = is
+other_answer (Some (Refused refusal)) l old new done refused is = absurd (refused refusal refl)
+
+-- a number that is none of these is that of no event
+pub no_event : (event : ℕ) → event ≢ 1 → event ≢ 2 → event ≢ 3 → event ≢ 4 → event ≢ 5 → event ≢ 6 → event ≢ 7 → IsEvent event → ⊥
+no_event event one two three four five six seven is = omega (arith, is.0, is.1, one, two, three, four, five, six, seven)

@@ -3,6 +3,7 @@ pub mod Claims
 pub mod Cleanups
 pub mod Devices
 pub mod Handles
+pub mod Hearing
 pub mod Held
 pub mod Marking
 pub mod Opening

@@ -5,6 +5,7 @@ ghost use Rattle.lock_table.specs.Picture.{IsPictureOf};
 ghost use Rattle.session.specs.Orders.{order_of};
 ghost use Rattle.dlm_c.specs.Asking.{BeginsGoalOr, KeepsLeft, KeepsNew, Stops, SubmitsOrder};
 ghost use Rattle.dlm_c.specs.Claims.{Closes, HearsAlone, HearsOfSigns, HearsOn, HearsRight, ShowsClaim, told_order};
+ghost use Rattle.dlm_c.specs.Hearing.{Hears, IsHeardBy, Moves, MovesBy};
 ghost use Rattle.dlm_c.specs.Handles.{InHandle, InKept};
 ghost use Rattle.c_host.specs.Numbers.{closed, done, no_memory};
 ghost use Rattle.c_host.specs.declared.open_host.OpenHost.{OpenHost};
@@ -238,7 +239,7 @@ pub extern "C" fn dlm_c_hear(
     left_over: bool,
 ) -> i32
     ensures heard { (opened : OpenHost) → host.old.held.value ≡ Some opened →
-        InHandle (λ old new. (result ≡ done) × HearsRight event opened new × HearsOfSigns event old new × HearsOn event opened old new)
+        InHandle (λ old new. (result ≡ done) × Hears event status left_over opened old new)
         handle.old.held.value handle.new.held.value result }
     // The claim is told that nothing can be heard.
     ensures none { host.old.held.value ≡ None →
@@ -262,7 +263,7 @@ fn hear_in(
     left_over: bool,
 ) -> i32
     ensures heard { (opened : OpenHost) → host.old.held.value ≡ Some opened →
-        (result ≡ done) × HearsRight event opened claim.new × HearsOfSigns event claim.old claim.new × HearsOn event opened claim.old claim.new }
+        (result ≡ done) × Hears event status left_over opened claim.old claim.new }
     ensures none { host.old.held.value ≡ None → (result ≡ closed) × Closes Failure.Broken claim.old claim.new }
     ensures same { host.new.held.value ≡ host.old.held.value }
 {
@@ -287,6 +288,7 @@ fn hear_by(
     ensures heard { HearsRight event host.now claim.new }
     ensures signs { HearsOfSigns event claim.old claim.new }
     ensures on { HearsOn event host.now claim.old claim.new }
+    ensures moves { Moves event status left_over host.now claim.old claim.new }
 {
     match host.core.table().picture(alloc) {
         Ok(table) => hear(claim, host, &table, event, status, left_over),
@@ -307,6 +309,7 @@ fn hear(
     ensures heard { HearsRight event host.now claim.new }
     ensures signs { HearsOfSigns event claim.old claim.new }
     ensures on { HearsOn event host.now claim.old claim.new }
+    ensures moves { (l : Learned) × IsHeardBy host.now left_over l × MovesBy event status host.now.core.said l claim.old claim.new }
 {
     let learned = Learned {
         set: host.cluster,
