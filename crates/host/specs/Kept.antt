@@ -98,9 +98,9 @@ IsAlone learner (beside.Look notes) = LooksAlone learner notes
 IsAlone learner (beside.Beat notes) = BeatsAlone learner notes
 IsAlone learner (beside.Mark notes) = MarksAlone learner notes
 
--- an operation has a try at least, and a command that is submitted is the host's
+-- an operation has a try at least
 abbrev pub MayBegin : Kept → Task → Type 0
-MayBegin k (task.Submit command tries) = (command.host ≡ k.learner.host) × (1 ≤ tries)
+MayBegin k (task.Submit command tries) = 1 ≤ tries
 MayBegin k (task.Recover tries) = 1 ≤ tries
 MayBegin k other = Unit {0}
 

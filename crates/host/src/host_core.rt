@@ -171,7 +171,6 @@ impl HostCore {
     /// Begins a `Task::Submit`.
     pub fn submit(&mut self, command: Command, tries: u8)
         requires idle { is_idle self.old ≡ true }
-        requires host { command.host ≡ self.old.learner.host }
         requires tries { 1 ≤ tries }
         ensures { (c : Shape) (h : ℕ) (m : Memory) → LeadsTo c h m self.old →
             LeadsTo c h (goes_on c m (Submitting command) tries) self.new }

@@ -11,7 +11,7 @@ use Rattle.disk.specs.Simulated.{refusal_under, refusal_of}
 use Rattle.disk.proofs.FillingLemmas.{length-spread, filled_keeps}
 use Rattle.torn_block.specs.declared.layout.TheConstants.{HOSTS}
 use Rattle.lock_command.specs.declared.command.Command.{Command}
-use Rattle.lock_command.specs.Command.{spelling, is_submittable, Fits as FitsCommand}
+use Rattle.lock_command.specs.Command.{spelling, Fits as FitsCommand}
 use Rattle.lock_command.specs.Reading.{checked, decoded}
 use Rattle.lock_command.proofs.Readings.{command_at-spelling}
 use Rattle.std.proofs.lemmas.Slice.Eq.{bytes_eq-Decides}
@@ -22,7 +22,7 @@ use Rattle.host.specs.Host.{is_stopped, idles, next_of}
 use Rattle.host.proofs.Hosts.{decoded_spelled}
 use Rattle.world.specs.Entry as entries
 use Rattle.world.specs.Entry.{Filled, Called, Torn, Crashed, called_by}
-use Rattle.world.specs.World.{World, MayFollow, ReadsBack, HasDisk}
+use Rattle.world.specs.World.{World, MayFollow, ReadsBack, HasDisk, may_submit}
 use Rattle.world.specs.Happens.{Event, Start, Stop, Begin, Step, Tear, FailCall, DiskCrash, DiskGone, answer_by, answer_of, spread_over, stepped, failed_entry, failed, torn_entry, torn, brings_if, are_some, has_disk, submitted, task_entry, entry_of}
 
 -- WHAT A TEST TELLS
@@ -106,8 +106,7 @@ module _ (c : Shape) (w : World) (whole : (k : ℕ) → IsWhole (w.disk k)) wher
   submitting : (h tries : ℕ) (o : Option Command) (bytes : List ℕ) (e : Filled) → (idles (w.host h) ≡ true) → (0 < tries) → decoded bytes ≡ o → submitted h tries o ≡ Some e → MayFollow c w e
   submitting h tries None bytes e idle some reads is = absurd (cc)
   submitting h tries (Some command) bytes e idle some reads is =
-      some_if (command.host == h && is_submittable command) (entries.Begin h (Submit command tries)) e (MayFollow c w) is (λ t.
-      (let p = and_parts (command.host == h) (is_submittable command) t in (idle, (reads_back bytes command reads, eqb-true command.host h p.0, some, p.1))))
+      some_if (may_submit h command) (entries.Begin h (Submit command tries)) e (MayFollow c w) is (λ t. (idle, (reads_back bytes command reads, some, t)))
 
   beginning : (h : ℕ) (task : Task) (e : Filled) → idles (w.host h) ≡ true → task_entry c h task ≡ Some e → MayFollow c w e
   beginning h (Submit command tries) e idle is =

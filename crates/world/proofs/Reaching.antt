@@ -227,7 +227,7 @@ module _ (c : Shape) (w : World) (whole : (k : ℕ) → IsWhole (w.disk k)) wher
 
   -- a task that may be given is
   given : (h : ℕ) (task : Task) → MayBeGiven c h task → task_entry c h task ≡ Some (entries.Begin h task)
-  given h (Submit command tries) may = brought_if _ _ (lt-ltb 0 tries may.2) ∙ ap (submitted h tries) may.0 ∙ brought_if _ _ (both_true (eq-eqb command.host h may.1) may.3)
+  given h (Submit command tries) may = brought_if _ _ (lt-ltb 0 tries may.1) ∙ ap (submitted h tries) may.0 ∙ brought_if _ _ may.2
   given h (Recover tries) may = brought_if _ _ (lt-ltb 0 tries may)
   given h Look may = refl
   given h Beat may = refl

@@ -7,7 +7,7 @@ use Rattle.disk.specs.Filling.{spread, filled}
 use Rattle.disk.specs.Simulated.{refusal_of}
 use Rattle.torn_block.specs.declared.layout.TheConstants.{HOSTS}
 use Rattle.lock_command.specs.declared.command.Command.{Command}
-use Rattle.lock_command.specs.Command.{spelling, is_submittable}
+use Rattle.lock_command.specs.Command.{spelling}
 use Rattle.lock_command.specs.Reading.{decoded}
 use Rattle.slot_log.specs.Shape.{Shape}
 use Rattle.host.specs.declared.answer.HostAnswer.{HostAnswer}
@@ -16,7 +16,7 @@ use Rattle.host.specs.declared.task.Task.TheVariants.{Submit, Recover, Mark}
 use Rattle.host.specs.Host.{next_of, is_stopped, idles, said_of}
 use Rattle.world.specs.Entry as entries
 use Rattle.world.specs.Entry.{Filled, Called, Torn, Crashed, Lost, Migrated}
-use Rattle.world.specs.World.{World, world}
+use Rattle.world.specs.World.{World, world, may_submit}
 
 pub data Event : Type 0 where
   Start : (host : ℕ) → Event
@@ -83,10 +83,10 @@ are_some given = nat_lt 0 (length given)
 abbrev pub has_disk : Shape → World → ℕ → Bool
 has_disk c w k = nat_lt k c.disks && not (w.disk k).gone
 
--- a command that its spelling reads as, and for which a client may ask, is submitted through its own host
+-- a command that its spelling reads as is submitted through a host that may submit it
 abbrev pub submitted : ℕ → ℕ → Option Command → Option Filled
 submitted h tries None = None
-submitted h tries (Some command) = brings_if (command.host == h && is_submittable command) (Some (entries.Begin h (Submit command tries)))
+submitted h tries (Some command) = brings_if (may_submit h command) (Some (entries.Begin h (Submit command tries)))
 
 -- a task that an idle host is given has a try, where it needs one, and its slot is one of the log
 abbrev pub task_entry : Shape → ℕ → Task → Option Filled

@@ -1,5 +1,5 @@
 -- Of the headline. The world after a list of entries, which entry may follow, and what a run is.
-use Rattle.std.specs.Prelude.{◌≡◌, ◌<◌, ◌≤◌, ◌^◌, ℕ, false, IsTrue, List, [], ◌∷◌, ◌++◌, length, slice_get, Some}
+use Rattle.std.specs.Prelude.{◌≡◌, ◌<◌, ◌≤◌, ◌^◌, ◌==◌, ◌&&◌, ◌||◌, ℕ, Bool, false, IsTrue, List, [], ◌∷◌, ◌++◌, length, slice_get, Some}
 use Rattle.disk.specs.Disk.{DiskState, Call, Attach, Read, Write, Sync, Step, Crashes}
 use Rattle.disk.specs.Disk as device
 use Rattle.disk.specs.Simulated.{fresh_disk}
@@ -7,7 +7,7 @@ use Rattle.torn_block.specs.Layout.{cluster_version}
 use Rattle.torn_block.specs.declared.layout.TheConstants.{HOSTS}
 use Rattle.paxos_block.specs.Places.{image_length}
 use Rattle.lock_command.specs.declared.command.Command.{Command}
-use Rattle.lock_command.specs.Command.{spelling, is_submittable}
+use Rattle.lock_command.specs.Command.{spelling, is_carried, is_submittable}
 use Rattle.lock_command.specs.Reading.{decoded}
 use Rattle.slot_log.specs.Shape.{Shape}
 use Rattle.host.specs.declared.task.Task.{Task}
@@ -51,10 +51,13 @@ Tears (Read boot at len) old new = ⊥
 Tears (Write boot at from) old new = (old.gone ≡ false) × (boot ≡ old.boot) × device.Torn at (length from) old new
 Tears (Sync boot) old new = ⊥
 
--- A host may be given the task: it has a try, where it needs one, a command is the host's own and one for which a client may ask, and a
--- slot is one of the log.
+-- A host may submit a command of its own for which a client may ask, and any that carries a part of a table over.
+abbrev pub may_submit : ℕ → Command → Bool
+may_submit h command = is_carried command.action || (command.host == h && is_submittable command)
+
+-- A host may be given the task: it has a try, where it needs one, a command is one that the host may submit, and a slot is one of the log.
 abbrev pub MayBeGiven : Shape → ℕ → Task → Type 0
-MayBeGiven c h (Submit command tries) = ReadsBack command × (command.host ≡ h) × (0 < tries) × IsTrue (is_submittable command)
+MayBeGiven c h (Submit command tries) = ReadsBack command × (0 < tries) × IsTrue (may_submit h command)
 MayBeGiven c h (Recover tries) = 0 < tries
 MayBeGiven c h Look = Unit {0}
 MayBeGiven c h Beat = Unit {0}
