@@ -54,7 +54,7 @@ none_by h place (Some doing) said idle = absurd (cc idle)
 
 -- what its host has to be given
 pub may_begin : (c : Shape) (h : ℕ) (k : Kept) (task : Task) → k.learner.host ≡ h → MayBeGiven c h task → MayBegin k task
-may_begin c h k (Submit command tries) is may = (may.1 ∙ sym is, omega (arith, may.2))
+may_begin c h k (Submit command tries) is may = omega (arith, may.1)
 may_begin c h k (Recover tries) is may = omega (arith, may)
 may_begin c h k other is may = tt
 

@@ -411,7 +411,7 @@ module _ {D : Type 0} (gives : D → device.Call → device.Answer → D → Typ
       bounded (λ c m. looks_on c m 0) 2 1 done (record { few = (let few = cost.few in omega arith); grows = cost.grows; room = cost.room })
 
   room_then : (task : Task) → MayBegin old.core task → MayBeAsked task → HasCarriedOut gives (λ c m. starts c m task) old new → length new.core.prefix ≤ old.core.learner.shape.slots
-  room_then (tasks.Submit command tries) may asked done = (operated_bounded (Submitting command) tries may.1 done).room
+  room_then (tasks.Submit command tries) may asked done = (operated_bounded (Submitting command) tries may done).room
   room_then (tasks.Recover tries) may asked done = (operated_bounded Recovering tries may done).room
   room_then tasks.Look may asked done = (looked_bounded done).room
   room_then tasks.Beat may asked done = absurd asked

@@ -7,7 +7,7 @@ use Rattle.std.proofs.lemmas.Bool.{eq-eqb, lt-ltb}
 use Rattle.torn_block.specs.declared.layout.TheConstants.{HOSTS}
 use Rattle.slot_log.specs.Shape.{Shape}
 use Rattle.lock_command.specs.declared.command.Command.{Command}
-use Rattle.lock_command.specs.Command.{is_submittable, Fits as FitsCommand}
+use Rattle.lock_command.specs.Command.{Fits as FitsCommand}
 use Rattle.host.specs.declared.task.Task.{Task}
 use Rattle.host.specs.declared.task.Task.TheVariants.{Submit, Recover, Look, Beat, Mark}
 use Rattle.host.specs.Host.{Host, Stopped, Running, Memory, fresh, starts as starts_task, idles, is_stopped}
@@ -15,7 +15,7 @@ use Rattle.host.specs.Kept as hosts
 use Rattle.host.proofs.Hosts.{idle_is}
 use Rattle.world.specs.Entry as entries
 use Rattle.world.specs.Entry.{Filled, host_step, started}
-use Rattle.world.specs.World.{MayBeGiven, world}
+use Rattle.world.specs.World.{MayBeGiven, may_submit, world}
 use Rattle.world.specs.Happens.{Start, Stop, Begin, brings_if, submitted, task_entry, entry_of}
 use Rattle.world.proofs.Follow.{command_reads_back}
 use Rattle.world.proofs.Runs.{follows}
@@ -45,11 +45,11 @@ both : (a b : Bool) (o : Option Filled) → brings_if a (brings_if b o) ≡ brin
 both true b o = refl
 both false b o = refl
 
--- a host may be given a command to submit where there is a try, and the command is its own, and one for which a client may ask
+-- a host may be given a command to submit where there is a try, and it may submit the command
 pub submits_if : (c : Shape) (h : ℕ) (task : Task) (command : Command) (tries : ℕ) (may : Bool) → task ≡ Submit command tries → FitsCommand command
-    → may ≡ (nat_lt 0 tries && (command.host == h && is_submittable command)) → task_entry c h task ≡ brings_if may (Some (entries.Begin h task))
+    → may ≡ (nat_lt 0 tries && may_submit h command) → task_entry c h task ≡ brings_if may (Some (entries.Begin h task))
 submits_if c h task command tries may is fits passed =
-    let asked = command.host == h && is_submittable command in
+    let asked = may_submit h command in
     let e : Filled = entries.Begin h (Submit command tries) in
     ap (task_entry c h) is
     ∙ ap (λ (o : Option Command). brings_if (nat_lt 0 tries) (submitted h tries o)) (command_reads_back command fits)
@@ -59,7 +59,7 @@ submits_if c h task command tries may is fits passed =
 
 -- a task that a host may be given may be begun by what is kept of it
 may_of : (c : Shape) (h : ℕ) (task : Task) (core : hosts.Kept) → core.learner.host ≡ h → MayBeGiven c h task → hosts.MayBegin core task
-may_of c h (Submit command tries) core is m = (m.1 ∙ sym is, omega (arith, m.2))
+may_of c h (Submit command tries) core is m = omega (arith, m.1)
 may_of c h (Recover tries) core is m = omega (arith, m)
 may_of c h Look core is m = tt
 may_of c h Beat core is m = tt

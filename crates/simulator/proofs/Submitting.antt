@@ -5,7 +5,7 @@ use Rattle.disk.specs.declared.fault.DiskFault.{DiskFault}
 use Rattle.disk.specs.Disk.{Call, Attach, Read, Write, Sync}
 use Rattle.disk.specs.Simulated.{refusal_of}
 use Rattle.lock_command.specs.declared.command.Command.{Command}
-use Rattle.lock_command.specs.Command.{spelling, is_submittable}
+use Rattle.lock_command.specs.Command.{spelling}
 use Rattle.lock_command.specs.Reading.{decoded}
 use Rattle.slot_log.specs.Shape.{Shape}
 use Rattle.host.specs.declared.task.Task.{Task}
@@ -14,7 +14,7 @@ use Rattle.host.specs.Host.{idles, next_of}
 use Rattle.host.proofs.Hosts.{decoded_spelled}
 use Rattle.world.specs.Entry as entries
 use Rattle.world.specs.Entry.{Filled}
-use Rattle.world.specs.World.{World}
+use Rattle.world.specs.World.{World, may_submit}
 use Rattle.world.specs.Happens.{Event, Start, Stop, Begin, Step, Tear, FailCall, DiskCrash, DiskGone, brings_if, stepped, failed_entry, failed, torn_entry, torn, submitted, task_entry, entry_of}
 
 -- an entry that is brought under a test is the one that stands there
@@ -61,7 +61,7 @@ module _ (c : Shape) (w : World) (h : ℕ) (command : Command) (tries : ℕ) whe
   of_submit g t given None reads is = absurd (cc)
   of_submit g t given (Some found) reads is =
       let same : entries.Begin g (Submit found t) ≡ entries.Begin h (Submit command tries) =
-      (let some = brought (found.host == g && is_submittable found) (Some (entries.Begin g (Submit found t))) (entries.Begin h (Submit command tries)) is in cc) in
+      (let some = brought (may_submit g found) (Some (entries.Begin g (Submit found t))) (entries.Begin h (Submit command tries)) is in cc) in
       let one_host : g ≡ h = cc in
       let one_command : found ≡ command = cc in
       let one_tries : t ≡ tries = cc in

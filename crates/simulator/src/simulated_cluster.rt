@@ -7,6 +7,7 @@ ghost use Rattle.slot_log.specs.Shape.{Shape};
 ghost use Rattle.world.specs.Entry as entries;
 ghost use Rattle.world.specs.Entry.{Filled};
 ghost use Rattle.world.specs.Opening.{CanBegin, begun};
+ghost use Rattle.world.specs.World.{may_submit};
 ghost use Rattle.world.specs.Happens.{Start, Stop, Begin, Step, Tear, FailCall, DiskCrash, DiskGone, brings_if, task_entry};
 ghost use Rattle.simulator.specs.Events.{event_of};
 ghost use Rattle.simulator.specs.Kept.{TellsNext, Kept, LeadsTo, Brings, BringsAll, said_now, calm, is_busy, is_free};
@@ -15,7 +16,7 @@ use crate::device_call::{crash_disk, is_write, lose_disk, make, refusal_of, spoi
 use crate::migrated::{migrate_again, migrated_disks};
 use disk::{DiskFault, NoMemory, SimDisk};
 use host::{HostAnswer, HostCore, Task};
-use lock_command::{Command, HOSTS, HostNumber};
+use lock_command::{Action, Command, HOSTS, HostNumber};
 use lock_script::Event;
 use phases::Heard;
 use slot_log::Config;
@@ -366,6 +367,16 @@ fn is_free(slot: &Option<HostCore>) -> bool
     }
 }
 
+/// Whether a host may submit the command: its own, for which a client may ask, or one that carries a part of a table over.
+fn may_submit(host: HostNumber, command: &Command) -> bool
+    ensures { result ≡ may_submit host command.now }
+{
+    matches!(
+        &command.action,
+        Action::CarryLock { .. } | Action::CarryClient(_)
+    ) || (command.host == host && command.is_submittable())
+}
+
 /// Whether an idle host may be given the task.
 fn may_be_given(config: Config, host: HostNumber, task: &Task) -> bool
     ensures { task_entry config host task.now ≡ brings_if result (Some (entries.Begin host task.now)) }
@@ -377,7 +388,7 @@ fn may_be_given(config: Config, host: HostNumber, task: &Task) -> bool
             if *tries == 0 {
                 return false;
             }
-            command.host == host && command.is_submittable()
+            may_submit(host, command)
         }
         Task::Recover { tries } => 0 < *tries,
         Task::Look | Task::Beat => true,
