@@ -1,0 +1,5 @@
+pub mod First
+pub mod Going
+pub mod Lived
+pub mod Puts
+pub mod WithoutEnd

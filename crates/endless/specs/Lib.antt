@@ -1,0 +1,4 @@
+pub mod Epochs
+pub mod Headline
+pub mod Lived
+pub mod WithoutEnd

@@ -1,0 +1,41 @@
+-- What hosts of all epochs do over shared disks is one log without an end.
+use Rattle.std.specs.Prelude.{◌≡◌, ◌<◌, ◌≤◌, ℕ, suc, List, ◌++◌, length, take, slice_get, Some}
+use Rattle.lock_command.specs.declared.command.Command.{Command}
+use Rattle.lock_table.specs.Apply.{table_after}
+use Rattle.lock_table.specs.Carrying.{carried_over}
+use Rattle.lock_table.specs.Picture.{Shown, IsPictureOf}
+use Rattle.slot_log.specs.Shape.{Shape}
+use Rattle.host.specs.Host.{Submitting, Attempt, Attempts, Memory, Host, Stopped, Running, learned_of}
+use Rattle.world.specs.Entry.{Filled, of_host, host_after}
+use Rattle.epochs.specs.Acts.{Act}
+use Rattle.epochs.specs.OneLog.{IsShared}
+use Rattle.endless.specs.Epochs.{IsCallAt, carried_by, HasGoneOn}
+
+-- what a host is by place i of what is done in an epoch, by its own deeds
+abbrev pub host_by : Shape → List Filled → ℕ → ℕ → Host
+host_by c log i h = host_after c h Stopped (of_host h (take i log))
+
+-- and what it has learned of the epoch by then
+abbrev pub learned_by : Shape → List Filled → ℕ → ℕ → List Command
+learned_by c log i h = learned_of (host_by c log i h)
+
+-- Hosts share disks. Up to this epoch each but the last was learned whole, by some host at some place; and in the next one nobody submits anything in its first slots but
+-- what carries that table over.
+pub record IsWithoutEnd (c : Shape) (size : ℕ) (acts : ℕ → List Act) (logs : ℕ → List Filled) (last : ℕ) (shown : ℕ → Shown) : Type 0 where
+  pub shared : IsShared c size acts logs
+  pub place : ℕ → ℕ
+  pub host : ℕ → ℕ
+  pub full : (e : ℕ) → e < last → length (learned_by c (logs e) (place e) (host e)) ≡ c.slots
+  pub pictured : (e : ℕ) → e < last → IsPictureOf (shown e) (table_after (learned_by c (logs e) (place e) (host e)))
+  pub fits : (e : ℕ) → e < last → length (carried_over (shown e)) ≤ c.slots
+  pub carries : (e : ℕ) → e < last → (i h : ℕ) (memory : Memory) (doing : Attempt) (command wanted : Command) → IsCallAt (logs (suc e)) i h → host_by c (logs (suc e)) i h ≡ Running memory → memory.doing ≡ Some (Attempts doing) → doing.operation ≡ Submitting command →
+      slice_get (carried_over (shown e)) (length memory.learned) ≡ Some wanted → command ≡ wanted
+
+-- Then what was submitted in all epochs is one log: whatever a host has learned of an epoch, once it has learned what carries the table over, shows what all that was submitted in
+-- earlier epochs and then in this one leaves, and its replies are those after all of that.
+abbrev pub OneLogWithoutEnd : Type 0
+OneLogWithoutEnd =
+    (c : Shape) (size : ℕ) (acts : ℕ → List Act) (logs : ℕ → List Filled) (last : ℕ) (shown : ℕ → Shown) → (is : IsWithoutEnd c size acts logs last shown) →
+    (later : ℕ → List Command)
+    × ((e : ℕ) → e < last → learned_by c (logs e) (is.place e) (is.host e) ≡ carried_by shown e ++ later e)
+    × ((e i h : ℕ) → e ≤ last → length (carried_by shown e) ≤ length (learned_by c (logs e) i h) → HasGoneOn later shown e (learned_by c (logs e) i h))

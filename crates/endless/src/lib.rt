@@ -1,0 +1,6 @@
+//! Logs without an end: the log of an epoch begins with what carries over the table that the epoch before left.
+#![tactic(auto)]
+
+mod law;
+
+pub use law::{epochs_go_on, one_log_without_end, recoveries_are_of_the_last};
