@@ -1,6 +1,8 @@
 #!/usr/bin/env bash
 # crates.sh: says where crates.txt names for a crate a library that none of its files cites. Each such name makes a build of all that stands above it slower.
 # Then it compares the table of docs/ARCHITECTURE.md with what each crate says of itself first, in the order of crates.txt.
+# Last it lists where a crate waits for another one of crates.txt because of one name or two: such an edge may be an accident. The list fails nothing.
+# It counts the names that the crate's files import from the other, and those that code cites by path. A module that is imported whole counts as one.
 set -euo pipefail
 
 top=$(dirname -- "$(dirname -- "$(readlink -f -- "${BASH_SOURCE[0]}")")")
@@ -22,6 +24,47 @@ row() {
     echo "| [\`$1\`](../crates/$1/README.md) | $(sed -n '/^\/\/!/!q; s/^\/\/! //p' "$root" | paste -sd ' ') |"
 }
 
+# The edges that rest on fewer than three names, each with these names.
+thin() {
+    python3 - << 'END'
+import os
+import re
+
+with open("crates.txt", encoding="utf-8") as file:
+    edges = dict((it[1], it[2].split()) for line in file if (it := re.match(r"(\w+)[^:#]*:(.*)", line)))
+
+
+def items(text):
+    """The items between braces, of which each may have braces of its own."""
+    return [" ".join(it.split()) for it in re.split(r",(?![^{]*\})", text) if it.strip()]
+
+
+def names(crate):
+    """For each library what the crate's files import from it."""
+    found = {}
+    for part in ("src", "specs", "proofs"):
+        for folder, _, files in os.walk(f"crates/{crate}/{part}"):
+            for name in (it for it in files if it.endswith((".rt", ".antt"))):
+                with open(f"{folder}/{name}", encoding="utf-8") as file:
+                    text = file.read()
+                for it in re.finditer(r"\buse Rattle\.(\w+)\.([^\s;{]*)(?:\{([^}]*)\})?", text):
+                    found.setdefault(it[1], set()).update(it[2] + one for one in items(it[3] or "") or [""])
+                if name.endswith(".rt"):
+                    for it in re.finditer(r"\buse (\w+)::(?:\{([^;]*)\}|([^;]*));", text):
+                        found.setdefault(it[1], set()).update("::" + one for one in items(it[2] or it[3]))
+                    for it in re.finditer(r"(?<!use )(?<!::)\b(\w+)::(\w+)", text):
+                        found.setdefault(it[1], set()).add("::" + it[2])
+    return found
+
+
+few = [(crate, library, told) for crate, libraries in edges.items() for had in [names(crate)] for library in libraries
+       if library in edges and len(told := had.get(library, set())) < 3]
+for crate, library, told in few:
+    print(f"crates.txt: {crate} names {library} for {', '.join(sorted(told))}")
+print(f"crates.sh: {len(few)} of {sum(it in edges for its in edges.values() for it in its)} edges rest on fewer than three names")
+END
+}
+
 status=0
 rows=()
 while read -r name libraries; do
@@ -37,4 +80,6 @@ while read -r name libraries; do
     done
 done < crates.txt
 diff --label docs/ARCHITECTURE.md --label "the crates" <(grep '^| \[`' docs/ARCHITECTURE.md) <(printf '%s\n' "${rows[@]}") || status=1
+
+thin
 exit "$status"

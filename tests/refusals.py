@@ -2,8 +2,8 @@
 """refusals.py: compares the numbers and names of the refusals, wherever they stand, with one list, and then sees that a wrong number is noticed in
 each place.
 
-The list is what the definitions and the program have: specs/ of lock_command (the lock table), of slot_log (an operation of a host) and of
-dlm_images (an image), which the code is proved to follow, and the texts of the program's own faults in dlm_tasks. The status is 1 where a refusal
+The list is what the definitions and the program have: specs/ of lock_command (the lock table), of attempt (an operation of a host) and of
+folders (an image), which the code is proved to follow, and the texts of the program's own faults in dlm_tasks. The status is 1 where a refusal
 is missing, doubled, or has another number or name."""
 
 import os
@@ -14,8 +14,8 @@ from collections import Counter
 TOP = os.path.dirname(os.path.dirname(os.path.realpath(__file__)))
 SPECS = {
     "table": "crates/lock_command/specs/Refusals.antt",
-    "operation": "crates/slot_log/specs/Refusals.antt",
-    "image": "crates/dlm_images/specs/ImageFaults.antt",
+    "operation": "crates/attempt/specs/Refusals.antt",
+    "image": "crates/folders/specs/ImageFaults.antt",
 }
 PROGRAM = "crates/dlm_tasks/src/fault.rt"
 THREADS = "crates/dlm/specs/RaceText.antt"

@@ -17,7 +17,7 @@
 #include <sys/stat.h>
 #include <unistd.h>
 
-/* ---- a new folder: as format_folder and lay_out of crates/dlm_images ---- */
+/* ---- a new folder: as format_folder and lay_out of crates/folders ---- */
 
 /* Whether something is at this path that is not to be written over: all but a block device that is not formatted. */
 static int look_at_place(const char *path, uint64_t size, bool *taken) {

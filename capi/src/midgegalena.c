@@ -494,7 +494,7 @@ static bool find_image(struct mg_host *host, const char *folder, unsigned disk, 
     return true;
 }
 
-/* Locks the host's number, as lock_host of crates/dlm_images does: by the same file, and the same kind of lock. */
+/* Locks the host's number, as lock_host of crates/folders does: by the same file, and the same kind of lock. */
 static int lock_number(const char *folder, unsigned number, int *lock) {
     int done;
     char *path = path_of(folder, "host", (int)number, ".lock");

@@ -6,9 +6,9 @@ use Rattle.torn_block.specs.Layout.{cluster_version}
 use Rattle.torn_block.specs.declared.block.TheConstants.{OPEN_GATE}
 use Rattle.paxos_block.specs.declared.header.Header.{Header}
 use Rattle.paxos_block.specs.Places.{image_length}
-use Rattle.migration.specs.Image.{Setup}
+use Rattle.paxos_block.specs.Image.{Setup}
 use Rattle.migration.specs.declared.end.End.TheVariants.{Migrated}
-use Rattle.dlm_images.specs.Layout.{WritesZeros, none as no_zeros, more as more_zeros, IsLaidOut, closed_header}
+use Rattle.folders.specs.Layout.{WritesZeros, none as no_zeros, more as more_zeros, IsLaidOut, closed_header}
 use Rattle.dlm_images.specs.Operations.{Made, Gave, GaveOne}
 use Rattle.folder_migration.specs.Gates.{IsCleared}
 use Rattle.folder_migration.specs.Moving.{Makes, none, more, HasMoved}

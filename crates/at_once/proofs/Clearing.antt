@@ -13,7 +13,7 @@ use Rattle.paxos_block.specs.declared.header.Header.{Header}
 use Rattle.paxos_block.specs.Headers.{header_saying}
 use Rattle.paxos_block.specs.Places.{image_length}
 use Rattle.migration.proofs.Lengths.{length-header}
-use Rattle.dlm_images.specs.Layout.{WritesZeros, none, more, IsLaidOut, closed_header}
+use Rattle.folders.specs.Layout.{WritesZeros, none, more, IsLaidOut, closed_header}
 use Rattle.folder_migration.specs.Gates.{IsCleared}
 use Rattle.at_once.specs.Beginnings.{IsFresh, ClearedIsFresh, LaidOutIsBlank, LaidOutSaysHeader, SaysHeader}
 use Rattle.at_once.specs.Disks.{MakesSteps}

@@ -2,7 +2,7 @@
 use Rattle.std.specs.Prelude.{IsTrue}
 use Rattle.std.proofs.Common.{ℕ, ◌≡◌, List, [], ◌∷◌, ◌++◌, refl, sym, subst, ap, ◌∙◌}
 use Rattle.disk.specs.Disk.{Call, Answer}
-use Rattle.slot_log.specs.Shape.{Shape}
+use Rattle.paxos_block.specs.Shape.{Shape}
 use Rattle.host.specs.Host.{Operation, Submitting, Recovering, Memory, Host, Stopped, Running, fresh, is_stopped, goes_on, looks_on, starts_marking}
 use Rattle.host.specs.Host as hosts
 use Rattle.host.specs.declared.task.Task.{Task}

@@ -10,7 +10,7 @@ use Rattle.disk.proofs.StepLemmas.{shape_fresh}
 use Rattle.torn_block.specs.Layout.{cluster_version}
 use Rattle.paxos_block.specs.Places.{IsImage, image_length}
 use Rattle.lock_command.specs.declared.command.Command.{Command}
-use Rattle.slot_log.specs.Shape.{Shape}
+use Rattle.paxos_block.specs.Shape.{Shape}
 use Rattle.host.specs.Host.{Host, Stopped}
 use Rattle.world.specs.Entry.{Filled, Start, Stop, Begin, Called, Torn, Crashed, Lost, Migrated, is_on, is_of, on_disk, of_host, torn_by, called_by, crashed_to, disk_step, host_step, host_after}
 use Rattle.world.specs.World.{World, Tears, opening_disk, world, MayFollow, CanMigrate, IsRunFrom, IsRun}

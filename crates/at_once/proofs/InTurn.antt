@@ -9,8 +9,8 @@ use Rattle.disk.specs.Disk.{DiskState}
 use Rattle.disk.specs.Simulated.{SimState, fresh_disk}
 use Rattle.torn_block.specs.Layout.{cluster_version}
 use Rattle.paxos_block.specs.Places.{image_length}
-use Rattle.slot_log.specs.Shape.{Shape}
-use Rattle.slot_log.specs.declared.outcome.Refusal.{Refusal}
+use Rattle.paxos_block.specs.Shape.{Shape}
+use Rattle.attempt.specs.declared.refusal.Refusal.{Refusal}
 use Rattle.host.specs.Host.{Operation, Submitting, Stopped}
 use Rattle.lock_command.specs.declared.command.Command.{Command}
 use Rattle.world.specs.Entry.{Filled, Start, Begin, Called, is_of, is_on, on_disk, of_host}

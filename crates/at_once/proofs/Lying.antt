@@ -16,11 +16,11 @@ use Rattle.attempt.specs.NextCall.{call_by, with_disk}
 use Rattle.attempt.specs.Setup.{Setup}
 use Rattle.attempt.proofs.Votes.{fills}
 use Rattle.attempt.proofs.Replies.{next_is}
-use Rattle.beats.specs.Answers as beat_answers
-use Rattle.beats.specs.Status as beat
-use Rattle.marks.specs.Status as mark
-use Rattle.looks.specs.Status as look
-use Rattle.slot_log.specs.Shape.{Shape}
+use Rattle.rounds.specs.Beat.Answers as beat_answers
+use Rattle.rounds.specs.Beat.Status as beat
+use Rattle.rounds.specs.Marking.Status as mark
+use Rattle.rounds.specs.Look.Status as look
+use Rattle.paxos_block.specs.Shape.{Shape}
 use Rattle.host.specs.Host.{Doing, Attempts, Looks, Beats, Marks, next_of, setup_of, marking_of, look_of, beat_of}
 use Rattle.world.specs.Entry.{Filled, called_by}
 use Rattle.world.specs.World.{World, world, IsRun}

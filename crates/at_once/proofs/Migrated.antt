@@ -12,7 +12,7 @@ use Rattle.paxos_block.specs.Places.{row_place, image_length}
 use Rattle.paxos_block.specs.Saying.{zeros}
 use Rattle.paxos_block.proofs.SayingLemmas.{zeros_joined, length-zeros}
 use Rattle.migration.specs.Fits.{Fits}
-use Rattle.migration.specs.Image.{Setup, header_of, rows_for, image_of}
+use Rattle.paxos_block.specs.Image.{Setup, header_of, rows_for, image_of}
 use Rattle.migration.specs.Run.{IsMigrated}
 use Rattle.migration.proofs.Lengths.{length-header}
 use Rattle.migration.proofs.Reading.{length-image, length-rows}

@@ -16,7 +16,7 @@ use Rattle.paxos_block.specs.Places.{image_length}
 use Rattle.migration.specs.Events.{Step as StepEvent, answered_by, stepped, after_any, happens, happen, run}
 use Rattle.migration.specs.Fits.{Fits}
 use Rattle.migration.specs.Heard.{Progress, at_first, answered, heard, hears, next, next_in}
-use Rattle.migration.specs.Image.{Setup}
+use Rattle.paxos_block.specs.Image.{Setup}
 use Rattle.migration.specs.Plan.{Kind, Attaching, Putting, Syncing, Opening, Due, on, fills, filling, opening, each, schedule, call_of}
 use Rattle.migration.specs.Run.{Migration, Called, with_disk, after, begun, IsAllOrNothing, IsMigrated}
 use Rattle.migration.specs.declared.end.End.TheVariants.{Migrated}

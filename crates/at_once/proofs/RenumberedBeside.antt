@@ -17,11 +17,11 @@ use Rattle.attempt.specs.Answers as attempt_answers
 use Rattle.attempt.specs.Answers.{row_in, seen_block}
 use Rattle.attempt.specs.Numbers.{count, first_below}
 use Rattle.attempt.specs.NextCall.{with_disk}
-use Rattle.beats.specs.Answers as beat_answers
-use Rattle.beats.specs.Answers.{area_in, reading_of, own_block_in}
-use Rattle.beats.specs.Status as beat
-use Rattle.marks.specs.Status as mark
-use Rattle.looks.specs.Status as look
+use Rattle.rounds.specs.Beat.Answers as beat_answers
+use Rattle.rounds.specs.Beat.Answers.{area_in, reading_of, own_block_in}
+use Rattle.rounds.specs.Beat.Status as beat
+use Rattle.rounds.specs.Marking.Status as mark
+use Rattle.rounds.specs.Look.Status as look
 use Rattle.at_once.specs.Power.{call_later}
 use Rattle.at_once.proofs.Renumbering.{each_later, good_later, told_at, boot_later, length_later, call_of_later, kind_later, due_later, with_disk_later}
 

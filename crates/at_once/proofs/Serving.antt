@@ -8,7 +8,7 @@ use Rattle.disk.specs.Disk.{DiskState, Call, Attach, Read, Write, Sync, Answer, 
 use Rattle.disk.specs.Filling.{spread}
 use Rattle.disk.specs.Simulated.{SimState, refusal_under, refusal_of, failed_by, outcome_by}
 use Rattle.disk.proofs.FillingLemmas.{length-spread}
-use Rattle.slot_log.specs.Shape.{Shape}
+use Rattle.paxos_block.specs.Shape.{Shape}
 use Rattle.world.specs.Entry.{Filled, Called, on_disk}
 use Rattle.dlm_images.specs.Operations.{Made, Gave}
 use Rattle.at_once.specs.AtOnce.{Serves}

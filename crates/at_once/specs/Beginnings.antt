@@ -11,12 +11,12 @@ use Rattle.paxos_block.specs.Headers.{header_saying}
 use Rattle.paxos_block.specs.Places.{image_length}
 use Rattle.migration.specs.Fits.{Fits}
 use Rattle.migration.specs.Heard.{at_first, heard, next}
-use Rattle.migration.specs.Image.{Setup}
+use Rattle.paxos_block.specs.Image.{Setup}
 use Rattle.migration.specs.Run.{IsAllOrNothing, IsMigrated}
 use Rattle.migration.specs.declared.end.End.TheVariants.{Migrated}
 use Rattle.lock_command.specs.declared.command.Command.{Command}
 use Rattle.lock_command.specs.Command.{spelling}
-use Rattle.dlm_images.specs.Layout.{WritesZeros, none as no_zeros, more as more_zeros, IsLaidOut, closed_header}
+use Rattle.folders.specs.Layout.{WritesZeros, none as no_zeros, more as more_zeros, IsLaidOut, closed_header}
 use Rattle.dlm_images.specs.Operations.{Made, Gave, GaveOne}
 use Rattle.folder_migration.specs.Gates.{IsCleared}
 use Rattle.folder_migration.specs.Moving.{Makes, none, more, HasMoved}

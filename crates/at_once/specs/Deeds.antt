@@ -2,7 +2,7 @@
 use Rattle.std.specs.Prelude.{◌≡◌, ◌<◌, ℕ, true, List, [], ◌∷◌, ◌++◌, map, IsTrue}
 use Rattle.disk.specs.Disk.{Call, Answer}
 use Rattle.torn_block.specs.declared.layout.TheConstants.{HOSTS}
-use Rattle.slot_log.specs.Shape.{Shape}
+use Rattle.paxos_block.specs.Shape.{Shape}
 use Rattle.host.specs.Host.{Operation, Submitting, Recovering, Memory, Stopped, Running, fresh, is_idle, is_stopped}
 use Rattle.host.specs.Kept.{Kept, LeadsTo}
 use Rattle.host.specs.declared.task.Task.{Task}

@@ -2,7 +2,7 @@
 use Rattle.std.specs.Prelude.{◌≡◌, ◌==◌, ℕ, List, [], ◌∷◌, ◌++◌, filter, slice_get, Some}
 use Rattle.disk.specs.Disk.{DiskState, Call, Answer, Step}
 use Rattle.disk.specs.Simulated.{SimState, outcome}
-use Rattle.slot_log.specs.Shape.{Shape}
+use Rattle.paxos_block.specs.Shape.{Shape}
 use Rattle.world.specs.Entry.{Filled, on_disk}
 use Rattle.dlm_images.specs.Operations.{Made, Gave}
 use Rattle.at_once.specs.AtOnce.{Serves}

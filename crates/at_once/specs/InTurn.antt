@@ -5,8 +5,8 @@ use Rattle.disk.specs.Simulated.{SimState, outcome}
 use Rattle.torn_block.specs.declared.layout.TheConstants.{HOSTS}
 use Rattle.lock_command.specs.declared.command.Command.{Command}
 use Rattle.lock_command.specs.declared.reply.Reply.{Reply}
-use Rattle.slot_log.specs.Shape.{Shape}
-use Rattle.slot_log.specs.declared.outcome.Refusal.{Refusal}
+use Rattle.paxos_block.specs.Shape.{Shape}
+use Rattle.attempt.specs.declared.refusal.Refusal.{Refusal}
 use Rattle.host.specs.Host.{Operation, Submitting, fresh}
 use Rattle.host.specs.Kept.{Kept, LeadsTo}
 use Rattle.world.specs.World.{MayBeGiven}

@@ -3,7 +3,7 @@
 use Rattle.std.specs.Prelude.{if◌then◌else◌, ◌≡◌, ◌+◌, ◌<◌, ◌^◌, ◌==◌, ℕ, zero, suc, false, List, [], ◌∷◌, length, replicate, take, slice_get, Some}
 use Rattle.disk.specs.Disk.{DiskState, Call, Attach, Read, Write, Sync, Answer, Booted, KeepsSynced}
 use Rattle.lock_command.specs.declared.command.Command.{Command}
-use Rattle.slot_log.specs.Shape.{Shape}
+use Rattle.paxos_block.specs.Shape.{Shape}
 use Rattle.host.specs.Host.{Stopped}
 use Rattle.world.specs.Entry.{Filled, Called, Torn, Crashed, Migrated, on_disk, of_host, host_after}
 use Rattle.world.specs.World.{world}

@@ -19,3 +19,4 @@ pub mod Preparing
 pub mod Possible
 pub mod Calls
 pub mod Votes
+pub mod ReadRows

@@ -1,6 +1,7 @@
 pub mod Answers
 pub mod Calls
 pub mod Chosen
+pub mod DeviceCalls
 pub mod Heard
 pub mod History
 pub mod Laws
@@ -9,8 +10,11 @@ pub mod NextCall
 pub mod Numbers
 pub mod Prepared
 pub mod Proposal
+pub mod ReadRows
+pub mod Refusals
 pub mod Setup
 pub mod Standing
 pub mod Status
 pub mod Visits
 pub mod Votes
+pub mod WriteCalls

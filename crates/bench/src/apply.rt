@@ -1,9 +1,8 @@
 use crate::bench_failure::BenchFailure;
 use crate::benchmark::Benchmark;
 use lock_command::{
-    Action, ClientNumber, Command, HostNumber, LockName, LockNumber, RequestNumber, decode,
+    Action, ClientNumber, Command, HostNumber, LockName, LockNumber, Mode, RequestNumber, decode,
 };
-use lock_modes::Mode;
 use lock_table::{Answer, Table};
 use std::alloc::Global;
 

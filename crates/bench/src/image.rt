@@ -3,12 +3,12 @@ ghost use Rattle.torn_block.specs.Layout.{cluster_version};
 ghost use Rattle.torn_block.specs.declared.layout.TheConstants.{SLOTS};
 ghost use Rattle.paxos_block.specs.Places;
 ghost use Rattle.attempt.specs.History.{Fits};
-ghost use Rattle.phases.specs.Calls.{IsWithin, device_call_of, heard_of};
+ghost use Rattle.attempt.specs.DeviceCalls.{IsWithin, device_call_of, heard_of};
 
 use crate::bench_failure::BenchFailure;
+use attempt::{DeviceCall, Heard, answer_of};
 use disk::{Disk, DiskFault, SimDisk};
 use paxos_block::{image_length, row_place};
-use phases::{DeviceCall, Heard, answer_of};
 use std::alloc::Global;
 use torn_block::{ClusterLayout, ROW_LENGTH, SLOTS};
 

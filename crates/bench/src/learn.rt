@@ -5,8 +5,8 @@ ghost use Rattle.slot_log.specs.Kept.{is_idle, offered_of};
 use crate::bench_failure::BenchFailure;
 use crate::benchmark::Benchmark;
 use crate::image::Image;
-use paxos_block::Value;
-use slot_log::{Config, Learner, LogOutcome};
+use paxos_block::{Config, Value};
+use slot_log::{Learner, LogOutcome};
 use std::alloc::Global;
 use torn_block::{ClusterLayout, ROW_LENGTH, SLOTS, VALUE_LENGTH};
 

@@ -1,8 +1,7 @@
 use crate::bench_failure::BenchFailure;
 use lock_command::{
-    Action, ClientNumber, Command, HostNumber, LockName, LockNumber, RequestNumber,
+    Action, ClientNumber, Command, HostNumber, LockName, LockNumber, Mode, RequestNumber,
 };
-use lock_modes::Mode;
 use lock_table::{Answer, Table};
 use std::alloc::{AllocGlobal, Global};
 use std::time::{Clock, Instant};

@@ -2,9 +2,8 @@ use crate::bench_failure::BenchFailure;
 use crate::benchmark::Benchmark;
 use inspect::{Blocking, blocking};
 use lock_command::{
-    Action, ClientNumber, Command, HostNumber, LockName, LockNumber, RequestNumber,
+    Action, ClientNumber, Command, HostNumber, LockName, LockNumber, Mode, RequestNumber,
 };
-use lock_modes::Mode;
 use lock_table::{Answer, Picture, Table};
 use std::alloc::Global;
 

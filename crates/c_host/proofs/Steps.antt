@@ -1,7 +1,7 @@
 -- Calls that were heard one after another, as those of a task.
 use Rattle.std.proofs.Common.{ℕ, List, [], ◌∷◌, sym, subst}
 use Rattle.disk.specs.Disk.{Call, Answer}
-use Rattle.slot_log.specs.Shape.{Shape}
+use Rattle.paxos_block.specs.Shape.{Shape}
 use Rattle.host.specs.Host.{Memory}
 use Rattle.host.specs.Kept.{Kept, LeadsTo}
 use Rattle.dlm_images.specs.Operations.{Made, AreDue, after_call, after_made}

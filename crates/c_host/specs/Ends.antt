@@ -4,8 +4,8 @@ use Rattle.disk.specs.Disk as disk
 use Rattle.lock_command.specs.declared.command.Command.{Command}
 use Rattle.lock_command.specs.Command.{Fits}
 use Rattle.lock_command.specs.declared.reply.Reply.{Reply}
-use Rattle.slot_log.specs.Shape.{Shape}
-use Rattle.slot_log.specs.declared.outcome.Refusal.{Refusal}
+use Rattle.paxos_block.specs.Shape.{Shape}
+use Rattle.attempt.specs.declared.refusal.Refusal.{Refusal}
 use Rattle.host.specs.Host.{Operation, Submitting, Recovering, fresh}
 use Rattle.host.specs.Kept.{Kept, LeadsTo, is_idle}
 use Rattle.dlm_images.specs.Operations.{IsKnown, Standing, HasOperated, HasMarked, HasLooked, IsAcknowledged}

@@ -6,14 +6,14 @@ use Rattle.disk.specs.declared.fault.ImageFault.{ImageFault}
 use Rattle.disk.specs.declared.fault.ImageFault.TheVariants.{NotFormatted, WrongHeader, Unreadable, OldLayout}
 use Rattle.paxos_block.specs.declared.header.Header.{Header}
 use Rattle.paxos_block.specs.Headers.{IsFormatted, IsRight}
-use Rattle.slot_log.specs.Shape.{Shape}
+use Rattle.paxos_block.specs.Shape.{Shape}
 use Rattle.host.specs.Host.{fresh}
 use Rattle.host.specs.Kept.{LeadsTo}
 use Rattle.lock_command.specs.declared.number.TheConstants.{HOSTS}
-use Rattle.dlm_images.specs.declared.set.SetFault.{SetFault}
-use Rattle.dlm_images.specs.Headers.{IsOld, HasWrongHeader, told_length}
-use Rattle.dlm_images.specs.Sets.{Found, HasNumbers}
-use Rattle.dlm_images.specs.SetFaults.{HasSetFault}
+use Rattle.folders.specs.declared.set.SetFault.{SetFault}
+use Rattle.folders.specs.Headers.{IsOld, HasWrongHeader, told_length}
+use Rattle.folders.specs.Sets.{Found, HasNumbers}
+use Rattle.folders.specs.SetFaults.{HasSetFault}
 use Rattle.c_host.specs.declared.fault.Fault.{Fault}
 use Rattle.c_host.specs.declared.fault.Fault.TheVariants as cause
 use Rattle.c_host.specs.declared.images.Image.{Image}

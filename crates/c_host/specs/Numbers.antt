@@ -1,7 +1,7 @@
 -- The numbers that C is told: those of the printed text, where it has one.
 use Rattle.std.specs.Prelude.{ℕ, ℤ, pos, negsuc, if◌then◌else◌}
-use Rattle.lock_modes.specs.declared.mode.Mode.{Mode}
-use Rattle.lock_modes.specs.declared.mode.Mode.TheVariants.{Null, ConcurrentRead, ConcurrentWrite, ProtectedRead, ProtectedWrite, Exclusive}
+use Rattle.lock_command.specs.declared.mode.Mode.{Mode}
+use Rattle.lock_command.specs.declared.mode.Mode.TheVariants.{Null, ConcurrentRead, ConcurrentWrite, ProtectedRead, ProtectedWrite, Exclusive}
 use Rattle.lock_command.specs.declared.state.LockState.{LockState}
 use Rattle.lock_command.specs.declared.state.LockState.TheVariants.{Granted as Holding, Converting, Waiting}
 use Rattle.lock_command.specs.declared.reply.Answer as table
@@ -11,10 +11,10 @@ use Rattle.lock_command.specs.declared.reply.Answer.TheVariants.{Granted, Queued
 use Rattle.lock_command.specs.declared.reply.Refusal as refused
 use Rattle.lock_command.specs.declared.reply.Refusal.TheVariants.{NoSuchLock}
 use Rattle.lock_command.specs.Refusals as of_table
-use Rattle.slot_log.specs.declared.outcome.Refusal as operation
-use Rattle.slot_log.specs.Refusals as of_operation
+use Rattle.attempt.specs.declared.refusal.Refusal as operation
+use Rattle.attempt.specs.Refusals as of_operation
 use Rattle.disk.specs.declared.fault.ImageFault.{ImageFault}
-use Rattle.dlm_images.specs.ImageFaults.{image_fault_number}
+use Rattle.folders.specs.ImageFaults.{image_fault_number}
 use Rattle.c_host.specs.declared.answer.Answer.{Answer}
 use Rattle.c_host.specs.declared.fault.Fault.{Fault}
 use Rattle.c_host.specs.declared.fault.Fault.TheVariants as fault

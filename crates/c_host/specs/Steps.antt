@@ -1,7 +1,7 @@
 -- What a call does with the host, and what C is told of that.
 use Rattle.std.specs.Prelude.{◌≡◌, ◌≤◌, ◌<◌, ◌^◌, ◌⊎◌, ℕ, ℤ, true, false, List, [], ◌∷◌, Some, None}
 use Rattle.disk.specs.Disk.{Call, Answer, Attach, Booted}
-use Rattle.slot_log.specs.Shape.{Shape}
+use Rattle.paxos_block.specs.Shape.{Shape}
 use Rattle.lock_command.specs.declared.command.Command.{Command}
 use Rattle.lock_command.specs.Command.{Fits}
 use Rattle.host.specs.Host.{Memory, starts}

@@ -1,6 +1,6 @@
 -- What C is shown of a host and of its lock table.
 use Rattle.std.specs.Prelude.{◌<◌, ◌-◌, ℕ, List, Some, slice_get, take, drop, replicate, min, ◌++◌, ◌≡◌, length}
-use Rattle.lock_index.specs.declared.record.LockRecord.{LockRecord}
+use Rattle.lock_command.specs.declared.record.LockRecord.{LockRecord}
 use Rattle.lock_table.specs.declared.known_client.KnownClient.{KnownClient}
 use Rattle.lock_command.specs.declared.command.Command.{Command}
 use Rattle.lock_table.specs.Apply.{table_after}

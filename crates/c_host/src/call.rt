@@ -4,12 +4,11 @@ ghost use Rattle.torn_block.specs.Layout.{cluster_version};
 ghost use Rattle.torn_block.specs.declared.layout.TheConstants.{COPY_LENGTH};
 ghost use Rattle.std.specs.Option.{option_map};
 ghost use Rattle.attempt.specs.History.{Fits};
-ghost use Rattle.beats.specs.Calls.{device_answer};
-ghost use Rattle.phases.specs.Calls.{call_of_need, device_call_of, heard_of};
+ghost use Rattle.attempt.specs.DeviceCalls.{device_answer, call_of_need, device_call_of, heard_of};
 ghost use Rattle.c_host.specs.Calls.{TellsDue, IsTooLong, plain_call, no_call, answer_in, success_in};
 
+use attempt::{DeviceCall, Heard, Need};
 use disk::{Boot, DiskFault};
-use phases::{DeviceCall, Heard, Need};
 use torn_block::{COPY_LENGTH, ROW_LENGTH};
 
 /// A device call that is due, as C is told it. A field that the kind of call has no use for is 0.

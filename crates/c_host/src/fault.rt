@@ -2,7 +2,7 @@ ghost use Rattle.std.specs.Prelude.{◌≡◌};
 ghost use Rattle.c_host.specs.declared.fault.Fault.TheVariants.{NoMemory, Images};
 ghost use Rattle.c_host.specs.Numbers.{fault_number, disk_number, operation_number, table_number};
 
-use dlm_images::{SetFault, image_fault_number};
+use folders::{SetFault, image_fault_number};
 use host::Refusal;
 
 /// An argument is none that the call takes.

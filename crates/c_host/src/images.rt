@@ -1,10 +1,10 @@
 ghost use Rattle.std.specs.Prelude.{◌≡◌, length};
 ghost use Rattle.torn_block.specs.declared.layout.TheConstants.{DISKS};
-ghost use Rattle.dlm_images.specs.Sets.{AreHeaders};
+ghost use Rattle.folders.specs.Sets.{AreHeaders};
 ghost use Rattle.c_host.specs.Images.{Finds, AreFound, long_of, used_of, TellsImages};
 
 use disk::ImageFault;
-use dlm_images::{image_header, length_in_header};
+use folders::{image_header, length_in_header};
 use host::Config;
 use paxos_block::Header;
 use torn_block::{ClusterLayout, DISKS, HEADER_LENGTH};

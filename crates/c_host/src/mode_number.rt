@@ -1,8 +1,8 @@
 ghost use Rattle.std.specs.Prelude.{◌≡◌, IfSome, None, pos};
-ghost use Rattle.lock_modes.specs.declared.mode.Mode.{Mode};
+ghost use Rattle.lock_command.specs.declared.mode.Mode.{Mode};
 ghost use Rattle.c_host.specs.Numbers.{mode_number, no_mode, held_number, wanted_number};
 
-use lock_modes::Mode;
+use lock_command::Mode;
 use lock_table::LockState;
 
 /// The number of no mode.

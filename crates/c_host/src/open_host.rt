@@ -2,7 +2,7 @@ ghost use Rattle.std.specs.Prelude.{◌≡◌, ◌≤◌, ◌<◌, ◌^◌, ◌�
 ghost use Rattle.std.specs.Option.{SomeIff};
 ghost use Rattle.disk.specs.Disk.{Attach};
 ghost use Rattle.torn_block.specs.Layout.{cluster_version};
-ghost use Rattle.phases.specs.Calls.{call_of_need};
+ghost use Rattle.attempt.specs.DeviceCalls.{call_of_need};
 ghost use Rattle.host.specs.Kept.{due_call, is_idle};
 ghost use Rattle.c_host.specs.Images.{IsOpened, MayRefuse};
 ghost use Rattle.c_host.specs.Steps.{Submits, Recovers, Looks, Marks, IsAttachDue, HasAttached, TellsCallDue, TellsNext, CallsNext, HasHeardTold, HearsNothing, GoesOn};
@@ -13,10 +13,10 @@ use crate::call::{DueCall, Row, ToldAnswer, Written};
 use crate::fault::{BAD_ARGUMENT, BUSY, Fault, NO_ROOM, NOTHING_DUE};
 use crate::images::{Images, Opened, found_in, told_of};
 use crate::request::{Request, host_of};
+use attempt::{DeviceCall, Heard, Need};
 use disk::Boot;
-use dlm_images::set_of;
+use folders::set_of;
 use host::{Config, HostCore};
-use phases::{DeviceCall, Heard, Need};
 use std::alloc::Global;
 
 /// A host and the numbers of its folder, as C keeps them between calls.

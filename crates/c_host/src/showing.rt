@@ -1,5 +1,5 @@
 ghost use Rattle.std.specs.Prelude.{◌≡◌, ◌⊎◌, ℕ, IfOk, IfErr, MatchOption, length};
-ghost use Rattle.lock_index.specs.declared.record.LockRecord.{LockRecord};
+ghost use Rattle.lock_command.specs.declared.record.LockRecord.{LockRecord};
 ghost use Rattle.lock_table.specs.Apply.{table_after};
 ghost use Rattle.lock_table.specs.Picture.{IsPictureOf};
 ghost use Rattle.c_host.specs.Views.{ShowsHost, ShowsLock, ShowsClient, FindsLock, FindsValue, LacksLock, IsAt, ShowBelow, ShowsLocks, ShowsClients, ShowsText};

@@ -1,7 +1,7 @@
 -- The lowest of the locks that were looked at.
 use Rattle.std.proofs.Common.{◌≡◌, ◌<◌, ◌≤◌, ℕ, List, Option, Some, None}
 use Rattle.std.specs.Prelude.{slice_get}
-use Rattle.lock_index.specs.declared.record.LockRecord.{LockRecord}
+use Rattle.lock_command.specs.declared.record.LockRecord.{LockRecord}
 use Rattle.cleanup.specs.Left.{IsDue}
 use Rattle.cleanup.specs.declared.whose.Kind.{Kind}
 

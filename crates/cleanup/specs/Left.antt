@@ -1,7 +1,7 @@
 -- The locks that sessions of a host have in a table, and what became of one that was to be released.
 use Rattle.std.specs.Prelude.{◌≡◌, ◌≤◌, ◌<◌, ◌+◌, ◌*◌, ◌%◌, ⊤, ◌==◌, ℕ, Bool, false, List, Option, Some, None, slice_get, min, ◌^◌, ◌-◌}
 use Rattle.std.specs.List.{list_any}
-use Rattle.lock_index.specs.declared.record.LockRecord.{LockRecord}
+use Rattle.lock_command.specs.declared.record.LockRecord.{LockRecord}
 use Rattle.lock_table.specs.Picture.{Shown}
 use Rattle.session.specs.Numbers.{client_of}
 use Rattle.session.specs.declared.outcome.Failure.TheVariants.{Broken}

@@ -3,7 +3,7 @@ use Rattle.std.specs.Prelude.{◌≡◌, ◌<◌, ◌≤◌, ◌^◌, ◌⊎◌,
 use Rattle.lock_command.specs.declared.command.Command.{Command}
 use Rattle.lock_command.specs.declared.command.Action.TheVariants.{Purge}
 use Rattle.lock_table.specs.declared.known_client.KnownClient.{KnownClient}
-use Rattle.lock_index.specs.declared.record.LockRecord.{LockRecord}
+use Rattle.lock_command.specs.declared.record.LockRecord.{LockRecord}
 use Rattle.lock_table.specs.Picture.{Shown}
 use Rattle.session.specs.Evidence.{Knows}
 use Rattle.session.specs.Numbers.{client_of}

@@ -1,5 +1,5 @@
 ghost use Rattle.std.specs.Prelude.{◌≡◌, ◌+◌, ◌↔◌, IsTrue, IfSome, None, [], false};
-ghost use Rattle.lock_index.specs.declared.record.LockRecord.{LockRecord};
+ghost use Rattle.lock_command.specs.declared.record.LockRecord.{LockRecord};
 ghost use Rattle.cleanup.specs.Left.{AllPassed, IsFirstFrom};
 ghost use Rattle.cleanup.specs.Purges.{HasLock, HasNoLocks, IsTried, HasNoRequest, PurgesHost};
 ghost use Rattle.cleanup.specs.declared.whose.Kind.{Kind};

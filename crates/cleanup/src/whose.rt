@@ -1,5 +1,5 @@
 ghost use Rattle.std.specs.Prelude.{◌≡◌, ◌↔◌, IfSome, IsTrue, None};
-ghost use Rattle.lock_index.specs.declared.record.LockRecord.{LockRecord};
+ghost use Rattle.lock_command.specs.declared.record.LockRecord.{LockRecord};
 ghost use Rattle.cleanup.specs.Left as left;
 ghost use Rattle.cleanup.specs.Left.{AllPassed, IsFirstFrom, IsBelow, IsDue, IsOfKind, IsOfSessions};
 

@@ -1,7 +1,7 @@
 -- What one entry more makes of a disk, of a host and of its receipts.
 use Rattle.std.proofs.Common.{◌≡◌, ℕ, List, [], ◌∷◌, ◌++◌, refl, ◌∙◌, ap}
 use Rattle.disk.specs.Disk.{DiskState}
-use Rattle.slot_log.specs.Shape.{Shape}
+use Rattle.paxos_block.specs.Shape.{Shape}
 use Rattle.host.specs.Host.{Host, Stopped}
 use Rattle.world.specs.Entry.{Filled, disk_step, disk_after, host_step, host_after}
 use Rattle.world.specs.World.{opening_disk}

@@ -5,14 +5,14 @@ use Rattle.std.proofs.lemmas.Bool.Decides.{nat_tests}
 use Rattle.std.proofs.lemmas.List.{append-nil}
 use Rattle.lock_command.specs.declared.command.Command.{Command}
 use Rattle.torn_block.specs.declared.layout.TheConstants.{HOSTS}
-use Rattle.slot_log.specs.Shape.{Shape}
+use Rattle.paxos_block.specs.Shape.{Shape}
 use Rattle.host.specs.declared.answer.HostAnswer.{HostAnswer}
 use Rattle.host.specs.declared.task.Task.{Task}
 use Rattle.host.specs.declared.task.Task.TheVariants.{Submit, Recover, Look, Beat, Mark}
 use Rattle.host.specs.Host as hosts
 use Rattle.host.specs.Host.{Host, Running, fresh, Operation, Submitting, Recovering, Memory, Doing, Looks, Marks, does, says, goes_on, idles, is_stopped, said_of}
 use Rattle.host.specs.Kept.{Kept, LeadsTo, MayBegin}
-use Rattle.slot_log.specs.declared.outcome.Refusal.TheVariants as refusal
+use Rattle.attempt.specs.declared.refusal.Refusal.TheVariants as refusal
 use Rattle.host.specs.declared.answer.HostAnswer.TheVariants.{Looked, Refused}
 use Rattle.host.proofs.Hosts.{learned-goes_on}
 use Rattle.world.specs.Entry.{Filled, Start, Stop, Begin, host_step, is_of}

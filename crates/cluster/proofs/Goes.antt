@@ -1,7 +1,7 @@
 -- Steps one after the other.
 use Rattle.std.proofs.Common.{◌≡◌, List, [], ◌∷◌, ◌++◌, sym, ap, subst, ◌∙◌, append_assoc}
 use Rattle.std.proofs.lemmas.List.{append-nil}
-use Rattle.slot_log.specs.Shape.{Shape}
+use Rattle.paxos_block.specs.Shape.{Shape}
 use Rattle.world.specs.Entry.{Filled, Called}
 use Rattle.cluster_tie.specs.Parts.{Placed, Own, own_of, adds}
 use Rattle.cluster.specs.Cluster.{IsStep, AreSteps, GoesOn}

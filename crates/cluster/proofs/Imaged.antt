@@ -6,7 +6,7 @@ use Rattle.disk.specs.Steps.{WritesOn}
 use Rattle.disk.proofs.CutLemmas.{cut_steps, first_stay, first_of_fresh}
 use Rattle.torn_block.specs.Layout.{cluster_version}
 use Rattle.paxos_block.specs.Places.{image_length}
-use Rattle.slot_log.specs.Shape.{Shape}
+use Rattle.paxos_block.specs.Shape.{Shape}
 use Rattle.world.specs.World.{opening_disk}
 use Rattle.std.proofs.lemmas.List.{length-take-le}
 use Rattle.cluster_tie.specs.Parts.{Own}

@@ -3,7 +3,7 @@ use Rattle.std.proofs.Common.{◌≡◌, ◌≤◌, ℕ, false, List, ◌++◌, 
 use Rattle.std.specs.Prelude.{is_none}
 use Rattle.disk.specs.Disk.{Call, Answer}
 use Rattle.lock_command.specs.declared.command.Command.{Command}
-use Rattle.slot_log.specs.Shape.{Shape}
+use Rattle.paxos_block.specs.Shape.{Shape}
 use Rattle.host.specs.Host.{Host, Running, Memory, Doing, hears_from, is_idle, next_doing, next_in, next_of}
 use Rattle.host.specs.Kept.{Kept, LeadsTo}
 use Rattle.world.specs.Entry.{Called, host_step}

@@ -6,7 +6,7 @@ use Rattle.disk.specs.Cut.{cut}
 use Rattle.disk.specs.Steps.{WritesOn}
 use Rattle.torn_block.specs.Layout.{cluster_version}
 use Rattle.paxos_block.specs.Places.{image_length}
-use Rattle.slot_log.specs.Shape.{Shape}
+use Rattle.paxos_block.specs.Shape.{Shape}
 use Rattle.world.specs.Entry.{disk_after}
 use Rattle.world.specs.World.{opening_disk}
 use Rattle.cluster_tie.specs.Parts.{Own, entries}

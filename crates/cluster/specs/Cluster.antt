@@ -1,7 +1,7 @@
 -- What a step of a host adds to its own list.
 use Rattle.std.specs.Prelude.{◌≡◌, ℕ, List, [], ◌∷◌, ◌++◌, Some}
 use Rattle.disk.specs.Disk.{Answer}
-use Rattle.slot_log.specs.Shape.{Shape}
+use Rattle.paxos_block.specs.Shape.{Shape}
 use Rattle.host.specs.declared.answer.HostAnswer.TheVariants as said
 use Rattle.host.specs.Host.{said_of}
 use Rattle.world.specs.Entry.{Called}

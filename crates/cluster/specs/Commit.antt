@@ -1,7 +1,7 @@
 -- The entry that a step appends.
 use Rattle.std.specs.Prelude.{◌+◌, ℕ, List, [], length, slice_range}
 use Rattle.disk.specs.Disk.{DiskState, Call, Attach, Read, Write, Sync}
-use Rattle.slot_log.specs.Shape.{Shape}
+use Rattle.paxos_block.specs.Shape.{Shape}
 use Rattle.world.specs.Entry.{Filled, Called}
 use Rattle.cluster_tie.specs.Parts.{Own}
 use Rattle.cluster.specs.Seat.{due_in}

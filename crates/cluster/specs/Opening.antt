@@ -1,7 +1,7 @@
 -- A cluster before it has a name.
 use Rattle.std.specs.Prelude.{◌≡◌, ℕ}
 use Rattle.atomic_table.specs.Seated.{TableId}
-use Rattle.slot_log.specs.Shape.{Shape}
+use Rattle.paxos_block.specs.Shape.{Shape}
 
 -- how large it is, its table of tokens, and its ledger of promises: the ledger's name, and how many parts it has
 pub record OpeningState : Type 0 where

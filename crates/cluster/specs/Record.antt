@@ -1,7 +1,7 @@
 -- What is left of a cluster.
 use Rattle.std.specs.Prelude.{◌≡◌, ◌≢◌, ◌<◌, ℕ, List, [], Any, length, take, slice_get, slice_index_or, Some}
 use Rattle.lock_command.specs.declared.command.Command.{Command}
-use Rattle.slot_log.specs.Shape.{Shape}
+use Rattle.paxos_block.specs.Shape.{Shape}
 use Rattle.host.specs.Host.{learned_of, reply_after}
 use Rattle.world.specs.Entry.{Filled}
 use Rattle.world.specs.World.{world, IsFreshRun}

@@ -11,9 +11,9 @@ ghost use Rattle.cluster.specs.Seat.{host_in, due_in};
 use crate::cluster_name::ClusterName;
 use crate::seat::HostSeat;
 use crate::touched::{CallOutcome, Touched};
+use attempt::DeviceCall;
 use cluster_tie::DiskTie;
 use disk::{Disk, SimDisk};
-use phases::DeviceCall;
 use std::marker::Model;
 use torn_block::ROW_LENGTH;
 
@@ -116,7 +116,7 @@ impl<N: ClusterName> DiskBook<N, SimDisk> {
     }
 }
 
-// Makes the host's next device call on a disk. Not by `phases::answer_of`: its contract says neither which step the disk's bytes
+// Makes the host's next device call on a disk. Not by `attempt::answer_of`: its contract says neither which step the disk's bytes
 // take, nor what is in the row after the answer is dropped.
 fn make<N: ClusterName, D: Disk>(
     disk: &mut D,

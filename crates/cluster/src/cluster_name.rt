@@ -5,7 +5,7 @@ use std::sync::ledger::Ledger;
 /// Names one cluster: its table of tokens, the ledger of its promises, and how large it is.
 pub trait ClusterName: Naming + Ledger {
     ghost use Rattle.std.specs.Prelude.{ℕ};
-    ghost use Rattle.slot_log.specs.Shape.{Shape};
+    ghost use Rattle.paxos_block.specs.Shape.{Shape};
 
     ghost shape: { Shape };
 

@@ -1,7 +1,7 @@
 ghost use Rattle.std.specs.Prelude.{◌≡◌, ◌-◌, ◌++◌, ◌∷◌, [], Some, None, length};
 ghost use Rattle.world.specs.Plain.{kind_of};
 ghost use Rattle.torn_block.specs.Layout.{cluster_version};
-ghost use Rattle.phases.specs.Calls.{device_call_of};
+ghost use Rattle.attempt.specs.DeviceCalls.{device_call_of};
 ghost use Rattle.cluster_tie.specs.Parts.{adds};
 ghost use Rattle.cluster.specs.Book.{answer_in, disk_in, Makes};
 ghost use Rattle.cluster.specs.Commit.{called_by};
@@ -11,9 +11,9 @@ use crate::cluster_name::ClusterName;
 use crate::journal::{Journal, Promise};
 use crate::seat::{HostSeat, hear};
 use crate::touched::Touched;
+use attempt::DeviceCall;
 use cluster_tie::TiedEntry;
 use disk::Disk;
-use phases::DeviceCall;
 use std::marker::Brand;
 use world::{CallKind, Entry};
 

@@ -1,4 +1,4 @@
-use slot_log::Refusal;
+use attempt::Refusal;
 use thiserror::Error;
 
 /// Why a call on a cluster was refused.

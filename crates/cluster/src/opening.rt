@@ -7,7 +7,7 @@ ghost use Rattle.cluster.specs.declared.journal.TheConstants.{MOST};
 use crate::cluster_name::ClusterName;
 use cluster_tie::{Opened, Ties, Tokens};
 use disk::NoMemory;
-use slot_log::Config;
+use paxos_block::Config;
 use std::alloc::Global;
 use std::marker::Model;
 use std::sync::ledger::Blank;

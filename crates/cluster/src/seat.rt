@@ -2,24 +2,23 @@ ghost use Rattle.std.specs.Prelude.{◌≡◌, ◌<◌, ◌++◌, ℕ, true, fal
 ghost use Rattle.attempt.specs.History.{Fits};
 ghost use Rattle.lock_table.specs.Apply.{table_after};
 ghost use Rattle.lock_table.specs.Picture.{IsPictureOf};
-ghost use Rattle.beats.specs.Calls.{device_answer};
+ghost use Rattle.attempt.specs.DeviceCalls.{device_answer, call_of_need, heard_of, IsWithin};
 ghost use Rattle.torn_block.specs.Layout.{cluster_version};
 ghost use Rattle.paxos_block.specs.Places.{image_length};
-ghost use Rattle.phases.specs.Calls.{call_of_need, heard_of, IsWithin};
 ghost use Rattle.host.specs.Host.{Memory, idles, said_of, learned_of, next_of, hears_from};
 ghost use Rattle.host.specs.Kept.{LeadsTo, is_idle, is_nothing, due_call};
-ghost use Rattle.slot_log.specs.Shape.{Shape};
+ghost use Rattle.paxos_block.specs.Shape.{Shape};
 ghost use Rattle.cluster.specs.Operations.{CarriesOne};
 ghost use Rattle.cluster.specs.Receipts.{receipts_of, receipts_said};
 ghost use Rattle.cluster.specs.Seat.{host_in, due_in};
 
 use crate::cluster_name::ClusterName;
 use crate::receipt::Receipt;
+use attempt::{Heard, Need};
 use cluster_tie::HostTie;
 use host::{HostAnswer, HostCore};
 use lock_command::{Command, HostNumber, ValueBytes};
 use lock_table::Table;
-use phases::{Heard, Need};
 use std::marker::Model;
 
 /// A running host. Contracts see it as its number and its own list of entries, each with its place in the journal.

@@ -2,14 +2,13 @@ ghost use Rattle.std.specs.Prelude.{◌≡◌, ℕ, List, OnOk, IfErr};
 ghost use Rattle.disk.specs.Disk.{DiskState, Call, Step};
 ghost use Rattle.attempt.specs.Answers.{heard_as};
 ghost use Rattle.attempt.specs.History.{Fits};
-ghost use Rattle.beats.specs.Calls.{device_answer};
+ghost use Rattle.attempt.specs.DeviceCalls.{device_answer, heard_of};
 ghost use Rattle.torn_block.specs.Layout.{cluster_version};
-ghost use Rattle.phases.specs.Calls.{heard_of};
 ghost use Rattle.world.specs.Plain.{fault_in};
 ghost use Rattle.cluster.specs.Book.{answer_in};
 
+use attempt::Heard;
 use disk::{Boot, DiskFault};
-use phases::Heard;
 use torn_block::ROW_LENGTH;
 
 /// What a device call answered. The bytes of a row lie in the disk's book.

@@ -6,9 +6,9 @@ ghost use Rattle.dlm.specs.Tasks.{HasPrinted};
 
 use crate::racing;
 use crate::refusal_line::refusal_line;
-use dlm_images::TryLock;
 use dlm_tasks::{CommandFailure, Fault, images, print_sweep, run_script};
 use dlm_words::{Subcommand, WordsFault, task_of};
+use folders::TryLock;
 use simulator::read_script;
 use std::alloc::Global;
 use std::fs::OpenFile;

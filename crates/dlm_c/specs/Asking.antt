@@ -1,6 +1,6 @@
 -- What C asks of a claim, and what comes of that.
 use Rattle.std.specs.Prelude.{◌≡◌, ◌≤◌, ◌<◌, ◌^◌, ◌==◌, ◌⊎◌, ℕ, ℤ, Bool, false, pos, List, Option, Some, None, if◌then◌else◌}
-use Rattle.lock_modes.specs.declared.mode.Mode.{Mode}
+use Rattle.lock_command.specs.declared.mode.Mode.{Mode}
 use Rattle.lock_command.specs.Command.{Fits, IsLock}
 use Rattle.lock_command.specs.Name.{IsName}
 use Rattle.lock_command.specs.declared.command.Command.{Command}

@@ -1,7 +1,7 @@
 -- What C hears of the machine that has a host number, and what it is told.
 use Rattle.std.specs.Prelude.{◌≡◌, ◌==◌, ◌<◌, ◌≤◌, ◌-◌, ◌^◌, ◌⊎◌, ℕ, ℤ, List, length, map, take, Option, Some, None, if◌then◌else◌}
 use Rattle.torn_block.specs.declared.layout.TheConstants.{DISKS}
-use Rattle.slot_log.specs.declared.outcome.Refusal.TheVariants.{NoMajority}
+use Rattle.attempt.specs.declared.refusal.Refusal.TheVariants.{NoMajority}
 use Rattle.sectors.specs.declared.name.MachineName.{MachineName}
 use Rattle.sectors.specs.declared.name.TheConstants.{NAMED_LENGTH}
 use Rattle.sectors.specs.declared.owner.Owner.TheVariants.{Ours, Others, Unheard}

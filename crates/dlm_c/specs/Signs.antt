@@ -2,7 +2,7 @@
 use Rattle.std.specs.Prelude.{◌≡◌, ◌≤◌, ◌<◌, ◌+◌, ◌⊎◌, ℕ, ℤ, List, ◌∷◌, ◌++◌, drop, length}
 use Rattle.torn_block.specs.declared.layout.TheConstants.{HOSTS}
 use Rattle.lock_command.specs.Command.{IsLock}
-use Rattle.session.specs.Signs.{sign_name}
+use Rattle.lock_command.specs.Signs.{sign_name}
 use Rattle.c_host.specs.Numbers.{done, bad_argument, no_memory}
 
 -- the buffer begins with this name and a zero; what stands behind them stays

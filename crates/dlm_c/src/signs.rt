@@ -1,13 +1,13 @@
 //! The names of signs of life, which C makes and locks.
 ghost use Rattle.std.specs.Prelude.{◌≡◌, ◌⊎◌, ◌<◌, ◌++◌, None, IfOk, IfErr, drop, length};
-ghost use Rattle.session.specs.Signs.{sign_name};
+ghost use Rattle.lock_command.specs.Signs.{sign_name};
 ghost use Rattle.dlm_c.specs.Signs.{HasNoName, IsText, NamesSign};
 ghost use Rattle.dlm_c.specs.Handles.{InHandle};
 
 use crate::handle::Handle;
 use crate::number_of;
 use c_host::{CLOSED, Fault, host_of, lock_of};
-use session::sign_name;
+use lock_command::sign_name;
 use std::alloc::Global;
 use std::io::Write;
 

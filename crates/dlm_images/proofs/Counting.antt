@@ -15,22 +15,23 @@ use Rattle.attempt.proofs.Hearing.{history_more}
 use Rattle.disk.specs.Disk as device
 use Rattle.lock_command.specs.declared.command.Command.{Command}
 use Rattle.lock_command.specs.Reading.{decoded}
-use Rattle.marks.specs.History as marking
-use Rattle.marks.specs.Status as mark
-use Rattle.marks.proofs.Histories as markings
-use Rattle.looks.specs.History as looking
-use Rattle.looks.specs.Status as look
-use Rattle.looks.proofs.Histories as looks
-use Rattle.looks.proofs.Ends.{decided_is}
-use Rattle.slot_log.specs.Shape.{Shape}
-use Rattle.slot_log.specs.declared.outcome.Refusal.TheVariants as refusal
+use Rattle.rounds.specs.Marking.History as marking
+use Rattle.rounds.specs.Marking.Status as mark
+use Rattle.rounds.proofs.Marking.Histories as markings
+use Rattle.rounds.specs.Look.History as looking
+use Rattle.rounds.specs.Look.Status as look
+use Rattle.rounds.proofs.Look.Histories as looks
+use Rattle.rounds.proofs.Look.Ends.{decided_is}
+use Rattle.paxos_block.specs.Shape.{Shape}
+use Rattle.attempt.specs.declared.refusal.Refusal.TheVariants as refusal
 use Rattle.host.specs.declared.answer.HostAnswer.TheVariants.{Looked, Refused}
 use Rattle.host.specs.Host.{Operation, Submitting, Recovering, Attempt, Marking, Looking, Doing, Attempts, Looks, Marks, Memory, does, says, full_answer, starts, hears, hears_from, goes_on, begins, by_status, takes, after_learning, is_submitted, learns, with_heard, with_floor, tries_again, setup_of, next_doing, marking_by, marking_with, marking_of, starts_marking, look_by, look_of, looking_with, looks_on, takes_marked}
 use Rattle.host.specs.Kept.{MayBegin}
 use Rattle.host.specs.declared.task.Task.{Task}
 use Rattle.host.specs.declared.task.Task.TheVariants as tasks
 use Rattle.host.proofs.Hosts.{learned-goes_on}
-use Rattle.dlm_images.specs.Operations.{Made, Gave, after_call, after_made, IsDue, AreDue, Standing, HasCarriedOut, HasOperated, HasMarked, HasLooked, IsSmall, Rests}
+use Rattle.dlm_images.specs.Operations.{Made, Gave, after_call, after_made, IsDue, AreDue, Standing, HasCarriedOut, HasOperated, HasMarked, HasLooked, Rests}
+use Rattle.folders.specs.Folders.{IsSmall}
 use Rattle.dlm_images.specs.Tasks.{MayBeAsked, StaysWithin}
 use Rattle.dlm_images.specs.Marking.{HasMarkedFrom, RecoversAndMarks, calls_of, leaves_a_mark}
 use Rattle.dlm_images.proofs.Driving.{answered, leads_then, known_then, same_shape, marked_ends, looked_reads}

@@ -7,19 +7,19 @@ use Rattle.std.proofs.lemmas.List.{length-append}
 use Rattle.attempt.specs.Answers.{Answered, on, heard_as}
 use Rattle.attempt.specs.Status as attempt
 use Rattle.attempt.specs.Status.{Status, Due, Ended}
-use Rattle.beats.specs.Answers as beat_answers
-use Rattle.beats.specs.Status as beat
-use Rattle.looks.specs.Status as look
-use Rattle.marks.specs.Status as mark
+use Rattle.rounds.specs.Beat.Answers as beat_answers
+use Rattle.rounds.specs.Beat.Status as beat
+use Rattle.rounds.specs.Look.Status as look
+use Rattle.rounds.specs.Marking.Status as mark
 use Rattle.lock_command.specs.declared.command.Command.{Command}
 use Rattle.lock_command.specs.Reading.{decoded}
-use Rattle.slot_log.specs.Shape.{Shape}
-use Rattle.slot_log.specs.declared.outcome.Refusal.TheVariants as refusal
+use Rattle.paxos_block.specs.Shape.{Shape}
+use Rattle.attempt.specs.declared.refusal.Refusal.TheVariants as refusal
 use Rattle.disk.specs.Disk as device
 use Rattle.torn_block.specs.Layout.{cluster_version}
-use Rattle.phases.specs.Calls.{IsWithin}
-use Rattle.phases.specs.declared.need.DeviceCall as code_call
-use Rattle.phases.specs.declared.need.DeviceCall.TheVariants as call
+use Rattle.attempt.specs.DeviceCalls.{IsWithin}
+use Rattle.attempt.specs.declared.need.DeviceCall as code_call
+use Rattle.attempt.specs.declared.need.DeviceCall.TheVariants as call
 use Rattle.host.specs.Alone.{IsAnsweredAlone, HasHeardFew}
 use Rattle.host.specs.Host as hosts
 use Rattle.host.specs.Host.{Operation, Submitting, Recovering, Attempt, Marking, Looking, Doing, Attempts, Looks, Beats, Marks, Memory, does, says, full_answer, starts, hears_from, goes_on, begins, by_status, takes, after_learning, is_submitted, learns, with_heard, with_floor, tries_again, look_by, look_of, looking_with, looks_on, takes_marked, beat_by, beat_of, marking_by, marking_with, marking_of, starts_marking}

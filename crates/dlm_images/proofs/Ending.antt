@@ -13,13 +13,13 @@ use Rattle.lock_command.specs.declared.command.Command.{Command}
 use Rattle.lock_command.specs.Command.{spelling, Fits as FitsCommand}
 use Rattle.lock_command.specs.Reading.{decoded, checked}
 use Rattle.lock_command.proofs.Readings.{command_at-spelling}
-use Rattle.slot_log.specs.Shape.{Shape}
-use Rattle.slot_log.specs.declared.outcome.Refusal.{Refusal}
-use Rattle.slot_log.specs.declared.outcome.Refusal.TheVariants as refusal
+use Rattle.paxos_block.specs.Shape.{Shape}
+use Rattle.attempt.specs.declared.refusal.Refusal.{Refusal}
+use Rattle.attempt.specs.declared.refusal.Refusal.TheVariants as refusal
 use Rattle.disk.specs.Disk as device
-use Rattle.marks.specs.Status as mark
-use Rattle.looks.specs.Status as look
-use Rattle.looks.proofs.Histories as looks
+use Rattle.rounds.specs.Marking.Status as mark
+use Rattle.rounds.specs.Look.Status as look
+use Rattle.rounds.proofs.Look.Histories as looks
 use Rattle.attempt.specs.Looking.{OnlyReads}
 use Rattle.host.specs.declared.answer.HostAnswer.TheVariants.{Recovered, Looked, Refused}
 use Rattle.host.specs.declared.task.Task.TheVariants as tasks

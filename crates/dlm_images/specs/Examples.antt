@@ -4,10 +4,10 @@ use Rattle.disk.specs.Disk.{DiskState, Call, Answer, Booted, Told, Done, Fault, 
 use Rattle.disk.specs.Simulated.{fresh_disk}
 use Rattle.torn_block.specs.Layout.{cluster_version}
 use Rattle.paxos_block.specs.Places.{image_length}
-use Rattle.lock_modes.specs.declared.mode.Mode.TheVariants.{Exclusive}
+use Rattle.lock_command.specs.declared.mode.Mode.TheVariants.{Exclusive}
 use Rattle.lock_command.specs.declared.command.Command.{Command}
 use Rattle.lock_command.specs.declared.command.Action.TheVariants.{Enqueue}
-use Rattle.slot_log.specs.Shape.{Shape}
+use Rattle.paxos_block.specs.Shape.{Shape}
 use Rattle.host.specs.Host.{Memory, Submitting, fresh, goes_on}
 
 -- one disk, and room for one command

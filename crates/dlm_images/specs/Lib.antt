@@ -1,15 +1,5 @@
-pub mod Damage
 pub mod Examples
-pub mod Finishing
-pub mod Folders
-pub mod Formatting
-pub mod Headers
-pub mod ImageFaults
-pub mod Layout
 pub mod Marking
 pub mod Operations
-pub mod Reading
-pub mod SetFaults
-pub mod Sets
 pub mod Tasks
 pub mod Tries

@@ -7,7 +7,7 @@ use Rattle.disk.specs.Disk.{Call, Answer}
 use Rattle.attempt.specs.Answers.{heard_as}
 use Rattle.attempt.specs.History.{Fits}
 use Rattle.attempt.specs.Looking.{OnlyReads}
-use Rattle.slot_log.specs.Shape.{Shape}
+use Rattle.paxos_block.specs.Shape.{Shape}
 use Rattle.lock_command.specs.declared.command.Command.{Command}
 use Rattle.lock_command.specs.declared.reply.Reply.{Reply}
 use Rattle.host.specs.Host.{Memory, Doing, Attempts, Operation, Submitting, Recovering, goes_on, starts_marking, looks_on, hears_from, next_in, reply_after}
@@ -130,11 +130,6 @@ Ends operation learned (Some (Refused refusal)) = Unit {0}
 Ends operation learned said = ⊥
 
 -- BETWEEN TASKS
-
--- no more disks and slots than there may be
-pub record IsSmall (c : Shape) : Type 0 where
-  pub disks : c.disks ≤ DISKS
-  pub slots : c.slots ≤ SLOTS
 
 -- Something is known of the host, and nothing is under way. It has a disk at least, and each has room for an image; and there is
 -- room in the log for what it has learned.

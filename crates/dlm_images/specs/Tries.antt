@@ -2,7 +2,7 @@
 use Rattle.std.specs.Prelude.{◌≡◌, ◌<◌, ◌+◌, ℕ, Some}
 use Rattle.disk.specs.Disk.{Call, Answer}
 use Rattle.lock_command.specs.declared.command.Command.{Command}
-use Rattle.slot_log.specs.declared.outcome.Refusal.TheVariants.{Outrun}
+use Rattle.attempt.specs.declared.refusal.Refusal.TheVariants.{Outrun}
 use Rattle.host.specs.Host.{Submitting}
 use Rattle.host.specs.declared.answer.HostAnswer.TheVariants.{Refused}
 use Rattle.dlm_images.specs.Operations.{Standing, HasOperated}

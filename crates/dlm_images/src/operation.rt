@@ -3,13 +3,13 @@ ghost use Rattle.torn_block.specs.Layout.{cluster_version};
 ghost use Rattle.torn_block.specs.declared.layout.TheConstants.{DISKS, SLOTS};
 ghost use Rattle.paxos_block.specs.Places.{image_length};
 ghost use Rattle.attempt.specs.Heard.{Fits};
-ghost use Rattle.phases.specs.Calls.{IsWithin, answer_as, device_call_of, heard_as};
+ghost use Rattle.attempt.specs.DeviceCalls.{IsWithin, answer_as, device_call_of, heard_as};
 ghost use Rattle.host.specs.Kept.{is_idle};
 ghost use Rattle.dlm_images.specs.Operations.{GaveOne, IsKnown, HasHeard};
 
+use attempt::{Heard, Need, answer_of};
 use disk::Disk;
 use host::HostCore;
-use phases::{Heard, Need, answer_of};
 use torn_block::{ClusterLayout, DISKS, Layout, ROW_LENGTH, SLOTS};
 
 /// No task makes more calls: each attempt of an operation makes 17 a disk at most, and learns a slot, or uses one of at most 255 tries,

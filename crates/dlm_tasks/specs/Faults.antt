@@ -1,13 +1,13 @@
 -- Which fault a task makes of a refusal of its parts.
 use Rattle.lock_script.specs.declared.script.ScriptFault.{ScriptFault}
 use Rattle.lock_script.specs.declared.script.ScriptFault.TheVariants as script
-use Rattle.slot_log.specs.declared.outcome.Refusal.{Refusal}
-use Rattle.dlm_images.specs.declared.fault.FolderFault.{FolderFault}
-use Rattle.dlm_images.specs.declared.fault.FolderFault.TheVariants as folder
-use Rattle.dlm_images.specs.declared.check.Finding.{Finding}
-use Rattle.dlm_images.specs.declared.check.Finding.TheVariants as found
-use Rattle.dlm_images.specs.declared.host_lock.LockFault.{LockFault}
-use Rattle.dlm_images.specs.declared.host_lock.LockFault.TheVariants as lock
+use Rattle.attempt.specs.declared.refusal.Refusal.{Refusal}
+use Rattle.folders.specs.declared.fault.FolderFault.{FolderFault}
+use Rattle.folders.specs.declared.fault.FolderFault.TheVariants as folder
+use Rattle.folders.specs.declared.check.Finding.{Finding}
+use Rattle.folders.specs.declared.check.Finding.TheVariants as found
+use Rattle.folders.specs.declared.host_lock.LockFault.{LockFault}
+use Rattle.folders.specs.declared.host_lock.LockFault.TheVariants as lock
 use Rattle.folder_migration.specs.declared.fault.MoveFault.{MoveFault}
 use Rattle.folder_migration.specs.declared.fault.MoveFault.TheVariants as move
 use Rattle.folder_migration.specs.declared.fill.FillFault.{FillFault}

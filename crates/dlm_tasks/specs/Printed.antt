@@ -17,7 +17,7 @@ use Rattle.host.specs.Host.{Recovering, fresh}
 use Rattle.host.specs.Kept as hosts
 use Rattle.host.specs.declared.answer.HostAnswer.{HostAnswer}
 use Rattle.host.specs.declared.answer.HostAnswer.TheVariants.{Ack, Recovered}
-use Rattle.slot_log.specs.Shape.{Shape}
+use Rattle.paxos_block.specs.Shape.{Shape}
 use Rattle.lock_script.specs.Lines.{lines_of}
 use Rattle.lock_script.specs.Script.{IsScript, content_of}
 use Rattle.lock_script.specs.declared.event.Event.{Event}

@@ -3,9 +3,9 @@ ghost use Rattle.dlm_tasks.specs.Faults.{of_script, of_refusal, of_folder, of_fi
 ghost use Rattle.dlm_tasks.specs.declared.fault.Fault.TheVariants.{NoMemory};
 
 use disk::ImageFault;
-use dlm_images::{Finding, FolderFault, LockFault, image_fault_name, image_fault_number};
 use dlm_words::RefusalText;
 use folder_migration::{FillFault, MoveFault, NewFault, RenewFault};
+use folders::{Finding, FolderFault, LockFault, image_fault_name, image_fault_number};
 use host::Refusal;
 use simulator::ScriptFault;
 use std::io;

@@ -11,17 +11,17 @@ ghost use Rattle.dlm_tasks.specs.Printed.{Begins, HasSearched, IsFresh, WritesAc
 use crate::command_failure::CommandFailure;
 use crate::fault::Fault;
 use disk::FileDisk;
-use dlm_images::{
-    Acknowledgement, DiskHost, MarkedLog, TryLock, check_folder, find_folder, format_folder,
-    lock_host, open_folder, open_folder_to_read, submit_patiently,
-};
+use dlm_images::{Acknowledgement, DiskHost, MarkedLog, start_host, submit_patiently};
 use dlm_words::ReplyText;
 use folder_migration::{Moved, Renewed, fill_log, migrate_folder, renew_folder};
+use folders::{
+    TryLock, check_folder, find_folder, format_folder, lock_host, open_folder, open_folder_to_read,
+};
 use host::Config;
 use inspect::queues;
 use lock_command::{ClientNumber, Command, HostNumber};
 use lock_table::Table;
-use slot_log::SlotCount;
+use paxos_block::SlotCount;
 use std::alloc::Global;
 use std::fs::OpenFile;
 use std::io;
@@ -225,7 +225,7 @@ where
     let images = open_folder(rt, folder)?;
     let config = images.config;
     let lock = lock_host(rt, folder, host)?;
-    let over = images.host(rt.alloc(), host)?;
+    let over = start_host(images, rt.alloc(), host)?;
     Ok((config, over, lock))
 }
 
@@ -240,7 +240,7 @@ where
     ensures fresh { IfOk result (λ over. IsFresh host over) }
 {
     let images = open_folder(rt, folder)?;
-    let over = images.host(rt.alloc(), host)?;
+    let over = start_host(images, rt.alloc(), host)?;
     Ok(over)
 }
 

@@ -1,6 +1,6 @@
 -- The printed text of what hosts answer.
 use Rattle.std.specs.Prelude.{ℕ, List, ◌++◌, codes, decimal, Option, Some, None, if◌then◌else◌}
-use Rattle.lock_modes.specs.declared.mode.Mode.{Mode}
+use Rattle.lock_command.specs.declared.mode.Mode.{Mode}
 use Rattle.lock_command.specs.declared.state.LockState.{LockState}
 use Rattle.lock_command.specs.declared.state.LockState.TheVariants.{Granted as Holding, Converting, Waiting}
 use Rattle.lock_command.specs.declared.reply.Answer as done
@@ -9,8 +9,8 @@ use Rattle.lock_command.specs.declared.reply.Reply.{Reply}
 use Rattle.lock_command.specs.declared.reply.Answer.TheVariants.{Granted, Queued, Released, Cancelled, Purged, State, Refused}
 use Rattle.lock_command.specs.declared.reply.Refusal as table
 use Rattle.lock_command.specs.Refusals as of_table
-use Rattle.slot_log.specs.declared.outcome.Refusal as operation
-use Rattle.slot_log.specs.Refusals as of_operation
+use Rattle.attempt.specs.declared.refusal.Refusal as operation
+use Rattle.attempt.specs.Refusals as of_operation
 use Rattle.host.specs.declared.answer.HostAnswer.{HostAnswer}
 use Rattle.host.specs.declared.answer.HostAnswer.TheVariants.{Ack, Recovered, Looked, Beaten, Marked, Refused as Ended}
 use Rattle.inspect.specs.Text.{mode_name, is_zeros, value_text}

@@ -5,7 +5,7 @@ use crate::words::WordsFault;
 use host::Config;
 use lock_command::{ClientNumber, Command, HOSTS, HostNumber};
 use lock_script::{number_in, read_command};
-use slot_log::SlotCount;
+use paxos_block::SlotCount;
 use std::alloc::Global;
 use torn_block::{DISKS, SLOTS};
 

@@ -1,4 +1,4 @@
-use lock_modes::Mode;
+use lock_command::Mode;
 use std::fmt;
 
 /// A mode as it is printed, `-` where there is none.

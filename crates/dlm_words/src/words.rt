@@ -9,7 +9,7 @@ use clap::error::ErrorKind;
 use clap::{Arg, ArgAction, ArgMatches, Error};
 use host::Config;
 use lock_command::{ClientNumber, Command, HostNumber};
-use slot_log::SlotCount;
+use paxos_block::SlotCount;
 use std::alloc::{AllocError, Global};
 use std::io;
 

@@ -10,7 +10,7 @@ use Rattle.lock_table.proofs.Behave.{reachable_distinct, zeros-applied}
 use Rattle.lock_table.proofs.Carrying.{pictured_later, replied_later}
 use Rattle.lock_table.proofs.Pictures.{picture_of_pictured}
 use Rattle.lock_table.proofs.Unique.{one_shown}
-use Rattle.slot_log.specs.Shape.{Shape}
+use Rattle.paxos_block.specs.Shape.{Shape}
 use Rattle.world.specs.Entry.{Filled}
 use Rattle.world.specs.Headline.{prefix_at}
 use Rattle.endless.specs.Epochs.{IsChain, all_later, IsAsAfter, TablesGoOn, IsEndless, carried_by, all_before, HasGoneOn, EpochsGoOn}

@@ -6,7 +6,7 @@ use Rattle.lock_command.specs.Command.{spelling}
 use Rattle.lock_table.specs.Apply.{applied, table_after}
 use Rattle.lock_table.specs.Carrying.{carried_over}
 use Rattle.lock_table.specs.Picture.{Shown, IsPictureOf}
-use Rattle.slot_log.specs.Shape.{Shape}
+use Rattle.paxos_block.specs.Shape.{Shape}
 use Rattle.host.specs.Host.{Submitting, Attempt, Attempts, Memory, Running}
 use Rattle.world.specs.Entry.{Filled, Called}
 use Rattle.world.specs.World.{IsRun}

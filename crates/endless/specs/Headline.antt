@@ -6,7 +6,7 @@ use Rattle.lock_command.specs.declared.reply.Reply.{Reply}
 use Rattle.lock_table.specs.Apply.{table_after}
 use Rattle.lock_table.specs.Carrying.{carried_over}
 use Rattle.lock_table.specs.Picture.{Shown, IsPictureOf}
-use Rattle.slot_log.specs.Shape.{Shape}
+use Rattle.paxos_block.specs.Shape.{Shape}
 use Rattle.host.specs.declared.task.Task.TheVariants.{Submit}
 use Rattle.host.specs.Host.{Submitting, Attempt, Attempts, Memory, Running, reply_after}
 use Rattle.world.specs.Entry.{Filled, Begin}

@@ -1,6 +1,6 @@
 -- What is done in all epochs, in one order.
 use Rattle.std.specs.Prelude.{◌≡◌, ◌+◌, ◌==◌, ◌<◌, ◌≤◌, ℕ, zero, suc, List, [], ◌∷◌, length, if◌then◌else◌}
-use Rattle.slot_log.specs.Shape.{Shape}
+use Rattle.paxos_block.specs.Shape.{Shape}
 use Rattle.host.specs.Host.{Memory, Running}
 use Rattle.world.specs.Entry.{Filled}
 use Rattle.world.specs.World.{IsRun}

@@ -9,7 +9,7 @@ use Rattle.disk.specs.Crash.{IsWhole}
 use Rattle.disk.specs.Simulated.{fresh_disk}
 use Rattle.disk.specs.Steps.{HasShape, WritesOn}
 use Rattle.disk.proofs.StepLemmas.{shape_keeps, shape_fresh}
-use Rattle.slot_log.specs.Shape.{Shape}
+use Rattle.paxos_block.specs.Shape.{Shape}
 use Rattle.world.specs.Entry.{Filled, Start, Stop, Begin, Called, Crashed, Lost, Migrated}
 use Rattle.world.specs.Entry as entries
 use Rattle.world.specs.World.{Tears}

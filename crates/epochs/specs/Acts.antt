@@ -5,7 +5,7 @@ use Rattle.disk.specs.Disk.{DiskState, Call, Attach, Read, Write, Sync, Answer, 
 use Rattle.disk.specs.Crash.{IsWhole}
 use Rattle.disk.specs.Simulated.{fresh_disk}
 use Rattle.torn_block.specs.declared.layout.TheConstants.{ROW_LENGTH}
-use Rattle.slot_log.specs.Shape.{Shape}
+use Rattle.paxos_block.specs.Shape.{Shape}
 use Rattle.world.specs.Entry.{Filled, Called, Torn, Crashed, Lost}
 use Rattle.world.specs.World.{Tears}
 use Rattle.at_once.specs.AtOnce.{Serves}

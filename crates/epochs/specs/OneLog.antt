@@ -3,7 +3,7 @@ use Rattle.std.specs.Prelude.{◌≡◌, ◌+◌, ◌≤◌, ◌<◌, ◌^◌, �
 use Rattle.torn_block.specs.Layout.{cluster_version}
 use Rattle.torn_block.specs.declared.layout.TheConstants.{ROW_LENGTH}
 use Rattle.paxos_block.specs.Places.{image_length}
-use Rattle.slot_log.specs.Shape.{Shape}
+use Rattle.paxos_block.specs.Shape.{Shape}
 use Rattle.host.specs.Host.{Stopped}
 use Rattle.world.specs.Entry.{Filled, Crashed, on_disk, of_host, host_after}
 use Rattle.world.specs.World.{opening_disk}

@@ -3,7 +3,7 @@ use Rattle.std.specs.Prelude.{◌-◌, All, IsSome, replicate, slice_get, slice_
 use Rattle.std.proofs.Common.{ℕ, zero, suc, ◌+◌, ◌<◌, ◌≤◌, ◌≡◌, Option, Some, None, List, [], ◌∷◌, ◌++◌, length, get_or, refl, sym, ap, ◌∙◌, subst, arith, append-nil, length-append}
 use Rattle.std.proofs.lemmas.List.{map-append, take_all, take-append-le, take-take, take-map, drop-take, take-append-drop, take-replicate, length-replicate}
 use Rattle.std.proofs.lemmas.List.Elements.{All-push, All-weaker}
-use Rattle.slot_log.specs.Shape.{Shape}
+use Rattle.paxos_block.specs.Shape.{Shape}
 use Rattle.lock_script.specs.declared.event.Event as code
 use Rattle.host.specs.Host.{said_of}
 use Rattle.world.specs.Entry.{Filled}

@@ -11,8 +11,8 @@ use Rattle.attempt.specs.Status.{Status, Due, Ended, End}
 use Rattle.attempt.specs.Status as attempt
 use Rattle.lock_command.specs.declared.command.Command.{Command}
 use Rattle.lock_command.specs.Reading.{decoded}
-use Rattle.slot_log.specs.Shape.{Shape}
-use Rattle.slot_log.specs.declared.outcome.Refusal.TheVariants as refusal
+use Rattle.paxos_block.specs.Shape.{Shape}
+use Rattle.attempt.specs.declared.refusal.Refusal.TheVariants as refusal
 use Rattle.host.specs.declared.answer.HostAnswer.{HostAnswer}
 use Rattle.host.specs.declared.answer.HostAnswer.TheVariants.{Ack, Recovered, Looked, Beaten, Marked, Refused}
 use Rattle.host.specs.declared.task.Task.TheVariants.{Recover}

@@ -1,6 +1,6 @@
 // What a sweep does, spelled out.
 ghost use Rattle.std.specs.Prelude.{◌≡◌, ◌+◌, ◌*◌, ◌++◌, ◌∷◌, [], true, false, replicate, None, Some};
-ghost use Rattle.slot_log.specs.Shape.{Shape};
+ghost use Rattle.paxos_block.specs.Shape.{Shape};
 ghost use Rattle.host.specs.declared.task.Task.TheVariants.{Recover};
 ghost use Rattle.world.specs.Happens.{Start, Stop, Begin, Step, Tear, DiskCrash};
 ghost use Rattle.fault_sweep.specs.Sweeping.{ways, recovery, ending};

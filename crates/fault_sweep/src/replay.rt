@@ -16,8 +16,8 @@ use disk::NoMemory;
 use host::HostAnswer;
 use lock_command::{Command, HOSTS, HostNumber};
 use lock_script::Event;
+use paxos_block::Config;
 use simulator::{Answer, Room, Said, SimulatedCluster};
-use slot_log::Config;
 use std::alloc::Global;
 use std::marker::Model;
 

@@ -10,8 +10,8 @@ use crate::tally::Sweep;
 use disk::NoMemory;
 use lock_command::Command;
 use lock_script::{Event, Script};
+use paxos_block::Config;
 use simulator::SimulatedCluster;
-use slot_log::Config;
 use std::alloc::Global;
 
 /// Runs each variant of a script: its events with one put before a step that applies, and then a recovery of the first host

@@ -5,7 +5,7 @@ use Rattle.disk.specs.Disk.{Call, Answer, Booted, Told, Done, Fault}
 use Rattle.migration.specs.Fits.{HasRoom}
 use Rattle.migration.specs.Heard.{Progress, at_first, heard, hears, next, next_in, answered, given_up}
 use Rattle.migration.specs.History.{IsHistory, IsAnswerTo}
-use Rattle.migration.specs.Image.{Setup}
+use Rattle.paxos_block.specs.Image.{Setup}
 use Rattle.migration.specs.Kept.{LeadsTo, end_by, end_in}
 use Rattle.migration.specs.Plan.{Due}
 use Rattle.migration.specs.declared.end.End.{End}

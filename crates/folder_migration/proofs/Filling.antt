@@ -5,10 +5,10 @@ use Rattle.std.proofs.lemmas.List.{length-append}
 use Rattle.attempt.specs.Answers.{on, heard_as}
 use Rattle.attempt.specs.Status as attempt
 use Rattle.attempt.specs.Status.{Status, Due, Ended, status, taken}
-use Rattle.beats.specs.Answers as beat_answers
-use Rattle.beats.specs.Status as beat
-use Rattle.marks.specs.Status as mark
-use Rattle.looks.specs.Status as look
+use Rattle.rounds.specs.Beat.Answers as beat_answers
+use Rattle.rounds.specs.Beat.Status as beat
+use Rattle.rounds.specs.Marking.Status as mark
+use Rattle.rounds.specs.Look.Status as look
 use Rattle.disk.specs.Disk.{Call, Answer}
 use Rattle.lock_command.specs.declared.command.Command.{Command}
 use Rattle.lock_command.specs.Reading.{decoded}
@@ -17,9 +17,9 @@ use Rattle.lock_table.specs.declared.known_client.KnownClient.{KnownClient}
 use Rattle.lock_table.specs.Apply.{Plain, is_client}
 use Rattle.lock_table.specs.Carrying.{IsKnownFrom}
 use Rattle.lock_table.specs.Picture.{Shown, IsPictureOf}
-use Rattle.slot_log.specs.Shape.{Shape}
-use Rattle.slot_log.specs.declared.outcome.Refusal.{Refusal}
-use Rattle.slot_log.specs.declared.outcome.Refusal.TheVariants as refusal
+use Rattle.paxos_block.specs.Shape.{Shape}
+use Rattle.attempt.specs.declared.refusal.Refusal.{Refusal}
+use Rattle.attempt.specs.declared.refusal.Refusal.TheVariants as refusal
 use Rattle.host.specs.declared.answer.HostAnswer.{HostAnswer}
 use Rattle.host.specs.declared.answer.HostAnswer.TheVariants.{Ack, Looked, Refused}
 use Rattle.host.specs.Host.{Operation, Submitting, Recovering, Attempt, Marking, Looking, Doing, Attempts, Looks, Beats, Marks, Memory, does, says, full_answer, hears_from, goes_on, begins, by_status, takes, after_learning, is_submitted, learns, with_heard, with_floor, tries_again, setup_of, look_by, look_of, looking_with, looks_on, takes_marked, beat_by, beat_of, marking_by, marking_with, marking_of}

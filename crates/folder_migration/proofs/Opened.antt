@@ -10,7 +10,7 @@ use Rattle.torn_block.specs.declared.layout.TheConstants.{HEADER_LENGTH}
 use Rattle.torn_block.specs.declared.block.TheConstants.{OPEN_GATE}
 use Rattle.paxos_block.specs.declared.header.Header.{Header}
 use Rattle.paxos_block.specs.Headers.{IsRight, header_saying}
-use Rattle.dlm_images.specs.Folders.{HasToldFirst}
+use Rattle.folders.specs.Folders.{HasToldFirst}
 use Rattle.folder_migration.specs.Gates.{IsOpenImage, IsClosedImage, Finds, FailsToOpen, not_written, not_synced, FailsToSync, FailsToMakeSure, IsLeftUnsure, FirstBecame}
 use Rattle.folder_migration.specs.declared.gate.Gate.{Gate}
 use Rattle.folder_migration.specs.declared.gate.Gate.TheVariants.{Open, Closed, Neither}

@@ -7,17 +7,17 @@ use Rattle.disk.specs.Disk as device
 use Rattle.attempt.specs.Answers.{Answered, Heard, on, heard_in}
 use Rattle.attempt.specs.Status as attempt
 use Rattle.attempt.specs.Status.{Status, Due, Ended, status, taken}
-use Rattle.phases.specs.Calls.{device_answer}
-use Rattle.phases.specs.declared.heard.Heard as code_heard
-use Rattle.phases.specs.declared.heard.Heard.TheVariants as answer
-use Rattle.slot_log.specs.Shape.{Shape}
+use Rattle.attempt.specs.DeviceCalls.{device_answer}
+use Rattle.attempt.specs.declared.heard.Heard as code_heard
+use Rattle.attempt.specs.declared.heard.Heard.TheVariants as answer
+use Rattle.paxos_block.specs.Shape.{Shape}
 use Rattle.slot_log.specs.Alone.{IsAnsweredAlone}
 use Rattle.slot_log.specs.Kept.{Kept, LeadsTo}
 use Rattle.slot_log.specs.Learning.{Doing, Memory, Operation, fresh, goes_on, begins, says, learns, hears, by_status, with_heard, with_floor, tries_again, takes, judges, judged, after_learning, is_placed, offered_in, is_idle_in, setup_of}
 use Rattle.slot_log.specs.declared.operation.Operation.TheVariants.{Recovering}
 use Rattle.slot_log.specs.declared.outcome.LogOutcome.{LogOutcome}
 use Rattle.slot_log.specs.declared.outcome.LogOutcome.TheVariants.{Placed, Recovered, Refused}
-use Rattle.slot_log.specs.declared.outcome.Refusal.TheVariants as refusal
+use Rattle.attempt.specs.declared.refusal.Refusal.TheVariants as refusal
 use Rattle.folder_migration.specs.Recovery.{StandsFor, StandFor, Comes, call, judge, none, HasEnded, MayEnd, MakesOne, JudgesOne, after_call, after_judging, answered, old_heard}
 
 -- ANSWERS AND VALUES

@@ -4,7 +4,7 @@ use Rattle.std.specs.Option.{option_or}
 use Rattle.std.proofs.lemmas.List.{length-map, take-append-drop, take_more}
 use Rattle.std.proofs.lemmas.List.Folds.{find-append}
 use Rattle.disk.specs.Disk.{Call, Answer}
-use Rattle.slot_log.specs.Shape.{Shape}
+use Rattle.paxos_block.specs.Shape.{Shape}
 use Rattle.lock_command.specs.declared.command.Command.{Command}
 use Rattle.lock_command.specs.Command.{spelling}
 use Rattle.lock_table.specs.Apply.{table_after}

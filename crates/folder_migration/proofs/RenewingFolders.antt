@@ -3,14 +3,14 @@ use Rattle.std.proofs.Common.{◌≡◌, ℕ, List, length, Result, Ok, Err, IfE
 use Rattle.disk.specs.FileStates.{FileState, FileGives}
 use Rattle.disk.specs.Disk.{Call, Answer}
 use Rattle.lock_command.specs.declared.command.Command.{Command}
-use Rattle.slot_log.specs.Shape.{Shape}
+use Rattle.paxos_block.specs.Shape.{Shape}
 use Rattle.host.specs.Host.{Recovering, fresh}
 use Rattle.host.specs.Kept as hosts
 use Rattle.migration.specs.declared.end.End.{End}
 use Rattle.migration.specs.declared.end.End.TheVariants as end
-use Rattle.dlm_images.specs.Folders.{IsOpened}
+use Rattle.folders.specs.Folders.{IsOpened}
 use Rattle.dlm_images.specs.Operations.{HasOperated, Standing}
-use Rattle.dlm_images.specs.Sets.{Found}
+use Rattle.folders.specs.Sets.{Found}
 use Rattle.folder_migration.specs.Migrating.{AreBlank}
 use Rattle.folder_migration.specs.Renewing.{Carries, StopsRenewing}
 use Rattle.folder_migration.specs.RenewingFolders.{EndsOver, HasRenewed, IsNewFault, MayNotRenew, Recovers, StopsOver}

@@ -3,16 +3,16 @@ use Rattle.std.proofs.Common.{◌≡◌, ◌≤◌, ◌<◌, ℕ, List, length, 
 use Rattle.torn_block.specs.declared.layout.TheConstants.{DISKS}
 use Rattle.disk.specs.Disk.{Call, Answer}
 use Rattle.disk.specs.FileStates.{FileState, FileGives}
-use Rattle.slot_log.specs.Shape.{Shape}
+use Rattle.paxos_block.specs.Shape.{Shape}
 use Rattle.slot_log.specs.declared.outcome.LogOutcome.TheVariants.{Refused as Ended}
 use Rattle.migration.specs.Kept.{setup_by}
 use Rattle.migration.specs.declared.end.End.{End}
 use Rattle.migration.specs.declared.end.End.TheVariants as end
-use Rattle.dlm_images.specs.Folders.{IsOpened}
-use Rattle.dlm_images.specs.SetFaults.{IsFormatFault}
-use Rattle.dlm_images.specs.Sets.{Found}
-use Rattle.dlm_images.specs.declared.fault.FolderFault.{FolderFault}
-use Rattle.dlm_images.specs.declared.fault.FolderFault.TheVariants as folder
+use Rattle.folders.specs.Folders.{IsOpened}
+use Rattle.folders.specs.SetFaults.{IsFormatFault}
+use Rattle.folders.specs.Sets.{Found}
+use Rattle.folders.specs.declared.fault.FolderFault.{FolderFault}
+use Rattle.folders.specs.declared.fault.FolderFault.TheVariants as folder
 use Rattle.folder_migration.specs.Migrating.{AreBlank, AreNotBegun, HasWritten, IsFolderFault, MayFail, with_slots}
 use Rattle.folder_migration.specs.Moving.{HasMoved}
 use Rattle.folder_migration.specs.Recovery.{HasRecovered, RecoversTo}

@@ -1,15 +1,15 @@
 -- A log that is filled up with a request that was made already.
 use Rattle.std.specs.Prelude.{◌≡◌, ◌⊎◌, ◌≤◌, ◌+◌, ℕ, List, [], length, Some}
 use Rattle.disk.specs.Disk.{Call, Answer}
-use Rattle.slot_log.specs.declared.outcome.Refusal.{Refusal}
-use Rattle.slot_log.specs.declared.outcome.Refusal.TheVariants.{LogFull, Outrun}
+use Rattle.attempt.specs.declared.refusal.Refusal.{Refusal}
+use Rattle.attempt.specs.declared.refusal.Refusal.TheVariants.{LogFull, Outrun}
 use Rattle.lock_command.specs.declared.command.Command.{Command}
 use Rattle.lock_command.specs.declared.command.Action.TheVariants.{Status}
 use Rattle.lock_command.specs.declared.reply.Reply.{Reply}
 use Rattle.lock_table.specs.Apply.{table_after}
 use Rattle.lock_table.specs.Carrying.{IsKnownFrom}
 use Rattle.lock_table.specs.Picture.{Shown, IsPictureOf}
-use Rattle.slot_log.specs.Shape.{Shape}
+use Rattle.paxos_block.specs.Shape.{Shape}
 use Rattle.host.specs.Host.{Memory, Recovering}
 use Rattle.host.specs.Kept.{LeadsTo}
 use Rattle.host.specs.declared.answer.HostAnswer.TheVariants as answer

@@ -7,9 +7,9 @@ use Rattle.torn_block.specs.declared.layout.TheConstants.{HEADER_LENGTH}
 use Rattle.torn_block.specs.declared.block.TheConstants.{OPEN_GATE}
 use Rattle.paxos_block.specs.declared.header.Header.{Header}
 use Rattle.paxos_block.specs.Headers.{IsRight, IsFormatted}
-use Rattle.slot_log.specs.Shape.{Shape}
-use Rattle.dlm_images.specs.Folders.{HasToldFirst, FailsToTell}
-use Rattle.dlm_images.specs.Layout.{WritesZeros, header_of}
+use Rattle.paxos_block.specs.Shape.{Shape}
+use Rattle.folders.specs.Folders.{HasToldFirst, FailsToTell}
+use Rattle.folders.specs.Layout.{WritesZeros, header_of}
 use Rattle.folder_migration.specs.declared.gate.Gate.{Gate}
 use Rattle.folder_migration.specs.declared.gate.Gate.TheVariants.{Open, Closed, Neither}
 

@@ -7,16 +7,16 @@ use Rattle.disk.specs.declared.fault.DiskFault.{DiskFault}
 use Rattle.disk.specs.declared.fault.ImageFault.TheVariants.{Unreadable}
 use Rattle.disk.specs.FileStates.{FileState, FileGives}
 use Rattle.paxos_block.specs.Places.{image_length}
-use Rattle.slot_log.specs.Shape.{Shape}
+use Rattle.paxos_block.specs.Shape.{Shape}
 use Rattle.slot_log.specs.declared.outcome.LogOutcome.TheVariants.{Refused as Ended}
-use Rattle.slot_log.specs.declared.outcome.Refusal.{Refusal}
+use Rattle.attempt.specs.declared.refusal.Refusal.{Refusal}
 use Rattle.migration.specs.declared.end.End.{End}
 use Rattle.migration.specs.declared.end.End.TheVariants as end
-use Rattle.dlm_images.specs.Folders.{IsLockFault, IsOpened}
-use Rattle.dlm_images.specs.SetFaults.{MayRefuse}
-use Rattle.dlm_images.specs.Sets.{Found}
-use Rattle.dlm_images.specs.declared.fault.FolderFault.{FolderFault}
-use Rattle.dlm_images.specs.declared.fault.FolderFault.TheVariants as folder
+use Rattle.folders.specs.Folders.{IsLockFault, IsOpened}
+use Rattle.folders.specs.SetFaults.{MayRefuse}
+use Rattle.folders.specs.Sets.{Found}
+use Rattle.folders.specs.declared.fault.FolderFault.{FolderFault}
+use Rattle.folders.specs.declared.fault.FolderFault.TheVariants as folder
 use Rattle.folder_migration.specs.Gates.{IsCleared, HasOpenGate, HaveNoOpenGate, AreLeftOpen, IsStopped}
 use Rattle.folder_migration.specs.Recovery.{HasRecovered}
 use Rattle.folder_migration.specs.Writing.{Writes}

@@ -4,11 +4,11 @@ use Rattle.disk.specs.Disk.{Call, Answer, Fault}
 use Rattle.migration.specs.Fits.{HasRoom}
 use Rattle.migration.specs.Heard.{at_first, heard, next}
 use Rattle.migration.specs.History.{IsHistory}
-use Rattle.migration.specs.Image.{Setup}
+use Rattle.paxos_block.specs.Image.{Setup}
 use Rattle.migration.specs.Kept.{end_by}
 use Rattle.migration.specs.declared.end.End.{End}
 use Rattle.dlm_images.specs.Operations.{Made, GaveOne}
-pub use Rattle.dlm_images.specs.Damage.{AreLarge}
+pub use Rattle.folders.specs.Damage.{AreLarge}
 
 -- Each call that was due was made, in turn, and its disk gave the answer.
 pub data Makes {D : Type 0} (gives : D → Call → Answer → D → Type 0) (s : Setup) (old : List D) : List Answer → List D → Type 0 where

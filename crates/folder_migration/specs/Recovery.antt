@@ -5,9 +5,9 @@ use Rattle.disk.specs.Disk.{Device, Call, Answer}
 use Rattle.attempt.specs.Answers.{Heard, Answered, heard_in}
 use Rattle.attempt.specs.Heard.{Fits}
 use Rattle.paxos_block.specs.Places.{image_length}
-use Rattle.phases.specs.declared.heard.Heard as code_heard
-use Rattle.phases.specs.Calls.{heard_of}
-use Rattle.slot_log.specs.Shape.{Shape}
+use Rattle.attempt.specs.declared.heard.Heard as code_heard
+use Rattle.attempt.specs.DeviceCalls.{heard_of}
+use Rattle.paxos_block.specs.Shape.{Shape}
 use Rattle.slot_log.specs.Alone.{IsAnsweredAlone}
 use Rattle.slot_log.specs.Kept.{Kept, LeadsTo}
 use Rattle.slot_log.specs.Learning.{Memory, fresh, goes_on, hears, takes, next_in, offered_in}

@@ -2,17 +2,17 @@
 use Rattle.std.specs.Prelude.{◌≡◌, ◌⊎◌, ℕ, List, length, Some}
 use Rattle.disk.specs.FileStates.{FileState, FileGives}
 use Rattle.disk.specs.declared.fault.DiskFault.{DiskFault}
-use Rattle.slot_log.specs.Shape.{Shape}
+use Rattle.paxos_block.specs.Shape.{Shape}
 use Rattle.host.specs.Host.{Recovering, fresh}
 use Rattle.host.specs.Kept as hosts
 use Rattle.host.specs.declared.answer.HostAnswer.TheVariants as answer
 use Rattle.migration.specs.declared.end.End.TheVariants as end
-use Rattle.dlm_images.specs.Folders.{IsLockFault, IsOpened}
+use Rattle.folders.specs.Folders.{IsLockFault, IsOpened}
 use Rattle.dlm_images.specs.Operations.{HasOperated, Standing}
-use Rattle.dlm_images.specs.SetFaults.{IsFormatFault, MayRefuse}
-use Rattle.dlm_images.specs.Sets.{Found}
-use Rattle.dlm_images.specs.declared.fault.FolderFault.TheVariants as folder
-use Rattle.dlm_images.specs.declared.host_lock.LockFault.TheVariants as lock
+use Rattle.folders.specs.SetFaults.{IsFormatFault, MayRefuse}
+use Rattle.folders.specs.Sets.{Found}
+use Rattle.folders.specs.declared.fault.FolderFault.TheVariants as folder
+use Rattle.folders.specs.declared.host_lock.LockFault.TheVariants as lock
 use Rattle.folder_migration.specs.Gates.{AreFinishedFrom, AreStoppedFrom, HaveNothingLeft}
 use Rattle.folder_migration.specs.Migrating.{AreBlank, file_device}
 use Rattle.folder_migration.specs.Renewing.{Carries, HasLocksOf, HasTooFewSlots, MayCarry}

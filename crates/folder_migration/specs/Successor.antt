@@ -1,6 +1,6 @@
 -- The files by which a folder names the set into which its log was renewed, and that which is locked meanwhile.
 use Rattle.std.specs.Prelude.{◌≡◌, ◌⊎◌, ℕ, List, [], ◌∷◌, ◌++◌, codes, decimal}
-use Rattle.slot_log.specs.Shape.{Shape}
+use Rattle.paxos_block.specs.Shape.{Shape}
 
 -- the name of the file that has the successor's line
 abbrev pub successor_name : List ℕ

@@ -1,12 +1,12 @@
 -- What a migration from old disks to new ones came to, and why one stops.
 use Rattle.std.specs.Prelude.{◌≡◌, ℕ, List, length}
 use Rattle.disk.specs.Disk.{Call, Answer}
-use Rattle.slot_log.specs.Shape.{Shape}
+use Rattle.paxos_block.specs.Shape.{Shape}
 use Rattle.slot_log.specs.declared.outcome.LogOutcome.TheVariants.{Refused as Ended}
 use Rattle.migration.specs.Kept.{setup_by}
 use Rattle.migration.specs.declared.end.End.{End}
 use Rattle.migration.specs.declared.end.End.TheVariants as end
-use Rattle.dlm_images.specs.declared.fault.FolderFault.{FolderFault}
+use Rattle.folders.specs.declared.fault.FolderFault.{FolderFault}
 use Rattle.folder_migration.specs.Moving.{HasMoved}
 use Rattle.folder_migration.specs.Recovery.{HasRecovered, RecoversTo}
 use Rattle.folder_migration.specs.declared.fault.MoveFault.{MoveFault}

@@ -1,7 +1,7 @@
 ghost use Rattle.std.specs.Prelude.{◌≡◌};
 ghost use Rattle.folder_migration.specs.declared.fault.MoveFault.TheVariants.{NoMemory, Folder, Lock};
 
-use dlm_images::{FolderFault, LockFault};
+use folders::{FolderFault, LockFault};
 use host::Refusal;
 use std::alloc::AllocError;
 use thiserror::Error;

@@ -1,5 +1,5 @@
 ghost use Rattle.std.specs.Prelude.{◌≡◌, true, false, IfErr, IfOk, OnOk, length};
-ghost use Rattle.dlm_images.specs.Layout.{header_of};
+ghost use Rattle.folders.specs.Layout.{header_of};
 ghost use Rattle.folder_migration.specs.Gates.{AreFinishedFrom, AreLeftOpen, AreStoppedFrom, HasGate, HaveNoGate, HaveNothingLeft, IsStopped};
 
 use crate::gate::{Gate, find_gate, leave_open};

@@ -1,6 +1,6 @@
 ghost use Rattle.std.specs.Prelude.{◌≡◌, ◌↔◌, ◌≤◌, IsTrue, IfErr, IfOk, OnOk};
 ghost use Rattle.torn_block.specs.declared.layout.TheConstants.{HEADER_LENGTH};
-ghost use Rattle.dlm_images.specs.Folders.{HasToldFirst, FailsToTell};
+ghost use Rattle.folders.specs.Folders.{HasToldFirst, FailsToTell};
 ghost use Rattle.folder_migration.specs.Gates.{IsOpenImage, IsClosedImage, Finds, OpensGate, FailsToOpen, SyncsGate, FailsToSync, IsLeftOpen, IsLeftUnsure};
 
 use disk::{Disk, DiskFault};

@@ -2,7 +2,7 @@ ghost use Rattle.std.specs.Prelude.{◌≡◌, ◌≤◌, OnOk};
 ghost use Rattle.folder_migration.specs.Gates.{IsCleared};
 
 use disk::{Disk, DiskFault};
-use dlm_images::put_zeros;
+use folders::put_zeros;
 
 /// Makes a disk zeros up to this size, and makes sure of them. Where a call fails no other is made.
 pub fn clear<D: Disk>(device: &mut D, size: u64) -> Result<(), DiskFault>

@@ -8,7 +8,7 @@ use crate::fault::MoveFault;
 use crate::moving::move_log;
 use crate::old_log::recover_log;
 use disk::Disk;
-use dlm_images::FolderFault;
+use folders::FolderFault;
 use host::Config;
 use migration::End;
 use std::alloc::Global;

@@ -6,7 +6,7 @@ use disk::Disk;
 use dlm_images::answer_among;
 use lock_command::Value;
 use migration::{End, Migrator};
-use slot_log::Config;
+use paxos_block::Config;
 use torn_block::{ClusterLayout, DISKS, ROW_LENGTH, SLOTS};
 
 /// No migration makes more calls: six a disk, and one a disk for each slot of the log.

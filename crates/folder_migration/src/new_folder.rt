@@ -1,14 +1,14 @@
 ghost use Rattle.std.specs.Prelude.{◌≡◌, ◌<◌, IfOk, IfErr, length};
 ghost use Rattle.torn_block.specs.Layout.{cluster_version};
 ghost use Rattle.paxos_block.specs.Places.{image_length};
-ghost use Rattle.dlm_images.specs.SetFaults.{IsFormatFault};
+ghost use Rattle.folders.specs.SetFaults.{IsFormatFault};
 ghost use Rattle.folder_migration.specs.Migrating.{AreBlank, IsBlank};
 ghost use Rattle.folder_migration.specs.RenewingFolders.{IsUnfound};
 
 use crate::image::clear;
 use crate::renew_fault::NewFault;
 use disk::{FileDisk, ImageFault};
-use dlm_images::{
+use folders::{
     Access, FolderFault, LockFault, find_folder, image_path, new_device, open_cut_to_header,
     refuse_taken, sync_folder,
 };

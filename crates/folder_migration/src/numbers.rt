@@ -1,11 +1,11 @@
 ghost use Rattle.std.specs.Prelude.{◌≡◌, IfErr, IfOk};
 ghost use Rattle.std.specs.Path.{path_buf_bytes, path_join};
-ghost use Rattle.dlm_images.specs.Folders.{IsLockFault};
-ghost use Rattle.dlm_images.specs.declared.host_lock.LockFault.TheVariants as lock;
+ghost use Rattle.folders.specs.Folders.{IsLockFault};
+ghost use Rattle.folders.specs.declared.host_lock.LockFault.TheVariants as lock;
 ghost use Rattle.folder_migration.specs.Successor.{renewal_lock_name};
 
 use crate::new_folder::first_host;
-use dlm_images::{LockFault, TryLock, lock_host, lock_path};
+use folders::{LockFault, TryLock, lock_host, lock_path};
 use lock_command::{HOSTS, HostNumber};
 use std::alloc::{AllocError, Global};
 use std::fs::{File, OpenFile, OpenOptions, TryLockError};

@@ -11,7 +11,8 @@ use crate::fault::MoveFault;
 use disk::Disk;
 use dlm_images::answer_among;
 use lock_command::{OldValue, Value, decode_old, upgrade};
-use slot_log::{Config, Learner, LogOutcome};
+use paxos_block::Config;
+use slot_log::{Learner, LogOutcome};
 use std::alloc::Global;
 use torn_block::{DISKS, Layout, Layout1, SLOTS};
 

@@ -17,7 +17,8 @@ use crate::renewal::renew_disks;
 use crate::signs::{SetFolder, carry_signs};
 use crate::successor::{SuccessorLine, name_successor, names_successor};
 use disk::FileDisk;
-use dlm_images::{DiskHost, TryLock, find_folder, lock_host, open_folder, refuse_taken};
+use dlm_images::{DiskHost, start_host};
+use folders::{TryLock, find_folder, lock_host, open_folder, refuse_taken};
 use host::Config;
 use lock_command::{ClientNumber, HostNumber};
 use lock_table::LockRecord;
@@ -72,7 +73,7 @@ where
         path: old.as_str(),
         cluster: images.cluster,
     };
-    let mut over = images.host(rt.alloc(), host)?;
+    let mut over = start_host(images, rt.alloc(), host)?;
     let commands = renew_over(
         rt,
         &mut over,

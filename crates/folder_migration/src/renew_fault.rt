@@ -1,9 +1,9 @@
 ghost use Rattle.std.specs.Prelude.{◌≡◌};
-ghost use Rattle.dlm_images.specs.declared.fault.FolderFault.TheVariants as folder;
+ghost use Rattle.folders.specs.declared.fault.FolderFault.TheVariants as folder;
 ghost use Rattle.folder_migration.specs.declared.renew_fault.NewFault.TheVariants as new;
 ghost use Rattle.folder_migration.specs.declared.renew_fault.RenewFault.TheVariants as renew;
 
-use dlm_images::{FolderFault, LockFault};
+use folders::{FolderFault, LockFault};
 use host::Refusal;
 use lock_command::ClientNumber;
 use std::alloc::AllocError;

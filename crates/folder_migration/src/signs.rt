@@ -1,10 +1,10 @@
 ghost use Rattle.std.specs.Prelude.{◌≡◌, ◌⊎◌, IfErr, IfOk};
 ghost use Rattle.std.specs.Path.{path_buf_bytes, path_join};
-ghost use Rattle.dlm_images.specs.declared.fault.FolderFault.TheVariants as folder;
-ghost use Rattle.session.specs.Signs.{sign_name};
+ghost use Rattle.folders.specs.declared.fault.FolderFault.TheVariants as folder;
+ghost use Rattle.lock_command.specs.Signs.{sign_name};
 
 use crate::renew_fault::NewFault;
-use dlm_images::{FolderFault, TryLock};
+use folders::{FolderFault, TryLock};
 use lock_command::{HostNumber, LockNumber};
 use lock_table::LockRecord;
 use std::alloc::{AllocError, Global};

@@ -5,7 +5,7 @@ ghost use Rattle.folder_migration.specs.RenewingFolders.{IsNamingFault};
 ghost use Rattle.folder_migration.specs.Successor.{IsWhole, Names, draft_name, successor_line, successor_name};
 
 use crate::renew_fault::NewFault;
-use dlm_images::{FolderFault, TryLock, sync_folder};
+use folders::{FolderFault, TryLock, sync_folder};
 use host::Config;
 use std::alloc::{AllocError, Global};
 use std::fs::{OpenFile, OpenOptions, TryLockError};

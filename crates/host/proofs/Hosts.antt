@@ -8,10 +8,9 @@ use Rattle.std.proofs.lemmas.Slice.Eq.{bytes_eq-Decides}
 use Rattle.torn_block.specs.Layout.{cluster_version}
 use Rattle.attempt.specs.Answers.{Answered, Answers, Heard, on, heard_as}
 use Rattle.attempt.specs.NextCall.{next_call}
-use Rattle.beats.specs.Calls.{device_answer}
-use Rattle.phases.specs.Calls.{heard_of}
-use Rattle.phases.specs.declared.heard.Heard as code_heard
-use Rattle.phases.specs.declared.heard.Heard.TheVariants as code_answer
+use Rattle.attempt.specs.DeviceCalls.{device_answer, heard_of}
+use Rattle.attempt.specs.declared.heard.Heard as code_heard
+use Rattle.attempt.specs.declared.heard.Heard.TheVariants as code_answer
 use Rattle.attempt.specs.Calls.{Opening}
 use Rattle.disk.specs.Disk as device
 use Rattle.attempt.specs.Numbers.{count, found, first_below}
@@ -24,7 +23,7 @@ use Rattle.lock_command.specs.Command.{spelling}
 use Rattle.lock_command.specs.Reading.{decoded, checked, command_at}
 use Rattle.lock_command.specs.declared.reply.Reply.{Reply}
 use Rattle.phases.specs.Notes.{Notes}
-use Rattle.slot_log.specs.Shape.{Shape}
+use Rattle.paxos_block.specs.Shape.{Shape}
 use Rattle.slot_log.specs.Alone as log_alone
 use Rattle.slot_log.specs.Kept as learners
 use Rattle.slot_log.specs.Kept.{AreDoing, is_idle_with, LogTask}
@@ -32,7 +31,7 @@ use Rattle.slot_log.specs.Learning as log
 use Rattle.slot_log.specs.Learning.{offered_by, offered_in}
 use Rattle.slot_log.specs.declared.outcome.LogOutcome.{LogOutcome}
 use Rattle.slot_log.specs.declared.outcome.LogOutcome.TheVariants as outcome
-use Rattle.slot_log.specs.declared.outcome.Refusal.TheVariants as refusal
+use Rattle.attempt.specs.declared.refusal.Refusal.TheVariants as refusal
 use Rattle.host.specs.declared.answer.HostAnswer.{HostAnswer}
 use Rattle.host.specs.declared.answer.HostAnswer.TheVariants.{Ack, Recovered, Looked, Beaten, Marked, Refused}
 use Rattle.host.specs.Alone.{IsAnsweredAlone}

@@ -1,44 +1,43 @@
 -- What a host has under way beside its learner, or by it, goes on and ends as the host's definition says; and how a task begins.
 use Rattle.std.proofs.Common.{◌≡◌, ◌≤◌, ◌*◌, ◌&&◌, ℕ, Bool, true, false, zero, suc, List, [], ◌∷◌, ◌++◌, ◌<◌, get_or, length, map, Option, Some, None, refl, sym, ◌∙◌, ap, subst, arith, length-append, if◌then◌else◌}
 use Rattle.std.specs.Prelude.{is_none, slice_get, take}
-use Rattle.beats.specs.Notes as beat_notes
-use Rattle.marks.specs.Notes as mark_notes
-use Rattle.marks.specs.declared.end.End as mark_end
-use Rattle.marks.specs.declared.end.End.TheVariants as mark_ends
-use Rattle.marks.specs.Kept as mark_kept
-use Rattle.marks.specs.Status as mark
-use Rattle.looks.specs.declared.notes.Notes as look_notes
-use Rattle.looks.specs.declared.end.End as look_end
-use Rattle.looks.specs.declared.end.End.TheVariants as look_ends
-use Rattle.looks.specs.Kept as look_kept
-use Rattle.looks.specs.Status as look
+use Rattle.rounds.specs.Beat.Notes as beat_notes
+use Rattle.rounds.specs.Marking.Notes as mark_notes
+use Rattle.rounds.specs.declared.marks.end.End as mark_end
+use Rattle.rounds.specs.declared.marks.end.End.TheVariants as mark_ends
+use Rattle.rounds.specs.Marking.Kept as mark_kept
+use Rattle.rounds.specs.Marking.Status as mark
+use Rattle.rounds.specs.declared.looks.notes.Notes as look_notes
+use Rattle.rounds.specs.declared.looks.end.End as look_end
+use Rattle.rounds.specs.declared.looks.end.End.TheVariants as look_ends
+use Rattle.rounds.specs.Look.Kept as look_kept
+use Rattle.rounds.specs.Look.Status as look
 use Rattle.std.specs.Option.{option_map}
 use Rattle.std.proofs.lemmas.List.{length-map}
 use Rattle.std.proofs.lemmas.Bool.{lt-ltb, le-ltb}
 use Rattle.torn_block.specs.Layout.{cluster_version}
 use Rattle.attempt.specs.Answers.{Answered, Heard, on}
 use Rattle.heartbeat.specs.Suggesting.{Readings}
-use Rattle.beats.specs.Answers as beat_answers
-use Rattle.beats.specs.Calls.{device_answer}
-use Rattle.beats.specs.Kept as beat_kept
-use Rattle.beats.specs.Status as beat
-use Rattle.beats.specs.declared.end.End as code_end
-use Rattle.beats.specs.declared.end.End.TheVariants as code_ends
-use Rattle.phases.specs.Calls.{heard_of}
-use Rattle.phases.specs.declared.heard.Heard as code_heard
+use Rattle.rounds.specs.Beat.Answers as beat_answers
+use Rattle.attempt.specs.DeviceCalls.{device_answer, heard_of}
+use Rattle.rounds.specs.Beat.Kept as beat_kept
+use Rattle.rounds.specs.Beat.Status as beat
+use Rattle.rounds.specs.declared.beats.end.End as code_end
+use Rattle.rounds.specs.declared.beats.end.End.TheVariants as code_ends
+use Rattle.attempt.specs.declared.heard.Heard as code_heard
 use Rattle.disk.specs.Disk as device
 use Rattle.attempt.specs.Numbers.{count}
 use Rattle.lock_command.specs.declared.command.Command.{Command}
 use Rattle.lock_command.specs.Command.{spelling}
 use Rattle.lock_command.specs.Reading.{decoded}
-use Rattle.slot_log.specs.Shape.{Shape}
+use Rattle.paxos_block.specs.Shape.{Shape}
 use Rattle.slot_log.specs.Alone as log_alone
 use Rattle.slot_log.specs.Kept as learners
 use Rattle.slot_log.specs.Kept.{AreDoing, is_idle_with, LogTask}
 use Rattle.slot_log.specs.Learning as log
 use Rattle.slot_log.specs.Learning.{offered_by, offered_in}
 use Rattle.slot_log.specs.declared.outcome.LogOutcome.{LogOutcome}
-use Rattle.slot_log.specs.declared.outcome.Refusal.TheVariants as refusal
+use Rattle.attempt.specs.declared.refusal.Refusal.TheVariants as refusal
 use Rattle.host.specs.declared.answer.HostAnswer.{HostAnswer}
 use Rattle.host.specs.declared.answer.HostAnswer.TheVariants.{Looked, Beaten, Marked, Refused}
 use Rattle.host.specs.Alone.{IsAnsweredAlone, HasHeardFew}

@@ -2,7 +2,7 @@
 use Rattle.std.specs.Prelude.{◌<◌, ◌*◌, ℕ, [], ◌∷◌, ◌++◌, length, Option, Some}
 use Rattle.attempt.specs.Answers.{Answered}
 use Rattle.slot_log.specs.Alone.{IsAnsweredIn}
-use Rattle.slot_log.specs.Shape.{Shape}
+use Rattle.paxos_block.specs.Shape.{Shape}
 use Rattle.host.specs.Host.{Memory, Doing, Attempts, Looks, Beats, Marks, setup_of}
 
 -- the attempt under way, with one more answer, has heard at most seventeen a disk, and is served where the other hosts

@@ -8,17 +8,17 @@ use Rattle.attempt.specs.Status.{Status, Due, Ended, End, status, taken}
 use Rattle.attempt.specs.Status as attempt
 use Rattle.attempt.specs.NextCall.{next_call}
 use Rattle.heartbeat.specs.Suggesting.{Readings, suggestion}
-use Rattle.beats.specs.Answers as beat_answers
-use Rattle.beats.specs.Status as beat
-use Rattle.marks.specs.Status as mark
-use Rattle.looks.specs.Status as look
+use Rattle.rounds.specs.Beat.Answers as beat_answers
+use Rattle.rounds.specs.Beat.Status as beat
+use Rattle.rounds.specs.Marking.Status as mark
+use Rattle.rounds.specs.Look.Status as look
 use Rattle.lock_command.specs.declared.command.Command.{Command}
 use Rattle.lock_command.specs.Command.{spelling}
 use Rattle.lock_command.specs.Reading.{decoded}
 use Rattle.lock_command.specs.declared.reply.Reply.{Reply}
 use Rattle.lock_table.specs.Apply.{applied, table_after}
-use Rattle.slot_log.specs.Shape.{Shape}
-use Rattle.slot_log.specs.declared.outcome.Refusal.TheVariants as refusal
+use Rattle.paxos_block.specs.Shape.{Shape}
+use Rattle.attempt.specs.declared.refusal.Refusal.TheVariants as refusal
 use Rattle.host.specs.declared.answer.HostAnswer.{HostAnswer}
 use Rattle.host.specs.declared.answer.HostAnswer.TheVariants.{Ack, Recovered, Looked, Beaten, Marked, Refused}
 use Rattle.host.specs.declared.task.Task.{Task}

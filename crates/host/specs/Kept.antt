@@ -5,15 +5,15 @@ use Rattle.disk.specs.Disk as device
 use Rattle.lock_command.specs.declared.command.Command.{Command}
 use Rattle.lock_command.specs.Command.{spelling}
 use Rattle.lock_command.specs.declared.reply.Reply.{Reply}
-use Rattle.slot_log.specs.Shape.{Shape}
+use Rattle.paxos_block.specs.Shape.{Shape}
 use Rattle.heartbeat.specs.Suggesting.{Readings}
-use Rattle.beats.specs.Answers.{Answered}
-use Rattle.beats.specs.Kept as beat_kept
-use Rattle.beats.specs.Notes as beat_notes
-use Rattle.marks.specs.Kept as mark_kept
-use Rattle.marks.specs.Notes as mark_notes
-use Rattle.looks.specs.Kept as look_kept
-use Rattle.looks.specs.declared.notes.Notes as look_notes
+use Rattle.rounds.specs.Beat.Answers.{Answered}
+use Rattle.rounds.specs.Beat.Kept as beat_kept
+use Rattle.rounds.specs.Beat.Notes as beat_notes
+use Rattle.rounds.specs.Marking.Kept as mark_kept
+use Rattle.rounds.specs.Marking.Notes as mark_notes
+use Rattle.rounds.specs.Look.Kept as look_kept
+use Rattle.rounds.specs.declared.looks.notes.Notes as look_notes
 use Rattle.torn_block.specs.Layout.{cluster_version}
 use Rattle.slot_log.specs.Kept as learners
 use Rattle.slot_log.specs.Learning as log

@@ -1,5 +1,6 @@
+use attempt::Refusal;
 use lock_table::Reply;
-use slot_log::{LogOutcome, Refusal};
+use slot_log::LogOutcome;
 
 /// How an operation ended.
 #[derive(Clone, Copy, Debug, PartialEq, Eq)]

@@ -1,9 +1,9 @@
 ghost use Rattle.std.specs.Prelude.{◌≡◌};
 ghost use Rattle.host.specs.Kept.{is_nothing};
 
-use beats::Beat;
-use looks::Look;
-use marks::Marking;
+use rounds::beats::Beat;
+use rounds::looks::Look;
+use rounds::marks::Marking;
 
 /// What a host has under way beside the attempts of its learner.
 #[derive(Drop)]

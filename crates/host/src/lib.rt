@@ -7,6 +7,7 @@ mod host_core;
 mod task;
 
 pub use answer::HostAnswer;
+pub use attempt::Refusal;
 pub use host_core::HostCore;
-pub use slot_log::{Config, Refusal};
+pub use paxos_block::Config;
 pub use task::Task;

@@ -1,4 +1,4 @@
-use dlm_images::{Finding, check_folder, format_folder, open_folder_to_read};
+use folders::{Finding, check_folder, format_folder, open_folder_to_read};
 use host::Config;
 use std::fs;
 use std::test::Fail;

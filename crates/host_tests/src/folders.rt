@@ -2,12 +2,12 @@ ghost use Rattle.std.specs.Prelude.{◌≡◌, true, IfSome};
 ghost use Rattle.lock_command.specs.Command.{is_submittable};
 
 use disk::Disk;
-use dlm_images::{DiskHost, format_folder, open_folder, open_folder_to_read};
+use dlm_images::{DiskHost, start_host};
+use folders::{format_folder, open_folder, open_folder_to_read};
 use host::{Config, Refusal};
 use lock_command::{
-    Action, ClientNumber, Command, HostNumber, LockName, LockNumber, RequestNumber,
+    Action, ClientNumber, Command, HostNumber, LockName, LockNumber, Mode, RequestNumber,
 };
-use lock_modes::Mode;
 use lock_table::{Answer, LockValue, Reply};
 use std::fs;
 use std::test::Fail;
@@ -48,7 +48,7 @@ fn submitted_and_marked<D: Disk>(host: &mut DiskHost<D>) -> Option<(Reply, u8)> 
 fn submit(rt: &HostRuntime, folder: &str) -> Result<Option<(Reply, u8)>, Fail> {
     let number = HostNumber::new(0).ok_or("a host")?;
     let folder = open_folder(rt, folder)?;
-    let mut host = folder.host(rt.alloc(), number)?;
+    let mut host = start_host(folder, rt.alloc(), number)?;
     Ok(submitted_and_marked(&mut host))
 }
 
@@ -64,7 +64,7 @@ fn looked_and_refused<D: Disk>(host: &mut DiskHost<D>) -> Option<(u16, Refusal)>
 fn read(rt: &HostRuntime, folder: &str) -> Result<Option<(u16, Refusal)>, Fail> {
     let number = HostNumber::new(1).ok_or("a host")?;
     let folder = open_folder_to_read(rt, folder)?;
-    let mut host = folder.host(rt.alloc(), number)?;
+    let mut host = start_host(folder, rt.alloc(), number)?;
     Ok(looked_and_refused(&mut host))
 }
 

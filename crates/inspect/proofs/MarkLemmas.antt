@@ -4,12 +4,12 @@ use Rattle.std.proofs.lemmas.List.{get_or-set_same, get_or-set_other, get_or_app
 use Rattle.std.proofs.Math.Seq.{get_or-append_seam}
 use Rattle.std.proofs.lemmas.Option.{get_or_from_slice_get, slice_get_read}
 use Rattle.std.proofs.lemmas.Bool.{eqb-true, eqb-false}
-use Rattle.lock_index.specs.declared.record.LockRecord.{LockRecord}
+use Rattle.lock_command.specs.declared.record.LockRecord.{LockRecord}
 use Rattle.lock_command.specs.Name.{same_name}
 use Rattle.lock_index.proofs.Apart.{and_first, name_is, same_name-itself}
 use Rattle.inspect.specs.Blocked.{IsBlockedBy, is_blocked_by, is_held_against, in_one_queue, is_in_the_way}
 use Rattle.inspect.specs.Marks.{ArePlaces, HasNameOf, HasWanting, IsListed, ListsWanting, IsQueue, IsRun, IsSeen, Marked, MarksPair, MarksPlace, MarksRun}
-use Rattle.lock_index.specs.State.{is_waiting, is_converting}
+use Rattle.lock_command.specs.State.{is_waiting, is_converting}
 use Rattle.lock_command.specs.declared.state.LockState.{LockState}
 use Rattle.lock_command.specs.declared.state.LockState.TheVariants.{Granted, Converting, Waiting}
 

@@ -1,7 +1,7 @@
 -- A table of edges between clients, a flag for each pair of them.
 use Rattle.std.specs.Prelude.{◌≡◌, ◌<◌, ◌≤◌, ◌+◌, ◌*◌, ℕ, Bool, true, false, List, slice_index_or, slice_get, Some, length, ◌||◌}
-use Rattle.lock_index.specs.declared.record.LockRecord.{LockRecord}
-use Rattle.lock_index.specs.State.{is_converting, is_waiting}
+use Rattle.lock_command.specs.declared.record.LockRecord.{LockRecord}
+use Rattle.lock_command.specs.State.{is_converting, is_waiting}
 use Rattle.inspect.specs.Blocked.{is_blocked_by}
 
 -- the flag of a pair

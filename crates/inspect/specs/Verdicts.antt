@@ -1,6 +1,6 @@
 -- What is said of a picture's clients: that they wait in a circle, or ranks that show that they do not.
 use Rattle.std.specs.Prelude.{List}
-use Rattle.lock_index.specs.declared.record.LockRecord.{LockRecord}
+use Rattle.lock_command.specs.declared.record.LockRecord.{LockRecord}
 use Rattle.inspect.specs.declared.verdict.Blocking.{Blocking}
 use Rattle.inspect.specs.declared.verdict.Blocking.TheVariants.{Cycle, Ranked}
 use Rattle.inspect.specs.Blocked.{IsBlockedBy, IsCycle, AreRanks}

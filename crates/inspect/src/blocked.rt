@@ -1,9 +1,9 @@
 ghost use Rattle.std.specs.Prelude.{◌≡◌, ◌||◌, ℕ, false};
-ghost use Rattle.lock_index.specs.State.{is_converting, is_waiting};
-ghost use Rattle.lock_index.specs.declared.record.LockRecord.{LockRecord};
+ghost use Rattle.lock_command.specs.State.{is_converting, is_waiting};
+ghost use Rattle.lock_command.specs.declared.record.LockRecord.{LockRecord};
 ghost use Rattle.inspect.specs.Blocked.{is_held_against, in_one_queue, is_in_the_way, is_blocked_by};
 
-use lock_modes::{Mode, compatible};
+use lock_command::{Mode, compatible};
 use lock_table::{LockRecord, LockState};
 
 /// Whether lock `y`, at place `j` of a picture, keeps lock `x`, at place `i`, from what it wants, where both have one name.

@@ -1,6 +1,6 @@
 ghost use Rattle.std.specs.Prelude.{◌≡◌, ◌⊎◌, ◌+◌, ◌*◌, ◌<◌, ◌≤◌, true, false, ℕ, Some, [], length, slice_get, slice_index_or};
-ghost use Rattle.lock_index.specs.State.{is_waiting};
-ghost use Rattle.lock_index.specs.declared.record.LockRecord.{LockRecord};
+ghost use Rattle.lock_command.specs.State.{is_waiting};
+ghost use Rattle.lock_command.specs.declared.record.LockRecord.{LockRecord};
 ghost use Rattle.inspect.specs.Blocked.{IsBlockedBy};
 ghost use Rattle.inspect.specs.Marks.{ArePlaces, HasNameOf, IsQueue, IsRun, IsSeen, ListsWanting, Marked, MarksPair, MarksPlace, MarksRun};
 

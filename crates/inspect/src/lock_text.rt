@@ -2,7 +2,7 @@ ghost use Rattle.std.specs.Prelude.{◌≡◌, OnOk};
 ghost use Rattle.std.specs.Io.KnownBytes.{Appends};
 ghost use Rattle.inspect.specs.Text.{state_word, mode_words, mode_name, word, lock_line};
 
-use lock_modes::Mode;
+use lock_command::Mode;
 use lock_table::{LockRecord, LockState};
 use std::io;
 use std::io::Write;

@@ -4,7 +4,7 @@ use Rattle.std.proofs.Common.{ℕ, ◌≤◌, ◌≡◌, ◌==◌, Bool, true, f
 use Rattle.std.proofs.lemmas.List.{length-replicate}
 use Rattle.std.proofs.lemmas.Bool.{leb-true, eqb-true}
 use Rattle.byteorder.specs.Numbers.{length-bytes_high_first}
-use Rattle.lock_modes.specs.declared.mode.Mode.{Mode}
+use Rattle.lock_command.specs.declared.mode.Mode.{Mode}
 use Rattle.lock_command.specs.declared.command.Command.{Command}
 use Rattle.lock_command.specs.declared.command.Action.{Action}
 use Rattle.lock_command.specs.declared.command.Action.TheVariants.{Enqueue, Convert, Release, Cancel, Status, Purge, QuietPurge, CarryLock, CarryClient}

@@ -1,9 +1,9 @@
+use crate::mode::Mode;
 use crate::name::LockName;
 use crate::number::{ClientNumber, HostNumber, LockNumber, RequestNumber};
 use crate::reply::{LockValue, Reply};
 use crate::state::LockState;
 use crate::value::ValueBytes;
-use lock_modes::Mode;
 
 /// What a client asks of the lock table, and through which host.
 #[derive(Clone, Copy, Debug)]

@@ -3,11 +3,11 @@ ghost use Rattle.lock_command.specs.declared.value.TheConstants.{LOCK_VALUE_LENG
 ghost use Rattle.lock_command.specs.Old.{same_action, as_today, IsOldSpelling, PurgesOld, IsOld, upgraded_action, upgraded};
 
 use crate::command::{Action, Command};
+use crate::mode::Mode;
 use crate::name::LockName;
 use crate::number::{ClientNumber, HostNumber, LockNumber, RequestNumber};
 use crate::reading::decode;
 use crate::spelling::{COMMAND_LENGTH, VALUE_AT, Value};
-use lock_modes::Mode;
 
 /// The most hosts that a cluster of the first layout has.
 pub const OLD_HOSTS: u8 = 8;

@@ -3,6 +3,7 @@ ghost use Rattle.lock_command.specs.Command.{spelling, Fits as FitsCommand};
 ghost use Rattle.lock_command.specs.Reading.{host_of, lock_at, request_at, mode_of, name_at, no_queue_at, value_at, enqueue_at, convert_at, state_of, state_at, count_at, answer_at, told_of, told_at, carried_lock_at, carried_client_at, action_at, command_at, decoded};
 
 use crate::command::{Action, Command};
+use crate::mode::Mode;
 use crate::name::LockName;
 use crate::number::{ClientNumber, HostNumber, LockNumber, RequestNumber};
 use crate::reply::{Answer, LockValue, Refusal, Reply};
@@ -10,7 +11,6 @@ use crate::spelling::{ANSWER_AT, NAME_AT, PURGED_AT, VALUE_AT, Value};
 use crate::state::LockState;
 use crate::value::{LOCK_VALUE_LENGTH, ValueBytes};
 use byteorder::{BigEndian, ByteOrder};
-use lock_modes::Mode;
 
 fn host_of(byte: u8) -> Option<HostNumber>
     ensures { result ≡ host_of byte }

@@ -1,4 +1,4 @@
-use lock_modes::Mode;
+use crate::mode::Mode;
 
 /// What a lock holds and what it wants.
 #[derive(Clone, Copy, Debug, PartialEq, Eq)]

@@ -2,10 +2,10 @@
 use Rattle.std.proofs.Common.{◌≡◌, ℕ, Bool, true, false, cond, not, ◌&&◌, List, [], ◌∷◌, ◌++◌, length, sym, ap, ◌∙◌, arith}
 use Rattle.std.specs.List.{filter, list_any}
 use Rattle.std.proofs.lemmas.List.Elements.{filter-append}
-use Rattle.lock_modes.specs.declared.mode.Mode.{Mode}
-use Rattle.lock_index.specs.declared.record.LockRecord.{LockRecord}
-use Rattle.lock_index.specs.State.{goal_of, is_queued}
-use Rattle.lock_index.specs.Locks.{is_lock, is_on, lock_in, without, put, converts_on, waits_on, queue, has_queue, stands_against, admits, granted, grant_from, settled, IsDistinct}
+use Rattle.lock_command.specs.declared.mode.Mode.{Mode}
+use Rattle.lock_command.specs.declared.record.LockRecord.{LockRecord}
+use Rattle.lock_command.specs.State.{goal_of, is_queued}
+use Rattle.lock_command.specs.Locks.{is_lock, is_on, lock_in, without, put, converts_on, waits_on, queue, has_queue, stands_against, admits, granted, grant_from, settled, IsDistinct}
 use Rattle.lock_index.specs.Printed.{HasSameLocks}
 use Rattle.lock_index.proofs.Parts.{filter-filter, any_alike, find_alike, length_alike}
 

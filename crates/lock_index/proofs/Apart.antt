@@ -5,11 +5,11 @@ use Rattle.std.specs.Cmp.Lexicographic.{same_text}
 use Rattle.std.proofs.lemmas.Bool.{eq-eqb}
 use Rattle.std.proofs.lemmas.List.Elements.{filter-append}
 use Rattle.std.proofs.lemmas.List.Folds.{list_any-append}
-use Rattle.lock_modes.specs.declared.mode.Mode.{Mode}
+use Rattle.lock_command.specs.declared.mode.Mode.{Mode}
 use Rattle.lock_command.specs.Name.{same_name}
-use Rattle.lock_index.specs.declared.record.LockRecord.{LockRecord}
-use Rattle.lock_index.specs.State.{goal_of}
-use Rattle.lock_index.specs.Locks.{is_lock, is_on, without, put, converts_on, waits_on, conversions, waiting, queue, stands_against, admits, granted, grant_from, settled, settled_all, IsDistinct}
+use Rattle.lock_command.specs.declared.record.LockRecord.{LockRecord}
+use Rattle.lock_command.specs.State.{goal_of}
+use Rattle.lock_command.specs.Locks.{is_lock, is_on, without, put, converts_on, waits_on, conversions, waiting, queue, stands_against, admits, granted, grant_from, settled, settled_all, IsDistinct}
 use Rattle.lock_index.proofs.Parts.{filter-filter, filter_within, any_within}
 use Rattle.lock_index.proofs.Numbered.{numbered, numbered-cons, numbered-parts, without_absent, IsDistinct-put}
 use Rattle.lock_index.proofs.Turns.{filter-put}

@@ -1,14 +1,14 @@
 -- Bits tell which modes conflict.
 use Rattle.std.proofs.Common.{◌≡◌, ◌==◌, ℕ, not, List, length, get_or, ◌<◌, refl, ap, ◌∙◌, bit_and}
 use Rattle.std.proofs.lemmas.List.{get_or-map}
-use Rattle.lock_modes.specs.declared.mode.Mode.{Mode}
-use Rattle.lock_modes.specs.declared.mode.Mode.TheVariants.{Null, ConcurrentRead, ConcurrentWrite, ProtectedRead, ProtectedWrite, Exclusive}
-use Rattle.lock_modes.specs.Mode.{conflict, writes_alone}
-use Rattle.lock_index.specs.declared.record.LockRecord.{LockRecord}
+use Rattle.lock_command.specs.declared.mode.Mode.{Mode}
+use Rattle.lock_command.specs.declared.mode.Mode.TheVariants.{Null, ConcurrentRead, ConcurrentWrite, ProtectedRead, ProtectedWrite, Exclusive}
+use Rattle.lock_command.specs.Mode.{conflict, writes_alone}
+use Rattle.lock_command.specs.declared.record.LockRecord.{LockRecord}
 use Rattle.lock_command.specs.declared.state.LockState.{LockState}
 use Rattle.lock_command.specs.declared.state.LockState.TheVariants.{Granted, Converting, Waiting}
 use Rattle.lock_index.specs.declared.bits.TheConstants.{WRITERS}
-use Rattle.lock_index.specs.State.{holds_against, is_writer}
+use Rattle.lock_command.specs.State.{holds_against, is_writer}
 use Rattle.lock_index.specs.Bits.{bit_of, bits_against, held_bit, held_bits}
 
 bits_conflict : (held wanted : Mode) → not (bit_and (bit_of held) (bits_against wanted) == 0) ≡ conflict held wanted

@@ -13,9 +13,9 @@ use Rattle.std.proofs.lemmas.List.Edits.{length-insert, get_or-insert_at, get_or
 use Rattle.lock_command.specs.Name.{IsName}
 use Rattle.lock_command.specs.declared.state.LockState.{LockState}
 use Rattle.lock_command.specs.declared.state.LockState.TheVariants.{Granted, Converting, Waiting}
-use Rattle.lock_index.specs.declared.record.LockRecord.{LockRecord}
-use Rattle.lock_index.specs.State.{is_queued}
-use Rattle.lock_index.specs.Locks.{is_on, head_of}
+use Rattle.lock_command.specs.declared.record.LockRecord.{LockRecord}
+use Rattle.lock_command.specs.State.{is_queued}
+use Rattle.lock_command.specs.Locks.{is_on, head_of}
 use Rattle.lock_index.specs.Printed.{rank_of, number_among, printed_cmp}
 use Rattle.lock_index.specs.Indexed.{stands_before_rank, IsGrantedEnd, IsGrantedGroup}
 use Rattle.lock_index.specs.Keys.{key_of, lock_key, HasKey}

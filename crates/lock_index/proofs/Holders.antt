@@ -9,12 +9,12 @@ use Rattle.std.specs.declared.cmp.Ordering.TheVariants.{Less, Equal, Greater}
 use Rattle.std.proofs.lemmas.Cmp.{nat_list_cmp_total}
 use Rattle.std.proofs.lemmas.Bool.{cases_lt, le-ltb}
 use Rattle.std.proofs.lemmas.List.{take-append-drop, drop_more}
-use Rattle.lock_modes.specs.declared.mode.Mode.{Mode}
-use Rattle.lock_index.specs.declared.record.LockRecord.{LockRecord}
+use Rattle.lock_command.specs.declared.mode.Mode.{Mode}
+use Rattle.lock_command.specs.declared.record.LockRecord.{LockRecord}
 use Rattle.lock_command.specs.declared.state.LockState.{LockState}
 use Rattle.lock_command.specs.declared.state.LockState.TheVariants.{Granted, Converting, Waiting}
-use Rattle.lock_index.specs.State.{holds_against}
-use Rattle.lock_index.specs.Locks.{is_lock, is_on, stands_against, admits}
+use Rattle.lock_command.specs.State.{holds_against}
+use Rattle.lock_command.specs.Locks.{is_lock, is_on, stands_against, admits}
 use Rattle.lock_index.specs.Printed.{rank_of, number_among, printed_cmp}
 use Rattle.lock_index.specs.Indexed.{stands_before_rank}
 use Rattle.lock_index.proofs.Ordered.{Each, IsAscending, each_more}

@@ -3,8 +3,8 @@ use Rattle.std.proofs.Common.{◌≡◌, ◌≢◌, ◌≤◌, ◌<◌, ℕ, tru
 use Rattle.std.specs.List.{AllWithin}
 use Rattle.std.proofs.lemmas.Bool.{eqb-true, eqb-false, ne_eqb}
 use Rattle.std.proofs.lemmas.List.{get_or-map}
-use Rattle.lock_index.specs.declared.record.LockRecord.{LockRecord}
-use Rattle.lock_index.specs.Locks.{is_through}
+use Rattle.lock_command.specs.declared.record.LockRecord.{LockRecord}
+use Rattle.lock_command.specs.Locks.{is_through}
 use Rattle.lock_index.specs.Shelved.{at_place, at_places, times, idle, is_through_host, IsShelved, IsHosted}
 use Rattle.lock_index.proofs.Places.{times-insert, times-remove, as_many, listed_place}
 

@@ -2,7 +2,7 @@
 use Rattle.std.proofs.Common.{◌≡◌, ◌≤◌, ◌<◌, ℕ, true, false, cond, ◌==◌, List, [], length, get_or, set, insert, remove, replicate, refl, sym, ap, ◌∙◌, inl, inr, arith}
 use Rattle.std.proofs.lemmas.Bool.{cases_lt, eqb-true, eqb-false}
 use Rattle.std.proofs.lemmas.List.{get_or-map, get_or-replicate, get_or_past, get_or-set_same, get_or-set_other, length-replicate}
-use Rattle.lock_index.specs.declared.record.LockRecord.{LockRecord}
+use Rattle.lock_command.specs.declared.record.LockRecord.{LockRecord}
 use Rattle.lock_index.specs.Shelved.{no_lock, at_place, at_places, times, idle, IsShelved, IsNumbered}
 use Rattle.lock_index.proofs.Places.{times-insert, times-remove, listed_place, as_many, place_inside}
 use Rattle.lock_index.proofs.Standing.{stands_somewhere}

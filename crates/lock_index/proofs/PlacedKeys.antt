@@ -2,7 +2,7 @@
 use Rattle.std.proofs.Common.{◌≡◌, ◌≤◌, ◌<◌, ◌+◌, ℕ, true, false, cond, ◌==◌, List, length, get_or, set, insert, remove, refl, sym, ap, subst, ◌∙◌, arith}
 use Rattle.std.proofs.lemmas.Bool.{eqb-true, eqb-false}
 use Rattle.std.proofs.lemmas.List.{get_or-map, get_or-set_same, get_or-set_other}
-use Rattle.lock_index.specs.declared.record.LockRecord.{LockRecord}
+use Rattle.lock_command.specs.declared.record.LockRecord.{LockRecord}
 use Rattle.lock_index.specs.Shelved.{no_lock, at_place, at_places, times, idle, IsShelved}
 use Rattle.lock_index.specs.Keys.{lock_key, HasKey, IsKeyed}
 use Rattle.lock_index.proofs.Places.{times-insert, times-remove, listed_place}

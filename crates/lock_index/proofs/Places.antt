@@ -5,7 +5,7 @@ use Rattle.std.proofs.lemmas.Bool.{eq-eqb, le-leb, ltb-true, ltb-false}
 use Rattle.std.proofs.lemmas.List.{take-append-drop, drop_more, get_or-map, length-map, length-set, get_or-set_same, get_or-set_other, get_or_read}
 use Rattle.std.proofs.lemmas.List.Edits.{length-insert, length-remove}
 use Rattle.std.proofs.lemmas.List.Elements.{filter-append}
-use Rattle.lock_index.specs.declared.record.LockRecord.{LockRecord}
+use Rattle.lock_command.specs.declared.record.LockRecord.{LockRecord}
 use Rattle.lock_index.specs.Shelved.{no_lock, at_place, at_places, times, idle, IsShelved}
 
 pub times-append : (p : ℕ) (xs ys : List ℕ) → times p (xs ++ ys) ≡ times p xs + times p ys

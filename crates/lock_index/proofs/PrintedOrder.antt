@@ -7,11 +7,11 @@ use Rattle.std.specs.declared.cmp.Ordering.{Ordering}
 use Rattle.std.specs.declared.cmp.Ordering.TheVariants.{Equal}
 use Rattle.std.proofs.lemmas.Cmp.{then_total, on_total, nat_cmp_total, nat_list_cmp_total, tied_itself}
 use Rattle.std.proofs.lemmas.List.MinMax.{ranks_by}
-use Rattle.lock_index.specs.declared.record.LockRecord.{LockRecord}
+use Rattle.lock_command.specs.declared.record.LockRecord.{LockRecord}
 use Rattle.lock_command.specs.declared.state.LockState.{LockState}
 use Rattle.lock_command.specs.declared.state.LockState.TheVariants.{Granted, Converting, Waiting}
-use Rattle.lock_index.specs.State.{is_converting, is_waiting}
-use Rattle.lock_index.specs.Locks.{is_lock, is_on, converts_on, waits_on, IsDistinct}
+use Rattle.lock_command.specs.State.{is_converting, is_waiting}
+use Rattle.lock_command.specs.Locks.{is_lock, is_on, converts_on, waits_on, IsDistinct}
 use Rattle.lock_index.specs.Printed.{rank_of, number_among, printed_cmp, HasSameLocks}
 use Rattle.lock_index.specs.Placed.{in_order}
 use Rattle.lock_index.proofs.Apart.{name_is}

@@ -8,11 +8,11 @@ use Rattle.std.specs.declared.cmp.Ordering.{Ordering}
 use Rattle.std.specs.declared.cmp.Ordering.TheVariants.{Less, Equal, Greater}
 use Rattle.std.proofs.lemmas.Cmp.{nat_list_cmp_total, tied_itself}
 use Rattle.std.proofs.lemmas.List.{take-append-drop}
-use Rattle.lock_index.specs.declared.record.LockRecord.{LockRecord}
+use Rattle.lock_command.specs.declared.record.LockRecord.{LockRecord}
 use Rattle.lock_command.specs.declared.state.LockState.{LockState}
 use Rattle.lock_command.specs.declared.state.LockState.TheVariants.{Granted, Converting, Waiting}
-use Rattle.lock_index.specs.State.{is_converting, is_waiting, is_queued}
-use Rattle.lock_index.specs.Locks.{is_on, option_or, converts_on, waits_on, head_of, has_queue}
+use Rattle.lock_command.specs.State.{is_converting, is_waiting, is_queued}
+use Rattle.lock_command.specs.Locks.{is_on, option_or, converts_on, waits_on, head_of, has_queue}
 use Rattle.lock_index.specs.Printed.{rank_of, number_among, printed_cmp}
 use Rattle.lock_index.specs.Indexed.{stands_before_rank}
 use Rattle.lock_index.proofs.Parts.{first}

@@ -9,9 +9,9 @@ use Rattle.std.proofs.lemmas.List.{set_split}
 use Rattle.std.proofs.lemmas.List.Sorted.{sorted_far}
 use Rattle.lock_command.specs.declared.state.LockState.{LockState}
 use Rattle.lock_command.specs.declared.state.LockState.TheVariants.{Granted, Converting, Waiting}
-use Rattle.lock_index.specs.declared.record.LockRecord.{LockRecord}
-use Rattle.lock_index.specs.State.{is_queued}
-use Rattle.lock_index.specs.Locks.{is_lock, without, in_state, IsDistinct}
+use Rattle.lock_command.specs.declared.record.LockRecord.{LockRecord}
+use Rattle.lock_command.specs.State.{is_queued}
+use Rattle.lock_command.specs.Locks.{is_lock, without, in_state, IsDistinct}
 use Rattle.lock_index.specs.Printed.{rank_of, number_among, printed_cmp}
 use Rattle.lock_index.specs.Placed.{placed}
 use Rattle.lock_index.specs.Indexed.{stands_before_rank}

@@ -2,9 +2,9 @@
 use Rattle.std.proofs.Common.{◌≡◌, ◌≤◌, ℕ, Bool, true, false, cond, ◌||◌, List, [], ◌∷◌, length, Some, None, refl, sym, ap, ◌∙◌, arith}
 use Rattle.std.specs.List.{filter, list_any}
 use Rattle.lock_command.specs.Name.{same_name}
-use Rattle.lock_index.specs.declared.record.LockRecord.{LockRecord}
-use Rattle.lock_index.specs.State.{goal_of}
-use Rattle.lock_index.specs.Locks.{is_lock, is_on, put, queue, head_of, admits, granted, grant_from, settled, settled_all, IsDistinct, IsSettled}
+use Rattle.lock_command.specs.declared.record.LockRecord.{LockRecord}
+use Rattle.lock_command.specs.State.{goal_of}
+use Rattle.lock_command.specs.Locks.{is_lock, is_on, put, queue, head_of, admits, granted, grant_from, settled, settled_all, IsDistinct, IsSettled}
 use Rattle.lock_index.specs.Printed.{HasSameLocks}
 use Rattle.lock_index.proofs.Parts.{filter-filter}
 use Rattle.lock_index.proofs.Numbered.{IsDistinct-put, IsDistinct-filter}

@@ -7,9 +7,9 @@ use Rattle.std.proofs.lemmas.Bool.{eq-eqb}
 use Rattle.std.proofs.lemmas.List.{drop_more}
 use Rattle.std.proofs.lemmas.List.Kept.{IsSortedBy-filter}
 use Rattle.std.proofs.lemmas.List.Sums.{fold_push}
-use Rattle.lock_index.specs.declared.record.LockRecord.{LockRecord}
-use Rattle.lock_index.specs.State.{goal_of}
-use Rattle.lock_index.specs.Locks.{is_lock, option_or, converts_on, waits_on, lock_in, without, put, head_of, admits, granted, queue, settled, settled_all, IsDistinct}
+use Rattle.lock_command.specs.declared.record.LockRecord.{LockRecord}
+use Rattle.lock_command.specs.State.{goal_of}
+use Rattle.lock_command.specs.Locks.{is_lock, option_or, converts_on, waits_on, lock_in, without, put, head_of, admits, granted, queue, settled, settled_all, IsDistinct}
 use Rattle.lock_index.specs.Printed.{printed_cmp, HasSameLocks}
 use Rattle.lock_index.specs.Placed.{placed, in_order}
 use Rattle.lock_index.specs.Indexed.{IsIndexed, number_cmp}

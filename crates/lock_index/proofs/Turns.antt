@@ -4,11 +4,11 @@ use Rattle.std.specs.List.{filter, find}
 use Rattle.std.proofs.lemmas.Bool.{eq-eqb}
 use Rattle.std.proofs.lemmas.List.{append-nil}
 use Rattle.std.proofs.lemmas.List.Elements.{filter-append}
-use Rattle.lock_index.specs.declared.record.LockRecord.{LockRecord}
+use Rattle.lock_command.specs.declared.record.LockRecord.{LockRecord}
 use Rattle.lock_command.specs.declared.state.LockState.{LockState}
 use Rattle.lock_command.specs.declared.state.LockState.TheVariants.{Granted, Converting, Waiting}
-use Rattle.lock_index.specs.State.{is_converting, is_waiting, goal_of}
-use Rattle.lock_index.specs.Locks.{is_on, is_lock, without, put, converts_on, waits_on, conversions, waiting, queue, head_of, option_or, admits, granted, grant_from, settled, IsDistinct}
+use Rattle.lock_command.specs.State.{is_converting, is_waiting, goal_of}
+use Rattle.lock_command.specs.Locks.{is_on, is_lock, without, put, converts_on, waits_on, conversions, waiting, queue, head_of, option_or, admits, granted, grant_from, settled, IsDistinct}
 use Rattle.lock_index.proofs.Parts.{filter-filter}
 use Rattle.lock_index.proofs.Numbered.{numbered, numbered-cons, numbered-append, numbered-parts, without_absent}
 

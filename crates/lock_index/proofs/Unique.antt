@@ -14,11 +14,11 @@ use Rattle.std.proofs.lemmas.Slice.Eq.{bytes_eq-Decides}
 use Rattle.std.specs.Cmp.Derive.{both_true}
 use Rattle.std.proofs.lemmas.List.Sorted.{sorted_far}
 use Rattle.lock_command.specs.Name.{same_name}
-use Rattle.lock_index.specs.declared.record.LockRecord.{LockRecord}
+use Rattle.lock_command.specs.declared.record.LockRecord.{LockRecord}
 use Rattle.lock_command.specs.declared.state.LockState.{LockState}
 use Rattle.lock_command.specs.declared.state.LockState.TheVariants.{Granted, Converting, Waiting}
-use Rattle.lock_index.specs.State.{is_converting, is_waiting}
-use Rattle.lock_index.specs.Locks.{is_lock, is_on, converts_on, waits_on}
+use Rattle.lock_command.specs.State.{is_converting, is_waiting}
+use Rattle.lock_command.specs.Locks.{is_lock, is_on, converts_on, waits_on}
 use Rattle.lock_index.specs.Placed.{in_order}
 use Rattle.lock_index.specs.Printed.{rank_of, number_among, printed_cmp, HasSameLocks}
 use Rattle.lock_index.proofs.Parts.{filter_within}

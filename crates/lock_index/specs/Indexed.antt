@@ -4,8 +4,8 @@ use Rattle.std.specs.List.Sorted.{IsSorted, IsPartitionPoint}
 use Rattle.std.specs.Ordering.{nat_cmp, ordering_then, is_lt}
 use Rattle.std.specs.Cmp.Lexicographic.{slice_cmp}
 use Rattle.std.specs.declared.cmp.Ordering.{Ordering}
-use Rattle.lock_index.specs.declared.record.LockRecord.{LockRecord}
-use Rattle.lock_index.specs.Locks.{is_lock, IsDistinct}
+use Rattle.lock_command.specs.declared.record.LockRecord.{LockRecord}
+use Rattle.lock_command.specs.Locks.{is_lock, IsDistinct}
 use Rattle.lock_index.specs.Printed.{rank_of, printed_cmp}
 
 -- by rising lock number

@@ -2,7 +2,7 @@
 use Rattle.std.specs.Prelude.{◌≡◌, ◌≤◌, ◌<◌, ℕ, zero, suc, ◌+◌, ◌*◌, List, slice_index}
 use Rattle.lock_command.specs.declared.name.TheConstants.LockName.{LONGEST}
 use Rattle.lock_command.specs.Name.{IsName}
-use Rattle.lock_index.specs.declared.record.LockRecord.{LockRecord}
+use Rattle.lock_command.specs.declared.record.LockRecord.{LockRecord}
 use Rattle.lock_index.specs.Printed.{rank_of, number_among}
 use Rattle.lock_index.specs.Shelved.{at_place, times}
 

@@ -1,9 +1,7 @@
 pub mod Bits
 pub mod Indexed
 pub mod Keys
-pub mod Locks
 pub mod Narrowed
 pub mod Placed
 pub mod Printed
 pub mod Shelved
-pub mod State

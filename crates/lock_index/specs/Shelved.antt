@@ -1,7 +1,7 @@
 -- Locks at places that they keep, the order in which they stand, and their numbers and hosts by place.
 use Rattle.std.specs.Prelude.{◌≡◌, ℕ, ◌+◌, ◌≤◌, ◌==◌, nat_le, Bool, cond, List, [], map, filter, length, slice_index, slice_index_or}
-use Rattle.lock_modes.specs.declared.mode.Mode.TheVariants.{Null}
-use Rattle.lock_index.specs.declared.record.LockRecord.{LockRecord}
+use Rattle.lock_command.specs.declared.mode.Mode.TheVariants.{Null}
+use Rattle.lock_command.specs.declared.record.LockRecord.{LockRecord}
 use Rattle.lock_command.specs.declared.state.LockState.TheVariants.{Waiting}
 
 -- what stands behind the last place

@@ -1,7 +1,7 @@
 ghost use Rattle.std.specs.Prelude.{◌≡◌};
 ghost use Rattle.lock_index.specs.Bits.{bit_of, bits_against};
 
-use lock_modes::Mode;
+use lock_command::Mode;
 
 /// The bits of the modes under which nobody else writes.
 pub const WRITERS: u8 = 0b11_0000;

@@ -1,16 +1,15 @@
 ghost use Rattle.std.specs.Prelude.{◌≡◌, ◌+◌, ◌-◌, ◌<◌, ◌≤◌, ℕ, IfOk, IfSome, IsSome, IsTrue, [], length, filter, insert, remove, set, slice_index, slice_index_or, cond, nat_lt, not, true, false};
 ghost use Rattle.std.specs.List.{slice_get, AllWithin};
 ghost use Rattle.std.specs.List.Sorted.{IsSorted, IsPartitionPoint};
-ghost use Rattle.lock_index.specs.declared.record.LockRecord.{LockRecord};
-ghost use Rattle.lock_index.specs.Locks.{is_through};
+ghost use Rattle.lock_command.specs.declared.record.LockRecord.{LockRecord};
+ghost use Rattle.lock_command.specs.Locks.{is_through};
 ghost use Rattle.lock_index.specs.Indexed.{number_cmp};
-ghost use Rattle.lock_index.specs.Locks.{is_lock, lock_in, without, put, IsDistinct};
+ghost use Rattle.lock_command.specs.Locks.{is_lock, lock_in, without, put, IsDistinct};
 
 use crate::by_printed_order::take_place;
 use crate::hosts::Hosts;
 use crate::narrowing::{lower, passed_of_three};
-use crate::record::{LOCKS, LockRecord};
-use lock_command::{HostNumber, LockNumber};
+use lock_command::{HostNumber, LOCKS, LockNumber, LockRecord};
 use std::alloc::{AllocError, Global};
 use std::cell::Cell;
 use std::marker::Model;
@@ -36,8 +35,8 @@ pub struct ByLockNumber {
 
 impl Model for ByLockNumber {
     ghost use Rattle.std.specs.Prelude.{List, ◌≡◌, ◌≤◌, vec_len, vec_capacity};
-    ghost use Rattle.lock_index.specs.declared.record.TheConstants.{LOCKS};
-    ghost use Rattle.lock_index.specs.declared.record.LockRecord.{LockRecord};
+    ghost use Rattle.lock_command.specs.declared.record.TheConstants.{LOCKS};
+    ghost use Rattle.lock_command.specs.declared.record.LockRecord.{LockRecord};
     ghost use Rattle.lock_index.specs.Shelved.{IsShelved, IsNumbered, IsHosted, at_places};
 
     ghost Value = { List LockRecord };

@@ -1,19 +1,17 @@
 ghost use Rattle.std.specs.Prelude.{◌≡◌, ◌+◌, ◌-◌, ◌<◌, ◌≤◌, ◌==◌, ◌^◌, ℕ, [], IfOk, IsTrue, cond, true, false, nat_lt, length, insert, remove, set, slice_index_or, vec_len, vec_capacity};
 ghost use Rattle.std.specs.List.{list_any, slice_get, AllWithin};
-ghost use Rattle.lock_index.specs.declared.record.LockRecord.{LockRecord};
-ghost use Rattle.lock_index.specs.Locks.{is_through};
-ghost use Rattle.lock_index.specs.State.{holds_against};
-ghost use Rattle.lock_index.specs.State.{is_writer};
+ghost use Rattle.lock_command.specs.declared.record.LockRecord.{LockRecord};
+ghost use Rattle.lock_command.specs.Locks.{is_through};
+ghost use Rattle.lock_command.specs.State.{holds_against};
+ghost use Rattle.lock_command.specs.State.{is_writer};
 ghost use Rattle.lock_index.specs.Keys.{lock_key, HasKey};
 ghost use Rattle.lock_index.specs.Shelved.{at_place, idle, times};
 
 use crate::bits::{WRITERS, bits_against};
 use crate::hosts::Hosts;
-use crate::keys::SpelledName;
-use crate::record::{LOCKS, LockRecord};
+use crate::keys::{SpelledName, lock_key};
 use crate::state::held_bit;
-use lock_command::{ClientNumber, HostNumber};
-use lock_modes::Mode;
+use lock_command::{ClientNumber, HostNumber, LOCKS, LockRecord, Mode};
 use std::alloc::{AllocError, Global};
 use std::marker::Model;
 
@@ -41,8 +39,8 @@ impl Model for ByPrintedOrder {
     ghost use Rattle.std.specs.Prelude.{List, ◌≡◌, ◌≤◌, vec_len, vec_capacity};
     ghost use Rattle.lock_index.specs.Bits.{held_bits};
     ghost use Rattle.lock_index.specs.Keys.{IsKeyed};
-    ghost use Rattle.lock_index.specs.declared.record.TheConstants.{LOCKS};
-    ghost use Rattle.lock_index.specs.declared.record.LockRecord.{LockRecord};
+    ghost use Rattle.lock_command.specs.declared.record.TheConstants.{LOCKS};
+    ghost use Rattle.lock_command.specs.declared.record.LockRecord.{LockRecord};
     ghost use Rattle.lock_index.specs.Shelved.{IsShelved, IsHosted, at_places};
 
     ghost Value = { List LockRecord };
@@ -196,7 +194,7 @@ impl ByPrintedOrder {
         requires room { length self.old < LOCKS }
         ensures { self.new ≡ insert self.old at new }
     {
-        let key = new.key(name);
+        let key = lock_key(&new, name);
         let place = take_place(&mut self.records, &mut self.free, new);
         self.keys[usize::from(place)] = key;
         self.hosts.set(usize::from(place), new.host);

@@ -2,8 +2,7 @@ ghost use Rattle.std.specs.Prelude.{◌≡◌, ◌≢◌, ◌+◌, ◌-◌, ◌<
 ghost use Rattle.std.specs.List.{AllWithin};
 ghost use Rattle.lock_index.specs.Shelved.{is_through_host};
 
-use crate::record::LOCKS;
-use lock_command::HostNumber;
+use lock_command::{HostNumber, LOCKS};
 use std::marker::Model;
 
 /// The hosts that locks were enqueued through, by the places of the locks. Beside a place without a lock stands any number.

@@ -2,8 +2,8 @@ ghost use Rattle.std.specs.Prelude.{◌≡◌, ◌+◌, ◌<◌, ◌≤◌, ◌�
 ghost use Rattle.std.specs.List.Sorted.{IsSorted};
 ghost use Rattle.std.specs.List.{list_any};
 ghost use Rattle.lock_command.specs.Name.{same_name};
-ghost use Rattle.lock_index.specs.Locks.{is_on, is_through};
-ghost use Rattle.lock_index.specs.Locks.{lock_in, without, put, has_queue, head_of, admits, in_state, settled, settled_all, IsDistinct};
+ghost use Rattle.lock_command.specs.Locks.{is_on, is_through};
+ghost use Rattle.lock_command.specs.Locks.{lock_in, without, put, has_queue, head_of, admits, in_state, settled, settled_all, IsDistinct};
 ghost use Rattle.lock_index.specs.Indexed.{IsGrantedEnd, IsGrantedGroup};
 ghost use Rattle.lock_index.specs.Printed.{printed_cmp};
 ghost use Rattle.lock_index.specs.Placed.{in_order};
@@ -12,11 +12,9 @@ use crate::by_lock_number::ByLockNumber;
 use crate::by_printed_order::ByPrintedOrder;
 use crate::keys::SpelledName;
 use crate::printed::GrantedGroup;
-use crate::record::{LOCKS, LockRecord};
 use crate::state::goal;
 use crate::{by_lock_number, printed, purge};
-use lock_command::{HostNumber, LockNumber, LockState};
-use lock_modes::Mode;
+use lock_command::{HostNumber, LOCKS, LockNumber, LockRecord, LockState, Mode};
 use std::alloc::{AllocError, Global};
 use std::cell::Cell;
 use std::marker::Model;
@@ -31,7 +29,7 @@ pub struct Index {
 
 impl Model for Index {
     ghost use Rattle.std.specs.Prelude.{List};
-    ghost use Rattle.lock_index.specs.declared.record.LockRecord.{LockRecord};
+    ghost use Rattle.lock_command.specs.declared.record.LockRecord.{LockRecord};
     ghost use Rattle.lock_index.specs.Indexed.{IsIndexed};
 
     ghost Value = { List LockRecord };

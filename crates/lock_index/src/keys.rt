@@ -1,9 +1,10 @@
 ghost use Rattle.std.specs.Prelude.{◌≡◌, ◌+◌, ◌*◌, ◌/◌, ◌<◌, ◌^◌, IsTrue, slice_index};
 ghost use Rattle.lock_command.specs.declared.name.TheConstants.LockName.{LONGEST};
 ghost use Rattle.lock_command.specs.Name.{IsName};
-ghost use Rattle.lock_index.specs.Keys.{spelled, key_of};
+ghost use Rattle.lock_index.specs.Keys.{spelled, key_of, lock_key, HasKey};
 
-use lock_command::LockName;
+use crate::state::{number_among, rank};
+use lock_command::{LockName, LockRecord};
 use std::marker::Model;
 
 /// A name, and its bytes as one number, which sort keys begin with. A command computes it once.
@@ -85,6 +86,17 @@ impl SpelledName {
     {
         (self.number * 4 + u128::from(rank)) * 65536 + u128::from(number)
     }
+}
+
+/// The sort key of a lock.
+pub fn lock_key(record: &LockRecord, name: &SpelledName) -> u128
+    requires named { name.now ≡ record.now.name }
+    ensures key { result ≡ lock_key record.now }
+    ensures fits { HasKey record.now }
+    ensures small { result < 2 ^ 126 }
+{
+    let lock = record.lock.get();
+    name.key(rank(&record.state), number_among(&record.state, lock))
 }
 
 /// The bytes as the digits of one number to base 128: as many as the longest name has, with zeros behind them.

@@ -11,11 +11,9 @@ mod keys;
 mod narrowing;
 mod printed;
 mod purge;
-mod record;
 mod state;
 
 pub use by_printed_order::ByPrintedOrder;
 pub use index::Index;
 pub use keys::SpelledName;
 pub use printed::{GrantedGroup, has_locks};
-pub use record::{LOCKS, LockRecord};

@@ -2,21 +2,19 @@ ghost use Rattle.std.specs.Prelude.{◌≡◌, ◌+◌, ◌-◌, ◌*◌, ◌/�
 ghost use Rattle.std.specs.List.{AllWithin, list_any};
 ghost use Rattle.std.specs.List.Sorted.{IsSorted, IsPartitionPoint};
 ghost use Rattle.lock_index.specs.Indexed.{stands_before_rank, IsGrantedEnd, IsGrantedGroup};
-ghost use Rattle.lock_index.specs.State.{is_queued};
+ghost use Rattle.lock_command.specs.State.{is_queued};
 ghost use Rattle.lock_index.specs.Narrowed.{IsNarrowed};
 ghost use Rattle.lock_index.specs.Keys.{lock_key, HasKey};
-ghost use Rattle.lock_index.specs.Locks.{is_lock, is_on, lock_in, without, head_of, admits, in_state, IsDistinct};
+ghost use Rattle.lock_command.specs.Locks.{is_lock, is_on, lock_in, without, head_of, admits, in_state, IsDistinct};
 ghost use Rattle.lock_index.specs.Printed.{printed_cmp};
 ghost use Rattle.lock_index.specs.Placed.{placed};
-ghost use Rattle.lock_index.specs.declared.record.LockRecord.{LockRecord};
+ghost use Rattle.lock_command.specs.declared.record.LockRecord.{LockRecord};
 
 use crate::by_printed_order::ByPrintedOrder;
-use crate::keys::SpelledName;
+use crate::keys::{SpelledName, lock_key};
 use crate::narrowing::passed_of_three;
-use crate::record::{LOCKS, LockRecord};
 use crate::state::is_granted;
-use lock_command::{LockName, LockNumber};
-use lock_modes::Mode;
+use lock_command::{LOCKS, LockName, LockNumber, LockRecord, Mode};
 
 /// Where the granted locks of a name stand: from one place to before another.
 #[derive(Clone, Copy)]
@@ -156,7 +154,7 @@ fn joining_place(
     ensures granted { is_queued new.now.state ≡ false → result ≤ group.end }
     ensures queued { is_queued new.now.state ≡ true → group.end ≤ result }
 {
-    locks_below(printed, new, name, group, new.key(name) + 1)
+    locks_below(printed, new, name, group, lock_key(new, name) + 1)
 }
 
 /// The index of a lock's record, which stands at a place or behind it. Records in one queue have one key, so the queue is searched from its
@@ -191,7 +189,7 @@ fn place_of(
     ensures fits { HasKey own.now }
     ensures place { remove printed.now result ≡ without printed.now own.now.lock }
 {
-    let head = locks_below(printed, own, name, group, own.key(name));
+    let head = locks_below(printed, own, name, group, lock_key(own, name));
     own_from(printed, own, head)
 }
 

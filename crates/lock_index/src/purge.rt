@@ -1,13 +1,12 @@
 ghost use Rattle.std.specs.Prelude.{◌≡◌, ◌+◌, ◌<◌, ◌≤◌, ◌||◌, [], ℕ, List, length, filter, not, vec_len, vec_capacity};
 ghost use Rattle.std.specs.List.{list_any};
 ghost use Rattle.lock_command.specs.Name.{same_name};
-ghost use Rattle.lock_index.specs.Locks.{is_through};
-ghost use Rattle.lock_index.specs.Locks.{is_on};
+ghost use Rattle.lock_command.specs.Locks.{is_through};
+ghost use Rattle.lock_command.specs.Locks.{is_on};
 
 use crate::by_printed_order::ByPrintedOrder;
 use crate::keys::SpelledName;
-use crate::record::LOCKS;
-use lock_command::HostNumber;
+use lock_command::{HostNumber, LOCKS};
 
 /// Takes out the locks that were enqueued through a host, lists their names, and counts them. It looks at each lock once. A name is
 /// listed once, since its locks are side by side.

@@ -1,11 +1,10 @@
 ghost use Rattle.std.specs.Prelude.{◌≡◌, not};
 ghost use Rattle.lock_index.specs.Bits.{held_bit};
 ghost use Rattle.lock_index.specs.Printed.{rank_of, number_among};
-ghost use Rattle.lock_index.specs.State.{goal_of, is_queued};
+ghost use Rattle.lock_command.specs.State.{goal_of, is_queued};
 
 use crate::bits::bit_of;
-use lock_command::LockState;
-use lock_modes::Mode;
+use lock_command::{LockState, Mode};
 
 /// The bit of the mode that is held.
 pub fn held_bit(state: &LockState) -> u8

@@ -1,7 +1,7 @@
 -- Bytes that are read line by line.
 use Rattle.std.proofs.Common.{◌≡◌, ◌≤◌, ◌<◌, ◌+◌, ◌-◌, ◌∙◌, ℕ, zero, suc, true, false, List, [], ◌∷◌, ◌++◌, Option, Some, None, length, length-drop, take, drop, arith, refl, sym, ap, subst}
 use Rattle.std.proofs.Math.Seq.{take-length}
-use Rattle.slot_log.specs.Shape.{Shape}
+use Rattle.paxos_block.specs.Shape.{Shape}
 use Rattle.lock_script.specs.declared.script.ScriptFault.TheVariants.{BadLine}
 use Rattle.lock_script.specs.declared.draft.LineFault.{LineFault}
 use Rattle.lock_script.specs.declared.draft.LineFault.TheVariants.{Bad, NoMemory}

@@ -2,7 +2,7 @@
 use Rattle.std.proofs.Common.{◌≡◌, ◌<◌, ◌≤◌, ◌-◌, ◌∙◌, inl, inr, ℕ, List, [], ◌∷◌, Option, Some, arith, refl, sym, ap, subst}
 use Rattle.std.specs.Prelude.{codes, decimal}
 use Rattle.torn_block.specs.declared.layout.TheConstants.{DISKS, SLOTS}
-use Rattle.slot_log.specs.Shape.{Shape}
+use Rattle.paxos_block.specs.Shape.{Shape}
 use Rattle.lock_command.specs.declared.number.TheConstants.{HOSTS}
 use Rattle.lock_command.specs.declared.command.Command.{Command}
 use Rattle.lock_command.specs.Command.{Fits as FitsCommand}

@@ -1,7 +1,7 @@
 -- What the lines of a script say so far.
 use Rattle.std.specs.Prelude.{◌≡◌, ◌==◌, ℕ, ◌+◌, nat_lt, nat_le, Bool, true, ◌&&◌, List, [], ◌∷◌, ◌++◌, length, replicate, Option, Some, MatchOption}
 use Rattle.std.specs.Option.{is_none}
-use Rattle.slot_log.specs.Shape.{Shape}
+use Rattle.paxos_block.specs.Shape.{Shape}
 use Rattle.lock_command.specs.declared.command.Command.{Command}
 use Rattle.lock_command.specs.Reading.{◌>>=◌, passed}
 use Rattle.lock_script.specs.declared.event.Event.{Event}

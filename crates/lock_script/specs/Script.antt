@@ -1,7 +1,7 @@
 -- What a script says, and the first line that breaks a rule.
 use Rattle.std.specs.Prelude.{◌≡◌, ◌<◌, ◌≤◌, ◌+◌, ◌-◌, ◌⊎◌, ℕ, not, List, [], ◌∷◌, ◌++◌, length, take, map, filter, replicate, All}
 use Rattle.std.specs.List.{flat_map}
-use Rattle.slot_log.specs.Shape.{Shape}
+use Rattle.paxos_block.specs.Shape.{Shape}
 use Rattle.lock_command.specs.declared.command.Command.{Command}
 use Rattle.lock_script.specs.declared.event.Event.{Event}
 use Rattle.lock_script.specs.declared.event.Event.TheVariants.{Step}

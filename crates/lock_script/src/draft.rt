@@ -8,7 +8,7 @@ use crate::line::{Line, line_of};
 use crate::script::ScriptFault;
 use crate::show::{Show, View};
 use lock_command::{Command, HostNumber, ValueBytes};
-use slot_log::Config;
+use paxos_block::Config;
 use std::alloc::{AllocError, Global};
 
 /// Why a line cannot be added.

@@ -12,7 +12,7 @@ use crate::number::number_in;
 use crate::show::View;
 use crate::words::Words;
 use lock_command::{Command, HostNumber};
-use slot_log::Config;
+use paxos_block::Config;
 use std::alloc::{AllocError, Global};
 use torn_block::{DISKS, SLOTS};
 

@@ -1,7 +1,7 @@
 ghost use Rattle.std.specs.Prelude.{◌≡◌};
 ghost use Rattle.lock_script.specs.Reading.{mode_of};
 
-use lock_modes::Mode;
+use lock_command::Mode;
 
 /// The mode that a word of a script names.
 #[tactic(auto, unfolding(crate::specs::Reading::mode_of))]

@@ -1,7 +1,7 @@
 use crate::events::Events;
 use crate::show::Show;
 use lock_command::Command;
-use slot_log::Config;
+use paxos_block::Config;
 use thiserror::Error;
 
 /// What a cluster begins with, what is to happen to it, and when its tables are to be shown.

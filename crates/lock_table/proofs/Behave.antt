@@ -6,15 +6,15 @@ use Rattle.lock_command.specs.Command.{is_carried}
 use Rattle.lock_command.specs.declared.command.Action.{Action}
 use Rattle.lock_command.specs.declared.command.Action.TheVariants.{Enqueue, Convert, Release, Cancel, Status, Purge, QuietPurge, CarryLock, CarryClient}
 use Rattle.lock_table.specs.declared.clients.TheConstants.{CLIENTS}
-use Rattle.lock_index.specs.declared.record.LockRecord.{LockRecord}
+use Rattle.lock_command.specs.declared.record.LockRecord.{LockRecord}
 use Rattle.lock_command.specs.declared.state.LockState.TheVariants.{Granted, Converting, Waiting}
 use Rattle.lock_table.specs.declared.known_client.KnownClient.{KnownClient}
 use Rattle.lock_command.specs.declared.reply.Answer.{Answer}
 use Rattle.lock_command.specs.declared.reply.Answer.TheVariants as answer
 use Rattle.lock_command.specs.declared.reply.Reply.{Reply}
 use Rattle.lock_table.specs.Values.{Values, zeros, invalid, is_downward, given, of_locked, is_granted, is_released, changed, values_after, value_of_lock, asked_value, returned}
-use Rattle.lock_index.specs.State.{is_writer}
-use Rattle.lock_index.specs.Locks.{is_lock, is_on, in_state, IsDistinct, is_through}
+use Rattle.lock_command.specs.State.{is_writer}
+use Rattle.lock_command.specs.Locks.{is_lock, is_on, in_state, IsDistinct, is_through}
 use Rattle.lock_table.specs.Apply.{CommandOutcome, purged, done, Plain, Applied, is_client, kept, keeps_none, kept_after, told_again, replied, carried_out, applied_after, applied, no_locks, table_after}
 use Rattle.lock_index.specs.Printed.{HasSameLocks}
 use Rattle.lock_table.specs.Picture.{HasSameClients, HasZeros}

@@ -16,11 +16,11 @@ use Rattle.lock_command.specs.declared.reply.Answer.TheVariants as answer
 use Rattle.lock_command.specs.declared.reply.LockValue.{LockValue}
 use Rattle.lock_command.specs.declared.reply.Refusal.TheVariants as refusal
 use Rattle.lock_table.specs.declared.clients.TheConstants.{CLIENTS}
-use Rattle.lock_index.specs.declared.record.TheConstants.{LOCKS}
-use Rattle.lock_index.specs.declared.record.LockRecord.{LockRecord}
+use Rattle.lock_command.specs.declared.record.TheConstants.{LOCKS}
+use Rattle.lock_command.specs.declared.record.LockRecord.{LockRecord}
 use Rattle.lock_table.specs.declared.known_client.KnownClient.{KnownClient}
-use Rattle.lock_index.specs.State.{goal_of}
-use Rattle.lock_index.specs.Locks.{is_on, option_or, lock_in, put, converts_on, waits_on, head_of, IsDistinct}
+use Rattle.lock_command.specs.State.{goal_of}
+use Rattle.lock_command.specs.Locks.{is_on, option_or, lock_in, put, converts_on, waits_on, head_of, IsDistinct}
 use Rattle.lock_table.specs.Values.{Values, zeros, stored, of_locked, values_after}
 use Rattle.lock_table.specs.Apply.{carried, Plain, is_client, carried_out, unchanged, refusing, applied_after, applied, no_locks, table_after}
 use Rattle.lock_index.specs.Printed.{printed_cmp, HasSameLocks}

@@ -1,16 +1,16 @@
 -- A conversion downward meets no conflict that the held mode did not meet.
 use Rattle.std.proofs.Common.{◌≡◌, ℕ, Bool, true, false, cond, not, ◌&&◌, ◌||◌, List, [], ◌∷◌, Option, Some, refl, sym, ap, ◌∙◌}
 use Rattle.std.specs.List.{list_any}
-use Rattle.lock_modes.specs.declared.mode.Mode.{Mode}
-use Rattle.lock_modes.specs.declared.mode.Mode.TheVariants.{Null, ConcurrentRead, ConcurrentWrite, ProtectedRead, ProtectedWrite, Exclusive}
-use Rattle.lock_modes.specs.Mode.{conflict, downward}
+use Rattle.lock_command.specs.declared.mode.Mode.{Mode}
+use Rattle.lock_command.specs.declared.mode.Mode.TheVariants.{Null, ConcurrentRead, ConcurrentWrite, ProtectedRead, ProtectedWrite, Exclusive}
+use Rattle.lock_command.specs.Mode.{conflict, downward}
 use Rattle.lock_command.specs.declared.command.Action.TheVariants.{Convert}
-use Rattle.lock_index.specs.declared.record.LockRecord.{LockRecord}
+use Rattle.lock_command.specs.declared.record.LockRecord.{LockRecord}
 use Rattle.lock_command.specs.declared.state.LockState.{LockState}
 use Rattle.lock_command.specs.declared.state.LockState.TheVariants.{Granted, Converting, Waiting}
 use Rattle.lock_command.specs.declared.reply.Answer.TheVariants as answer
-use Rattle.lock_index.specs.State.{holds_against}
-use Rattle.lock_index.specs.Locks.{is_on, is_lock, lock_in, stands_against, admits}
+use Rattle.lock_command.specs.State.{holds_against}
+use Rattle.lock_command.specs.Locks.{is_on, is_lock, lock_in, stands_against, admits}
 use Rattle.lock_table.specs.Apply.{CommandOutcome, converted, done}
 use Rattle.lock_table.specs.Laws.{held_by}
 use Rattle.lock_index.proofs.Parts.{or_false}

@@ -5,10 +5,10 @@ use Rattle.std.proofs.lemmas.List.Folds.{list_any-append}
 use Rattle.lock_command.specs.declared.command.Action.TheVariants.{CarryLock}
 use Rattle.lock_command.specs.declared.reply.Answer.TheVariants as answer
 use Rattle.lock_command.specs.declared.reply.LockValue.{LockValue}
-use Rattle.lock_index.specs.declared.record.TheConstants.{LOCKS}
-use Rattle.lock_index.specs.declared.record.LockRecord.{LockRecord}
+use Rattle.lock_command.specs.declared.record.TheConstants.{LOCKS}
+use Rattle.lock_command.specs.declared.record.LockRecord.{LockRecord}
 use Rattle.lock_table.specs.declared.values.NamedValue.{NamedValue}
-use Rattle.lock_index.specs.Locks.{is_on, without, put, IsDistinct}
+use Rattle.lock_command.specs.Locks.{is_on, without, put, IsDistinct}
 use Rattle.lock_table.specs.Values.{Values, is_state, of_locked, stored}
 use Rattle.lock_table.specs.Apply.{CommandOutcome, carried}
 use Rattle.lock_index.specs.Printed.{printed_cmp}

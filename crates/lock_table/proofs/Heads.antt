@@ -3,17 +3,17 @@ use Rattle.std.proofs.Common.{◌≡◌, ◌≤◌, ℕ, Bool, true, false, cond
 use Rattle.std.specs.List.{filter, find, fold, list_any}
 use Rattle.std.proofs.lemmas.List.{nil_from_length}
 use Rattle.std.proofs.lemmas.List.Folds.{list_any-append}
-use Rattle.lock_modes.specs.declared.mode.Mode.{Mode}
+use Rattle.lock_command.specs.declared.mode.Mode.{Mode}
 use Rattle.lock_command.specs.Name.{same_name}
 use Rattle.lock_command.specs.declared.command.Command.{Command}
 use Rattle.lock_command.specs.Command.{is_carried}
 use Rattle.lock_command.specs.declared.command.Action.{Action}
 use Rattle.lock_command.specs.declared.command.Action.TheVariants.{Enqueue, Convert, Release, Cancel, Status, Purge, QuietPurge, CarryLock, CarryClient}
-use Rattle.lock_index.specs.declared.record.LockRecord.{LockRecord}
+use Rattle.lock_command.specs.declared.record.LockRecord.{LockRecord}
 use Rattle.lock_command.specs.declared.state.LockState.{LockState}
 use Rattle.lock_command.specs.declared.state.LockState.TheVariants.{Granted, Converting, Waiting}
-use Rattle.lock_index.specs.State.{is_converting, is_waiting, is_queued, goal_of, holds_against}
-use Rattle.lock_index.specs.Locks.{is_lock, is_on, in_state, option_or, lock_in, without, put, converts_on, waits_on, conversions, head_of, has_queue, stands_against, admits, settled, settled_all, IsDistinct, is_through, IsSettled}
+use Rattle.lock_command.specs.State.{is_converting, is_waiting, is_queued, goal_of, holds_against}
+use Rattle.lock_command.specs.Locks.{is_lock, is_on, in_state, option_or, lock_in, without, put, converts_on, waits_on, conversions, head_of, has_queue, stands_against, admits, settled, settled_all, IsDistinct, is_through, IsSettled}
 use Rattle.lock_table.specs.Apply.{CommandOutcome, purged, done, Plain, Applied, applied, no_locks}
 use Rattle.lock_table.specs.Carrying.{AreOrdinary}
 use Rattle.lock_table.specs.Laws.{IsSettledEverywhere}

@@ -8,16 +8,16 @@ use Rattle.lock_command.specs.Command.{is_carried}
 use Rattle.lock_command.specs.declared.command.Action.{Action}
 use Rattle.lock_command.specs.declared.command.Action.TheVariants.{Enqueue, Convert, Release, Cancel, Status, Purge, QuietPurge, CarryLock, CarryClient}
 use Rattle.lock_table.specs.declared.clients.TheConstants.{CLIENTS}
-use Rattle.lock_index.specs.declared.record.LockRecord.{LockRecord}
+use Rattle.lock_command.specs.declared.record.LockRecord.{LockRecord}
 use Rattle.lock_command.specs.declared.state.LockState.{LockState}
 use Rattle.lock_table.specs.declared.known_client.KnownClient.{KnownClient}
 use Rattle.lock_command.specs.declared.reply.Answer.{Answer}
 use Rattle.lock_command.specs.declared.reply.LockValue.{LockValue}
 use Rattle.lock_command.specs.declared.reply.Reply.{Reply}
-use Rattle.lock_index.specs.Locks.{is_on, is_through, lock_in}
+use Rattle.lock_command.specs.Locks.{is_on, is_through, lock_in}
 use Rattle.lock_table.specs.Picture.{HasZeros}
 use Rattle.lock_table.specs.Values.{Values, zeros, invalid, stored, given, is_downward, is_granted, is_released, changed, values_after, asked_value, returned}
-use Rattle.lock_index.specs.State.{is_writer}
+use Rattle.lock_command.specs.State.{is_writer}
 use Rattle.lock_table.specs.Apply.{Plain, Applied, is_client, done, carried_out, applied_after, applied, no_locks, table_after}
 use Rattle.lock_table.specs.Carrying.{AreOrdinary}
 use Rattle.lock_table.specs.History.{is_new_after, is_new, stored_from, stored_through, stored_of, stored_under, takes_writer, purges_writer, is_locked_in, StaysLocked, purged_along}

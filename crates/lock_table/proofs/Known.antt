@@ -6,7 +6,7 @@ use Rattle.std.proofs.lemmas.Bool.Decides.{nat_tests}
 use Rattle.lock_command.specs.declared.command.Command.{Command}
 use Rattle.lock_command.specs.declared.command.Action.{Action}
 use Rattle.lock_table.specs.declared.known_client.KnownClient.{KnownClient}
-use Rattle.lock_index.specs.Locks.{option_or}
+use Rattle.lock_command.specs.Locks.{option_or}
 use Rattle.lock_table.specs.Apply.{Plain, Applied, is_client, kept, keeps_none, kept_after, carried_out, applied}
 use Rattle.lock_table.specs.Carrying.{IsKnownFrom}
 use Rattle.lock_table.proofs.Carrying.{unknown}

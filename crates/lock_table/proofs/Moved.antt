@@ -7,7 +7,7 @@ use Rattle.lock_command.specs.declared.old.OldAction.TheVariants.{Enqueue, Conve
 use Rattle.lock_command.specs.declared.old.OldCommand.{OldCommand}
 use Rattle.lock_command.specs.Old.{same_action, upgraded_action, upgraded}
 use Rattle.lock_table.specs.declared.clients.TheConstants.{CLIENTS}
-use Rattle.lock_index.specs.declared.record.LockRecord.{LockRecord}
+use Rattle.lock_command.specs.declared.record.LockRecord.{LockRecord}
 use Rattle.lock_table.specs.declared.known_client.KnownClient.{KnownClient}
 use Rattle.lock_command.specs.declared.reply.Reply.{Reply}
 use Rattle.lock_command.specs.declared.reply.Refusal.TheVariants as refusal

@@ -3,7 +3,7 @@ use Rattle.std.proofs.Common.{◌≡◌, ◌<◌, ℕ, Bool, true, false, cond, 
 use Rattle.std.specs.List.{find}
 use Rattle.std.proofs.lemmas.Bool.{eqb-true, eq-eqb}
 use Rattle.std.proofs.lemmas.Bool.Decides.{nat_tests}
-use Rattle.lock_modes.specs.declared.mode.Mode.{Mode}
+use Rattle.lock_command.specs.declared.mode.Mode.{Mode}
 use Rattle.lock_command.specs.declared.command.Command.{Command}
 use Rattle.lock_command.specs.declared.state.LockState.{LockState}
 use Rattle.lock_command.specs.declared.state.LockState.TheVariants.{Granted, Converting, Waiting}
@@ -14,9 +14,9 @@ use Rattle.lock_command.specs.declared.reply.Answer.TheVariants as answer
 use Rattle.lock_command.specs.declared.reply.Reply.{Reply}
 use Rattle.lock_table.specs.declared.clients.TheConstants.{CLIENTS}
 use Rattle.lock_table.specs.declared.known_client.KnownClient.{KnownClient}
-use Rattle.lock_index.specs.declared.record.TheConstants.{LOCKS}
-use Rattle.lock_index.specs.declared.record.LockRecord.{LockRecord}
-use Rattle.lock_index.specs.Locks.{is_lock, in_state, lock_in, without, put, has_queue, admits, settled}
+use Rattle.lock_command.specs.declared.record.TheConstants.{LOCKS}
+use Rattle.lock_command.specs.declared.record.LockRecord.{LockRecord}
+use Rattle.lock_command.specs.Locks.{is_lock, in_state, lock_in, without, put, has_queue, admits, settled}
 use Rattle.lock_index.specs.Printed.{HasSameLocks}
 use Rattle.lock_index.proofs.Alike.{same-filter, same-put, same-lock_in, same-length, same-admits, same-has_queue, same-settled}
 use Rattle.lock_table.specs.Apply.{CommandOutcome, refused, with_place, enqueued, converted, released, cancelled, with_own, convert_own, release_own, cancel_own, told, carried, Plain, Applied, is_client, carried_out, unchanged, applied_after, applied}

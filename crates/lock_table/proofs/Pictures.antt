@@ -7,9 +7,9 @@ use Rattle.std.proofs.lemmas.Bool.{eqb-true}
 use Rattle.std.proofs.lemmas.Cmp.{nat_cmp_total, tied_itself}
 use Rattle.std.proofs.lemmas.List.MinMax.{ranks_by}
 use Rattle.lock_command.specs.declared.command.Command.{Command}
-use Rattle.lock_index.specs.declared.record.LockRecord.{LockRecord}
+use Rattle.lock_command.specs.declared.record.LockRecord.{LockRecord}
 use Rattle.lock_table.specs.declared.known_client.KnownClient.{KnownClient}
-use Rattle.lock_index.specs.Locks.{is_on, IsDistinct}
+use Rattle.lock_command.specs.Locks.{is_on, IsDistinct}
 use Rattle.lock_table.specs.Apply.{Plain, is_client, no_locks, applied}
 use Rattle.lock_index.specs.Printed.{printed_cmp, HasSameLocks}
 use Rattle.lock_table.specs.Picture.{client_cmp, HasSameClients, HasZeros, Shown, nothing_shown, values_beside, IsPictureOf, pictured, IsShown}

@@ -11,13 +11,13 @@ use Rattle.lock_command.specs.declared.command.Action.{Action}
 use Rattle.lock_command.specs.declared.command.Action.TheVariants.{Enqueue, Convert, Release, Cancel, Status, Purge, QuietPurge, CarryLock, CarryClient}
 use Rattle.lock_command.specs.declared.state.LockState.{LockState}
 use Rattle.lock_command.specs.declared.reply.Answer.{Answer}
-use Rattle.lock_index.specs.declared.record.LockRecord.{LockRecord}
+use Rattle.lock_command.specs.declared.record.LockRecord.{LockRecord}
 use Rattle.lock_command.specs.declared.reply.LockValue.{LockValue}
 use Rattle.lock_table.specs.declared.values.NamedValue.{NamedValue}
-use Rattle.lock_index.specs.Locks.{is_lock, is_on, is_through, lock_in}
+use Rattle.lock_command.specs.Locks.{is_lock, is_on, is_through, lock_in}
 use Rattle.lock_table.specs.Picture.{HasZeros}
 use Rattle.lock_table.specs.Values.{Values, zeros, invalid, stored, is_downward, given, spoiled, of_locked, is_granted, is_released, changed, values_after, value_of_lock, asked_value}
-use Rattle.lock_index.specs.State.{is_writer}
+use Rattle.lock_command.specs.State.{is_writer}
 use Rattle.lock_index.specs.Placed.{placed}
 use Rattle.lock_table.specs.Stored.{is_of, value_or_zeros, value_in, name_cmp, put_value, put_if, is_locked, AreNamed, IsValued, spoiled_by, entry_of, entry_by, gives_nothing, asked_lock, asked_value_by}
 use Rattle.lock_index.proofs.Apart.{name_is, same_name-itself}

@@ -6,12 +6,12 @@ use Rattle.lock_command.specs.declared.command.Command.{Command}
 use Rattle.lock_command.specs.declared.command.Action.{Action}
 use Rattle.lock_command.specs.declared.command.Action.TheVariants.{Convert, Release, Purge}
 use Rattle.lock_table.specs.declared.clients.TheConstants.{CLIENTS}
-use Rattle.lock_index.specs.declared.record.LockRecord.{LockRecord}
+use Rattle.lock_command.specs.declared.record.LockRecord.{LockRecord}
 use Rattle.lock_command.specs.declared.state.LockState.{LockState}
 use Rattle.lock_table.specs.declared.known_client.KnownClient.{KnownClient}
 use Rattle.lock_command.specs.declared.reply.Answer.{Answer}
-use Rattle.lock_index.specs.Locks.{is_on, is_through, lock_in}
-use Rattle.lock_index.specs.State.{is_writer}
+use Rattle.lock_command.specs.Locks.{is_on, is_through, lock_in}
+use Rattle.lock_command.specs.State.{is_writer}
 use Rattle.lock_table.specs.Values.{is_downward, is_granted, is_released}
 use Rattle.lock_table.specs.Apply.{Plain, is_client, applied}
 

@@ -9,7 +9,7 @@ use Rattle.std.specs.declared.cmp.Ordering.TheVariants.{Less, Equal, Greater}
 use Rattle.lock_command.specs.Name.{same_name}
 use Rattle.lock_command.specs.declared.command.Action.{Action}
 use Rattle.lock_command.specs.declared.command.Action.TheVariants.{Enqueue, Convert, Release, Cancel, Status, Purge, QuietPurge, CarryLock, CarryClient}
-use Rattle.lock_index.specs.declared.record.LockRecord.{LockRecord}
+use Rattle.lock_command.specs.declared.record.LockRecord.{LockRecord}
 use Rattle.lock_command.specs.declared.state.LockState.{LockState}
 use Rattle.lock_command.specs.declared.reply.Answer.{Answer}
 use Rattle.lock_command.specs.declared.reply.LockValue.{LockValue}
@@ -18,9 +18,9 @@ use Rattle.lock_table.specs.declared.known_client.KnownClient.{KnownClient}
 use Rattle.lock_table.specs.Apply.{Plain}
 use Rattle.lock_table.specs.Picture.{Shown, values_beside}
 use Rattle.lock_index.specs.Placed.{placed}
-use Rattle.lock_index.specs.Locks.{is_on, lock_in}
+use Rattle.lock_command.specs.Locks.{is_on, lock_in}
 use Rattle.lock_table.specs.Values.{Values, zeros, is_downward, spoiled, is_granted, is_released, value_of_lock}
-use Rattle.lock_index.specs.State.{is_writer}
+use Rattle.lock_command.specs.State.{is_writer}
 
 -- an entry of the name
 abbrev pub is_of : List ℕ → NamedValue → Bool

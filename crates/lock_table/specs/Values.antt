@@ -1,20 +1,20 @@
 -- Of the headline. What commands do to the values of names. Values never decide what is granted, so nothing here says what is.
 use Rattle.std.specs.Prelude.{ℕ, Bool, true, false, ◌&&◌, List, Option, Some, None, replicate, if◌then◌else◌}
 use Rattle.std.specs.List.{list_any}
-use Rattle.lock_modes.specs.declared.mode.Mode.{Mode}
-use Rattle.lock_modes.specs.Mode.{downward}
+use Rattle.lock_command.specs.declared.mode.Mode.{Mode}
+use Rattle.lock_command.specs.Mode.{downward}
 use Rattle.lock_command.specs.Name.{same_name}
 use Rattle.lock_command.specs.declared.value.TheConstants.{LOCK_VALUE_LENGTH}
 use Rattle.lock_command.specs.declared.command.Action.{Action}
 use Rattle.lock_command.specs.declared.command.Action.TheVariants.{Enqueue, Convert, Release, Cancel, Status, Purge, QuietPurge, CarryLock, CarryClient}
-use Rattle.lock_index.specs.declared.record.LockRecord.{LockRecord}
+use Rattle.lock_command.specs.declared.record.LockRecord.{LockRecord}
 use Rattle.lock_command.specs.declared.state.LockState.{LockState}
 use Rattle.lock_command.specs.declared.state.LockState.TheVariants.{Granted, Converting, Waiting}
 use Rattle.lock_command.specs.declared.reply.Answer.{Answer}
 use Rattle.lock_command.specs.declared.reply.Answer.TheVariants as answer
 use Rattle.lock_command.specs.declared.reply.LockValue.{LockValue}
-use Rattle.lock_index.specs.State.{is_writer}
-use Rattle.lock_index.specs.Locks.{is_on, is_through, lock_in}
+use Rattle.lock_command.specs.State.{is_writer}
+use Rattle.lock_command.specs.Locks.{is_on, is_through, lock_in}
 
 -- the value of each name
 abbrev pub Values : Type 0

@@ -7,8 +7,10 @@ use crate::clients::CLIENTS;
 use crate::known_client::KnownClient;
 use crate::values;
 use crate::values::NamedValue;
-use lock_command::{Action, ClientNumber, Command, HostNumber, LockValue, RequestNumber, Value};
-use lock_index::{ByPrintedOrder, LOCKS, LockRecord};
+use lock_command::{
+    Action, ClientNumber, Command, HostNumber, LOCKS, LockRecord, LockValue, RequestNumber, Value,
+};
+use lock_index::ByPrintedOrder;
 
 /// The command that carries a lock over, with the value of its name.
 fn carry_lock(own: &LockRecord, value: LockValue) -> Command

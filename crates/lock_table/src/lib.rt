@@ -22,8 +22,9 @@ pub use laws::{
     lock_numbers_are_distinct, moved_logs_give_the_same, old_requests_change_nothing,
     requests_count_once, settling_is_complete, values_are_stored_last,
 };
-pub use lock_command::{Answer, LockState, LockValue, Refusal, Reply, is_same_reply};
-pub use lock_index::{LOCKS, LockRecord};
+pub use lock_command::{
+    Answer, LOCKS, LockRecord, LockState, LockValue, Refusal, Reply, is_same_reply,
+};
 pub use no_memory::NoMemory;
 pub use picture::Picture;
 pub use table::Table;

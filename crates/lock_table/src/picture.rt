@@ -8,8 +8,8 @@ use crate::no_memory::NoMemory;
 use crate::table::Table;
 use crate::values;
 use crate::values::NamedValue;
-use lock_command::LockValue;
-use lock_index::{ByPrintedOrder, LOCKS, LockRecord};
+use lock_command::{LOCKS, LockRecord, LockValue};
+use lock_index::ByPrintedOrder;
 use std::alloc::Global;
 use std::marker::Model;
 
@@ -26,7 +26,7 @@ pub struct Picture {
 impl Model for Picture {
     ghost use Rattle.std.specs.Prelude.{◌≤◌, vec_capacity};
     ghost use Rattle.lock_table.specs.declared.clients.TheConstants.{CLIENTS};
-    ghost use Rattle.lock_index.specs.declared.record.TheConstants.{LOCKS};
+    ghost use Rattle.lock_command.specs.declared.record.TheConstants.{LOCKS};
     ghost use Rattle.lock_table.specs.Picture.{Shown};
 
     ghost Value = { Shown };

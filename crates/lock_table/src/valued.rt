@@ -1,9 +1,9 @@
 ghost use Rattle.std.specs.Prelude.{◌≡◌, ◌≤◌, ◌<◌, IfOk, IfSome, [], length, filter, not, ◌&&◌, Bool, true, false, ℕ, List, IsTrue, Some, if◌then◌else◌};
 ghost use Rattle.std.specs.List.{list_any};
 ghost use Rattle.std.specs.List.Sorted.{IsSorted};
-ghost use Rattle.lock_index.specs.declared.record.LockRecord.{LockRecord};
+ghost use Rattle.lock_command.specs.declared.record.LockRecord.{LockRecord};
 ghost use Rattle.lock_table.specs.declared.values.NamedValue.{NamedValue};
-ghost use Rattle.lock_index.specs.Locks.{is_on, is_through};
+ghost use Rattle.lock_command.specs.Locks.{is_on, is_through};
 ghost use Rattle.lock_command.specs.declared.state.LockState.{LockState};
 ghost use Rattle.lock_command.specs.Command.{is_carried};
 ghost use Rattle.lock_table.specs.Apply.{carried, done, replied};
@@ -12,17 +12,17 @@ ghost use Rattle.lock_table.specs.Picture.{HasZeros};
 ghost use Rattle.lock_index.specs.Placed.{in_order};
 ghost use Rattle.lock_table.specs.Stored.{is_of, value_in, put_value, put_if, AreNamed, IsValued, spoiled_by, entry_of, entry_by, gives_nothing, is_locked, may_lose, asked_lock, asked_value_by};
 ghost use Rattle.lock_table.specs.Values.{zeros, invalid, spoiled, stored, is_downward, is_state, of_locked, values_after, returned};
-ghost use Rattle.lock_index.specs.State.{is_writer};
+ghost use Rattle.lock_command.specs.State.{is_writer};
 
 use crate::locks::Locks;
 use crate::reply::{is_granted, is_released, is_state};
 use crate::values;
 use crate::values::{NamedValue, Values, store};
 use lock_command::{
-    Action, Answer, ClientNumber, HostNumber, LockName, LockState, LockValue, Reply, ValueBytes,
+    Action, Answer, ClientNumber, HostNumber, LOCKS, LockName, LockRecord, LockState, LockValue,
+    Mode, Reply, ValueBytes, downward, writes_alone,
 };
-use lock_index::{ByPrintedOrder, LOCKS, LockRecord};
-use lock_modes::{Mode, downward, writes_alone};
+use lock_index::ByPrintedOrder;
 use std::alloc::{AllocError, Global};
 use std::marker::Model;
 

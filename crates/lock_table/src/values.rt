@@ -4,12 +4,12 @@ ghost use Rattle.std.specs.List.Sorted.{IsSorted, IsSearchInRange};
 ghost use Rattle.std.specs.Ordering.{nat_cmp};
 ghost use Rattle.std.specs.Cmp.Lexicographic.{slice_cmp};
 ghost use Rattle.lock_command.specs.Name.{same_name};
-ghost use Rattle.lock_index.specs.Locks.{is_on};
+ghost use Rattle.lock_command.specs.Locks.{is_on};
 ghost use Rattle.lock_index.specs.Printed.{printed_cmp};
 ghost use Rattle.lock_table.specs.Stored.{is_of, value_in, put_value, is_locked, AreNamed, StandsAt, WouldStandAt};
 
-use lock_command::{LockName, LockValue};
-use lock_index::{ByPrintedOrder, LOCKS, has_locks};
+use lock_command::{LOCKS, LockName, LockValue};
+use lock_index::{ByPrintedOrder, has_locks};
 use std::alloc::{AllocError, Global};
 use std::cmp::Ordering;
 use std::marker::Model;
@@ -29,7 +29,7 @@ pub struct Values {
 
 impl Model for Values {
     ghost use Rattle.std.specs.Prelude.{List, ◌≤◌, vec_capacity};
-    ghost use Rattle.lock_index.specs.declared.record.TheConstants.{LOCKS};
+    ghost use Rattle.lock_command.specs.declared.record.TheConstants.{LOCKS};
     ghost use Rattle.lock_table.specs.declared.values.NamedValue.{NamedValue};
 
     ghost Value = { List NamedValue };

@@ -3,11 +3,11 @@ ghost use Rattle.std.specs.Prelude.{◌≤◌, ◌+◌, ℕ, List, length};
 ghost use Rattle.std.specs.Bool.{OnTrue};
 ghost use Rattle.torn_block.specs.Layout.{Version};
 ghost use Rattle.attempt.specs.History.{Fits};
-ghost use Rattle.phases.specs.Calls.{device_call_of, heard_as};
+ghost use Rattle.attempt.specs.DeviceCalls.{device_call_of, heard_as};
 
+use attempt::{DeviceCall, Heard};
 use disk::{Disk, DiskFault, NoMemory, SimDisk};
 use paxos_block::Value;
-use phases::{DeviceCall, Heard};
 use std::alloc::{AllocError, Global};
 use torn_block::VALUE_LENGTH;
 

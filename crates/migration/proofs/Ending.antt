@@ -14,7 +14,7 @@ use Rattle.paxos_block.specs.Saying.{zeros}
 use Rattle.migration.specs.Events.{Step, answered_by, happens, happen, run}
 use Rattle.migration.specs.Fits.{Fits}
 use Rattle.migration.specs.Heard.{with_boot}
-use Rattle.migration.specs.Image.{Setup, image_of}
+use Rattle.paxos_block.specs.Image.{Setup, image_of}
 use Rattle.migration.specs.Plan.{Put, Kind, Attaching, Putting, Syncing, Opening, Due, on, blocks_from, heading, fills, opens, filling, opening, each, schedule, call_of}
 use Rattle.migration.specs.Run.{Migration, with_disk, after, IsMigrated, HasEnded}
 use Rattle.migration.proofs.Puts.{puts}

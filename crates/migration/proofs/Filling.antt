@@ -13,7 +13,7 @@ use Rattle.torn_block.specs.declared.block.TheConstants.{OPEN_GATE}
 use Rattle.paxos_block.specs.Places.{image_length}
 use Rattle.paxos_block.specs.Saying.{zeros}
 use Rattle.migration.specs.Heard.{Progress, with_boot, given_up, answered, hears, next_in, next}
-use Rattle.migration.specs.Image.{Setup}
+use Rattle.paxos_block.specs.Image.{Setup}
 use Rattle.migration.specs.Plan.{Put, heading, blocks_from, Kind, Attaching, Putting, Syncing, Opening, Due, on, fills, filling, opening, each, call_of}
 use Rattle.migration.specs.Run.{Migration, Entry, Called, Stopped, Crashed, Lost, Tears, MayHappen, with_disk, after, all_after, AllMayHappen, begun, NoneOpen}
 use Rattle.migration.proofs.Puts.{puts, filled}

@@ -6,7 +6,7 @@ use Rattle.torn_block.specs.declared.layout.TheConstants.{VALUE_LENGTH}
 use Rattle.paxos_block.specs.Headers.{header_saying}
 use Rattle.paxos_block.specs.Places.{image_length}
 use Rattle.migration.specs.Fits.{Fits}
-use Rattle.migration.specs.Image.{Setup, header_of}
+use Rattle.paxos_block.specs.Image.{Setup, header_of}
 use Rattle.migration.specs.Plan.{blocks_from, heading, Kind, Attaching, Putting, Syncing, Due, on, fills, filling, opening, each, schedule}
 use Rattle.migration.proofs.Filling.{IsTodo, FitsImages}
 use Rattle.migration.proofs.Lengths.{length-block, length-header}

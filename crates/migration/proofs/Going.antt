@@ -11,12 +11,12 @@ use Rattle.disk.specs.declared.boot.Boot.{Boot}
 use Rattle.torn_block.specs.Layout.{cluster_version}
 use Rattle.paxos_block.specs.Headers.{header_saying}
 use Rattle.paxos_block.specs.Places.{place_of, VoteOf}
-use Rattle.phases.specs.Calls.{heard_of}
-use Rattle.phases.specs.declared.heard.Heard as code_heard
-use Rattle.phases.specs.declared.heard.Heard.TheVariants as answer
+use Rattle.attempt.specs.DeviceCalls.{heard_of}
+use Rattle.attempt.specs.declared.heard.Heard as code_heard
+use Rattle.attempt.specs.declared.heard.Heard.TheVariants as answer
 use Rattle.migration.specs.Heard.{Progress, at_first, with_boot, given_up, answered, hears, heard, next_in, next}
 use Rattle.migration.specs.History.{IsHistory, IsAnswerTo}
-use Rattle.migration.specs.Image.{Setup, header_of, block_for}
+use Rattle.paxos_block.specs.Image.{Setup, header_of, block_for}
 use Rattle.migration.specs.Kept.{setup_of, left_from, left_here, gates_later, fills_later, left_later, left_by, has_failed, boot_in, going_on, progress_of, HasBytes, IsSound, kind_at, call_due, device_answer, end_in, end_by, LeadsTo}
 use Rattle.migration.proofs.Lengths.{length-header}
 use Rattle.migration.specs.Plan.{Put, Kind, Attaching, Putting, Syncing, Opening, Due, on, blocks_from, header_calls, fills, heading, opens, filling, opening, each, schedule, call_of}

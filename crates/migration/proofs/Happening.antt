@@ -11,7 +11,7 @@ use Rattle.disk.specs.Simulated.{refusal_of, refusal_under, failed_by, filling, 
 use Rattle.disk.proofs.FillingLemmas.{length-spread, filled_keeps}
 use Rattle.disk.proofs.RefusalLemmas.{admitted}
 use Rattle.migration.specs.Heard.{next}
-use Rattle.migration.specs.Image.{Setup}
+use Rattle.paxos_block.specs.Image.{Setup}
 use Rattle.migration.specs.Events.{Event, Step, Tear, FailCall, DiskCrash, DiskGone, answered_by, stepped, failed_call, failed, torn_call, torn, brings_if, entry_of, after_any, happens, happen, run}
 use Rattle.migration.specs.Run.{Migration, Entry, Called, Stopped, Crashed, Lost, MayHappen, begun, IsAllOrNothing}
 use Rattle.migration.specs.Fits.{Fits}

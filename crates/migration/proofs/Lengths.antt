@@ -9,7 +9,7 @@ use Rattle.paxos_block.specs.declared.header.Header.{Header}
 use Rattle.paxos_block.specs.Headers.{header_saying, short_bytes}
 use Rattle.paxos_block.specs.Saying.{body_saying, heading, zeros}
 use Rattle.paxos_block.proofs.SayingLemmas.{length-number, length-zeros}
-use Rattle.migration.specs.Image.{vote_for, block_for}
+use Rattle.paxos_block.specs.Image.{vote_for, block_for}
 
 pub length-header : (header : Header) → length (header_saying cluster_version header) ≡ HEADER_LENGTH
 unfolding header_saying short_bytes number_bytes

@@ -11,7 +11,7 @@ use Rattle.paxos_block.specs.Places.{image_length, place_of, row_place, VoteOf}
 use Rattle.paxos_block.specs.Saying.{zeros}
 use Rattle.paxos_block.proofs.SayingLemmas.{length-zeros, zeros_joined}
 use Rattle.migration.specs.Fits.{Fits}
-use Rattle.migration.specs.Image.{Setup, header_of, block_for, row_for, rows_for, image_of}
+use Rattle.paxos_block.specs.Image.{Setup, header_of, block_for, row_for, rows_for, image_of}
 use Rattle.migration.specs.Plan.{Put, blocks_from, heading}
 use Rattle.migration.proofs.Lengths.{length-block, length-header}
 

@@ -16,7 +16,7 @@ use Rattle.paxos_block.specs.Saying.{zeros}
 use Rattle.paxos_block.proofs.PlaceLemmas.{spots_apart, spot_fits}
 use Rattle.paxos_block.proofs.SayingLemmas.{length-zeros}
 use Rattle.migration.specs.Fits.{Fits}
-use Rattle.migration.specs.Image.{Setup, header_of, block_for, row_for, rows_for, image_of, HoldsLog, HoldsNoMore, HasHeader}
+use Rattle.paxos_block.specs.Image.{Setup, header_of, block_for, row_for, rows_for, image_of, HoldsLog, HoldsNoMore, HasHeader}
 use Rattle.migration.specs.Plan.{Put, blocks_from, heading}
 use Rattle.migration.proofs.Lengths.{length-block, length-header}
 use Rattle.migration.proofs.Puts.{puts, puts-append, completes}

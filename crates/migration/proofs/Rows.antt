@@ -9,7 +9,7 @@ use Rattle.paxos_block.specs.Places.{Spot, VoteOf, IsSpot, place_of, row_place, 
 use Rattle.paxos_block.specs.Saying.{zeros}
 use Rattle.paxos_block.proofs.PlaceLemmas.{spot_fits}
 use Rattle.paxos_block.proofs.SayingLemmas.{length-zeros, zeros_joined}
-use Rattle.migration.specs.Image.{block_for, rows_for}
+use Rattle.paxos_block.specs.Image.{block_for, rows_for}
 use Rattle.migration.specs.Plan.{blocks_from}
 use Rattle.migration.proofs.Puts.{puts, put_in_zeros, rows_written}
 use Rattle.migration.proofs.Reading.{puts_elsewhere, apart_from, stands, blank_block, length-rows}

@@ -11,7 +11,7 @@ use Rattle.disk.specs.Simulated.{SimState, fresh_disk, outcome, outcome_by, refu
 use Rattle.migration.specs.Events.{Event, Step, Tear, FailCall, DiskCrash, DiskGone, answered_by, stepped, failed_call, failed, torn_call, torn, brings_if, are_some, has_disk, entry_of, after_any, happens, happen, run}
 use Rattle.migration.specs.Fits.{Fits}
 use Rattle.migration.specs.Heard.{Progress, at_first, hears, heard, given_up, next, next_in}
-use Rattle.migration.specs.Image.{Setup}
+use Rattle.paxos_block.specs.Image.{Setup}
 use Rattle.migration.specs.Kept as kept
 use Rattle.migration.specs.Kept.{end_by, end_in}
 use Rattle.migration.specs.Plan.{Due}

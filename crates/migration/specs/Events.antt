@@ -5,7 +5,7 @@ use Rattle.disk.specs.declared.fault.DiskFault.TheVariants.{Failed}
 use Rattle.disk.specs.Disk.{DiskState, Call, Write, Fault, success_of, done_by}
 use Rattle.disk.specs.Simulated.{refusal_of, failed_by, filling, crashed}
 use Rattle.migration.specs.Heard.{next}
-use Rattle.migration.specs.Image.{Setup}
+use Rattle.paxos_block.specs.Image.{Setup}
 use Rattle.migration.specs.Run.{Migration, begun, Entry, Called, Stopped, Crashed, Lost, after}
 
 pub data Event : Type 0 where

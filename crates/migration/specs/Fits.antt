@@ -1,7 +1,7 @@
 -- When a log can be migrated.
 use Rattle.std.specs.Prelude.{◌≡◌, ◌≤◌, ◌<◌, ◌^◌, All, length}
 use Rattle.torn_block.specs.declared.layout.TheConstants.{DISKS, SLOTS, VALUE_LENGTH}
-use Rattle.migration.specs.Image.{Setup}
+use Rattle.paxos_block.specs.Image.{Setup}
 
 -- there are disks and slots, but not too many, and a slot for each value
 pub record HasRoom (s : Setup) : Type 0 where

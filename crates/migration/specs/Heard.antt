@@ -1,7 +1,7 @@
 -- What a migration has heard, and the call that is due by that.
 use Rattle.std.specs.Prelude.{◌==◌, ℕ, Bool, true, false, List, [], ◌∷◌, Option, Some, None, if◌then◌else◌}
 use Rattle.disk.specs.Disk.{Call, Answer, Booted, Fault}
-use Rattle.migration.specs.Image.{Setup}
+use Rattle.paxos_block.specs.Image.{Setup}
 use Rattle.migration.specs.Plan.{Due, schedule, call_of}
 
 -- the calls that are left, the boot number of each disk as it was attached, and whether the migration has failed

@@ -5,14 +5,14 @@ use Rattle.disk.specs.declared.boot.Boot.{Boot}
 use Rattle.torn_block.specs.Layout.{cluster_version}
 use Rattle.paxos_block.specs.Headers.{header_saying}
 use Rattle.paxos_block.specs.Places.{place_of, VoteOf}
-use Rattle.phases.specs.declared.heard.Heard as code_heard
-use Rattle.phases.specs.declared.heard.Heard.TheVariants as answer
-pub use Rattle.phases.specs.Calls.{device_answer}
-use Rattle.slot_log.specs.Shape.{Shape}
+use Rattle.attempt.specs.declared.heard.Heard as code_heard
+use Rattle.attempt.specs.declared.heard.Heard.TheVariants as answer
+pub use Rattle.attempt.specs.DeviceCalls.{device_answer}
+use Rattle.paxos_block.specs.Shape.{Shape}
 use Rattle.migration.specs.Fits.{HasRoom}
 use Rattle.migration.specs.Heard.{Progress, at_first, heard}
 use Rattle.migration.specs.History.{IsHistory}
-use Rattle.migration.specs.Image.{Setup, header_of, block_for}
+use Rattle.paxos_block.specs.Image.{Setup, header_of, block_for}
 use Rattle.migration.specs.Plan.{Kind, Attaching, Putting, Syncing, Opening, Due, on, blocks_from, header_calls, opens, filling, opening, each, call_of}
 use Rattle.migration.specs.declared.end.End.{End}
 use Rattle.migration.specs.declared.end.End.TheVariants.{Migrated, MigrationFailed}

@@ -2,7 +2,6 @@ pub mod Events
 pub mod Fits
 pub mod Heard
 pub mod History
-pub mod Image
 pub mod Kept
 pub mod Plan
 pub mod Run

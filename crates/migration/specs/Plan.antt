@@ -5,7 +5,7 @@ use Rattle.torn_block.specs.Layout.{cluster_version}
 use Rattle.torn_block.specs.declared.block.TheConstants.{OPEN_GATE}
 use Rattle.paxos_block.specs.Headers.{header_saying}
 use Rattle.paxos_block.specs.Places.{place_of, VoteOf}
-use Rattle.migration.specs.Image.{Setup, header_of, block_for}
+use Rattle.paxos_block.specs.Image.{Setup, header_of, block_for}
 
 -- bytes, and where they are written
 abbrev pub Put : Type 0

@@ -6,7 +6,7 @@ use Rattle.torn_block.specs.Layout.{cluster_version}
 use Rattle.paxos_block.specs.Headers.{IsFormatted}
 use Rattle.paxos_block.specs.Places.{image_length}
 use Rattle.migration.specs.Heard.{Progress, at_first, given_up, hears, next}
-use Rattle.migration.specs.Image.{Setup, image_of}
+use Rattle.paxos_block.specs.Image.{Setup, image_of}
 
 -- the disks, and how far the migration has come
 pub record Migration : Type 0 where

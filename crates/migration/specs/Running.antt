@@ -5,7 +5,7 @@ use Rattle.disk.specs.Simulated.{SimState, fresh_disk}
 use Rattle.migration.specs.Events.{Event, Step, Tear, FailCall, DiskCrash, DiskGone, run}
 use Rattle.migration.specs.Fits.{Fits}
 use Rattle.migration.specs.Heard.{Progress, at_first, heard}
-use Rattle.migration.specs.Image.{Setup}
+use Rattle.paxos_block.specs.Image.{Setup}
 use Rattle.migration.specs.Kept as kept
 use Rattle.migration.specs.Run.{Migration}
 use Rattle.migration.specs.declared.event.MigrationEvent as code

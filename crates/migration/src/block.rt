@@ -1,7 +1,7 @@
 ghost use Rattle.std.specs.Prelude.{◌≡◌, ◌∷◌, ◌++◌, length};
 ghost use Rattle.torn_block.specs.Block.{tail_with};
 ghost use Rattle.paxos_block.specs.Saying.{zeros};
-ghost use Rattle.migration.specs.Image as images;
+ghost use Rattle.paxos_block.specs.Image as images;
 
 use paxos_block::{PBlock, Value, encode};
 use torn_block::{

@@ -1,11 +1,11 @@
 ghost use Rattle.std.specs.Prelude.{◌≡◌, ◌<◌, is_some, length};
 ghost use Rattle.disk.specs.Simulated.{refusal_of, failed_by};
 ghost use Rattle.torn_block.specs.Layout.{cluster_version};
-ghost use Rattle.phases.specs.Calls.{device_call_of, IsWithin};
+ghost use Rattle.attempt.specs.DeviceCalls.{device_call_of, IsWithin};
 ghost use Rattle.migration.specs.Running.{is_write};
 
+use attempt::DeviceCall;
 use disk::SimDisk;
-use phases::DeviceCall;
 
 /// Whether a disk would refuse the call.
 pub fn is_refused(disk: &SimDisk, call: &DeviceCall<'_>) -> bool

@@ -2,7 +2,7 @@
 ghost use Rattle.std.specs.Prelude.{◌≡◌, ◌+◌, ◌*◌, ◌<◌, ℕ, List, length, replicate};
 ghost use Rattle.migration.specs.Events.{Event, Step, run};
 ghost use Rattle.migration.specs.Fits.{Fits};
-ghost use Rattle.migration.specs.Image.{Setup, HoldsLog, HoldsNoMore, HasHeader};
+ghost use Rattle.paxos_block.specs.Image.{Setup, HoldsLog, HoldsNoMore, HasHeader};
 ghost use Rattle.migration.specs.Plan.{schedule};
 ghost use Rattle.migration.specs.Run.{Entry, begun, all_after, AllMayHappen, IsAllOrNothing, HasEnded};
 

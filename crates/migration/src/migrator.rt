@@ -3,16 +3,15 @@ ghost use Rattle.disk.specs.Disk.{Answer};
 ghost use Rattle.torn_block.specs.Layout.{cluster_version};
 ghost use Rattle.paxos_block.specs.Places.{image_length};
 ghost use Rattle.attempt.specs.Heard.{Fits};
-ghost use Rattle.phases.specs.Calls.{IsWithin, call_of_need, heard_of};
+ghost use Rattle.attempt.specs.DeviceCalls.{IsWithin, call_of_need, heard_of};
 ghost use Rattle.migration.specs.Heard.{at_first, heard, next};
-ghost use Rattle.migration.specs.Image.{Setup};
+ghost use Rattle.paxos_block.specs.Image.{Setup};
 ghost use Rattle.migration.specs.Kept.{LeadsTo, device_answer, call_due, end_by, setup_by, setup_of};
 
 use crate::end::End;
 use crate::notes::Notes;
-use paxos_block::Value;
-use phases::{Heard, Need};
-use slot_log::Config;
+use attempt::{Heard, Need};
+use paxos_block::{Config, Value};
 use std::marker::Model;
 
 /// A migration of a log onto images of zeros, as host 0 would have left it: each slot of the log has a block of host 0,

@@ -3,18 +3,17 @@ ghost use Rattle.std.specs.Prelude.{◌≡◌, ◌<◌, ◌≤◌, ◌+◌, ◌+
 ghost use Rattle.torn_block.specs.Layout.{cluster_version};
 ghost use Rattle.disk.specs.Disk as answers;
 ghost use Rattle.paxos_block.specs.Places.{image_length};
-ghost use Rattle.phases.specs.Calls.{IsWithin, device_call_of};
+ghost use Rattle.attempt.specs.DeviceCalls.{IsWithin, device_call_of};
 ghost use Rattle.migration.specs.Heard.{at_first, hears};
-ghost use Rattle.migration.specs.Image.{block_for};
+ghost use Rattle.paxos_block.specs.Image.{block_for};
 ghost use Rattle.migration.specs.Kept.{IsSound, FitsStage, device_answer, call_due, progress_of, going_on, left_from, fills_later, setup_by, setup_of};
 ghost use Rattle.migration.specs.Plan.{on};
 
 use crate::block::block_for;
 use crate::end::End;
+use attempt::{DeviceCall, Heard};
 use disk::Boot;
-use paxos_block::{Header, Value, block_place, encode_header};
-use phases::{DeviceCall, Heard};
-use slot_log::Config;
+use paxos_block::{Config, Header, Value, block_place, encode_header};
 use torn_block::{BLOCK_LENGTH, ClusterLayout, DISKS, HEADER_LENGTH, OPEN_GATE};
 
 /// The most disks of a cluster.

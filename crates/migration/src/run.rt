@@ -7,8 +7,7 @@ ghost use Rattle.migration.specs.Running.{AreDisks, disk_in, events_of};
 use crate::event::MigrationEvent;
 use crate::running::Running;
 use disk::{NoMemory, SimDisk};
-use paxos_block::Value;
-use slot_log::Config;
+use paxos_block::{Config, Value};
 use std::alloc::Global;
 
 /// Runs a migration over disks of zeros, event by event, and gives the disks.

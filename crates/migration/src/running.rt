@@ -5,17 +5,16 @@ ghost use Rattle.torn_block.specs.declared.layout.TheConstants.{VALUE_LENGTH};
 ghost use Rattle.paxos_block.specs.Places.{image_length};
 ghost use Rattle.disk.specs.Simulated.{fresh_disk};
 ghost use Rattle.migration.specs.Events.{Event, Step, Tear, FailCall, DiskCrash, DiskGone};
-ghost use Rattle.migration.specs.Image.{Setup};
+ghost use Rattle.paxos_block.specs.Image.{Setup};
 ghost use Rattle.migration.specs.Kept.{setup_by};
 ghost use Rattle.migration.specs.Running.{LeadsTo, IsReached, calm, event_of};
 
 use crate::device_call::{is_refused, is_write, spoil};
 use crate::event::MigrationEvent;
 use crate::migrator::Migrator;
+use attempt::{Heard, answer_of};
 use disk::{DiskFault, NoMemory, SimDisk};
-use paxos_block::Value;
-use phases::{Heard, answer_of};
-use slot_log::Config;
+use paxos_block::{Config, Value};
 use std::alloc::Global;
 use torn_block::{ClusterLayout, ROW_LENGTH};
 

@@ -2,7 +2,9 @@ pub mod Ballot
 pub mod Damage
 pub mod Gist
 pub mod Headers
+pub mod Image
 pub mod Places
 pub mod Row
 pub mod Saying
+pub mod Shape
 pub mod Votes

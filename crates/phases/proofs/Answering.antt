@@ -9,11 +9,7 @@ use Rattle.torn_block.specs.declared.write_steps.WriteCall.TheVariants.{CloseGat
 use Rattle.torn_block.specs.Plan.{Plan, IsReading, plan_by, next_after}
 use Rattle.paxos_block.specs.Saying.{Said, body_saying}
 use Rattle.paxos_block.specs.declared.cell.Cell.{Cell}
-use Rattle.paxos_block.specs.Row.{DecodedBlock, seen_at, decoded_row, IsSeenAs, AreSeenAs}
-use Rattle.paxos_block.specs.declared.row.Row.{Row}
-use Rattle.paxos_block.specs.declared.gist.Gist.{Gist}
-use Rattle.paxos_block.specs.Gist.{IsGist}
-use Rattle.std.specs.Option.{IsSomeAnd}
+use Rattle.paxos_block.specs.Row.{DecodedBlock, seen_at, IsSeenAs}
 use Rattle.attempt.specs.Calls.{Phase, Opening, One, Two, start, goal}
 use Rattle.attempt.specs.Answers.{Heard, Booted, Done, Told, Answers, more, is_bad, all_good, row_in, boot_of, last_row, seen_block}
 use Rattle.attempt.specs.Setup.{Setup}
@@ -26,31 +22,18 @@ use Rattle.phases.specs.declared.phase.Phase as code_phase
 use Rattle.phases.specs.declared.phase.Phase.TheVariants as phase
 use Rattle.phases.specs.declared.phase.Stage.{Stage}
 use Rattle.phases.specs.declared.phase.Stage.TheVariants as stage
-use Rattle.phases.specs.declared.heard.Heard.TheVariants as answer
+use Rattle.attempt.specs.declared.heard.Heard.TheVariants as answer
 use Rattle.phases.specs.declared.visit.Visit.{Visit}
 use Rattle.phases.specs.Calls.{phase_in}
 use Rattle.torn_block.specs.Layout.{Version}
 use Rattle.phases.specs.Notes.{Notes, no_visit, visit_at}
-use Rattle.phases.specs.Steps.{made, answered, Suits, FitsStage, write_then, stage_then}
+use Rattle.attempt.specs.WriteCalls.{made}
+use Rattle.phases.specs.Steps.{answered, Suits, FitsStage, write_then, stage_then}
 use Rattle.phases.specs.Kept.{Remembers, KeepsRows, IsVisiting, IsWriting, Writes, Stands, Follows}
-use Rattle.phases.specs.Moves.{IsInOrder, IsPassed, ArePassed, ReadsAs, ReadsGist, Takes}
+use Rattle.phases.specs.Moves.{IsInOrder, IsPassed, ArePassed, Takes}
+use Rattle.attempt.specs.ReadRows.{ReadsGist}
 use Rattle.phases.proofs.Visiting.{no_answers}
 use Rattle.phases.proofs.Hearing.{IsDue, Stays, Ending, Dropped, Read, left_now, same_not_outrun, same_rows_kept, follows, opened_stays, remembers_more, due_there, remembers_now, boot_stays, stays_there, passes}
-
--- what a row was read as
-reads_by : {V : Type 0} (v : Version) (spelled : V → List ℕ) (bytes : List ℕ) (row : Row V) (o : Option (List DecodedBlock)) → decoded_row v bytes ≡ o → IsSomeAnd o (λ seen. AreSeenAs v spelled seen row) → ReadsAs v spelled bytes row
-reads_by v spelled bytes row None is some = absurd some
-reads_by v spelled bytes row (Some seen) is so = record { seen = seen; said = is; so = so }
-
-pub reads_as : {V : Type 0} (v : Version) (spelled : V → List ℕ) (bytes : List ℕ) (row : Row V) → IsSomeAnd (decoded_row v bytes) (λ seen. AreSeenAs v spelled seen row) → ReadsAs v spelled bytes row
-reads_as v spelled bytes row so = reads_by v spelled bytes row (decoded_row v bytes) refl so
-
-gist_by : {V : Type 0} (v : Version) (spelled : V → List ℕ) (host : ℕ) (best : Said) (bytes : List ℕ) (gist : Gist V) (o : Option (List DecodedBlock)) → decoded_row v bytes ≡ o → IsSomeAnd o (λ seen. IsGist v spelled host best seen gist) → ReadsGist v spelled host best bytes gist
-gist_by v spelled host best bytes gist None is some = absurd some
-gist_by v spelled host best bytes gist (Some seen) is so = record { seen = seen; said = is; so = so }
-
-pub reads_gist : {V : Type 0} (v : Version) (spelled : V → List ℕ) (host : ℕ) (best : Said) (bytes : List ℕ) (gist : Gist V) → IsSomeAnd (decoded_row v bytes) (λ seen. IsGist v spelled host best seen gist) → ReadsGist v spelled host best bytes gist
-reads_gist v spelled host best bytes gist so = gist_by v spelled host best bytes gist (decoded_row v bytes) refl so
 
 -- what is known where a call is due, of an attempt that goes on
 pub visiting : (f : Answers) (n : Notes) → n.end ≡ None → Follows f n → IsVisiting n.phase f n

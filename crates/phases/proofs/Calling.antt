@@ -23,16 +23,18 @@ use Rattle.attempt.proofs.Histories.{IsOrderly, orderly}
 use Rattle.attempt.proofs.Lists.{row_none}
 use Rattle.attempt.proofs.More.{on_more}
 use Rattle.attempt.proofs.Hearing.{history_more}
-use Rattle.phases.specs.declared.need.DeviceCall as code_call
-use Rattle.phases.specs.declared.need.DeviceCall.TheVariants as call
+use Rattle.attempt.specs.declared.need.DeviceCall as code_call
+use Rattle.attempt.specs.declared.need.DeviceCall.TheVariants as call
 use Rattle.phases.specs.declared.phase.Phase as code_phase
 use Rattle.phases.specs.declared.phase.Phase.TheVariants as phase
 use Rattle.phases.specs.declared.phase.Stage.{Stage}
 use Rattle.phases.specs.declared.phase.Stage.TheVariants as stage
 use Rattle.phases.specs.declared.visit.Visit.{Visit}
-use Rattle.phases.specs.Calls.{phase_in, IsWithin, Ending, end_in}
+use Rattle.phases.specs.Calls.{phase_in, Ending, end_in}
+use Rattle.attempt.specs.DeviceCalls.{IsWithin}
 use Rattle.phases.specs.Notes.{Notes, visit_at}
-use Rattle.phases.specs.Steps.{made, answered, Suits, write_due}
+use Rattle.attempt.specs.WriteCalls.{made, write_due}
+use Rattle.phases.specs.Steps.{answered, Suits}
 use Rattle.phases.specs.Kept.{call_at, call_due, Remembers, Writes, IsVisiting, Stands, end_of_status, Follows, LeadsTo}
 use Rattle.phases.specs.Moves.{IsOpenedIn, IsInOrder, Takes}
 use Rattle.phases.proofs.Hearing.{remembers_now}

@@ -16,7 +16,8 @@ use Rattle.attempt.specs.NextCall.{says_for}
 use Rattle.attempt.specs.History.{IsHistory}
 use Rattle.phases.specs.Calls.{phase_in, Ending, end_of}
 use Rattle.phases.specs.Notes.{Notes, visit_at}
-use Rattle.phases.specs.Steps.{answered, Suits, write_due}
+use Rattle.phases.specs.Steps.{answered, Suits}
+use Rattle.attempt.specs.WriteCalls.{write_due}
 use Rattle.phases.specs.declared.phase.Phase as code_phase
 use Rattle.phases.specs.declared.phase.Stage.{Stage}
 use Rattle.phases.specs.declared.phase.Stage.TheVariants as stage

@@ -2,10 +2,7 @@
 -- disks of its phase.
 use Rattle.std.specs.Prelude.{◌≡◌, ◌<◌, ◌≤◌, ◌*◌, ◌&&◌, ℕ, Bool, true, false, max, List, length, nat_lt, nat_le, slice_get, Option, Some, None, if◌then◌else◌}
 use Rattle.paxos_block.specs.Saying.{Said}
-use Rattle.paxos_block.specs.declared.row.Row.{Row}
-use Rattle.paxos_block.specs.declared.gist.Gist.{Gist}
-use Rattle.paxos_block.specs.Gist.{IsGist}
-use Rattle.paxos_block.specs.Row.{DecodedBlock, AreSeenAs, decoded_row}
+use Rattle.paxos_block.specs.Row.{DecodedBlock}
 use Rattle.paxos_block.specs.Votes.{says_in, highest_mbal, highest_mbal_of_others, later_of, latest_in, marked_in}
 use Rattle.attempt.specs.Calls.{Phase, Opening, One, Two, start, goal}
 use Rattle.attempt.specs.Answers.{Heard, Booted, Answers, more, all_good, row_in}
@@ -44,18 +41,6 @@ pub record IsInOrder (s : Setup) (p : Phase) (d : ℕ) (f : Answers) : Type 0 wh
 -- whatever the answers before led to what was kept, with this one more they lead to what is kept now
 abbrev pub Takes : Heard → Notes → Notes → Type 0
 Takes x old new = (f : Answers) → IsInOrder old.of (phase_in old.phase) old.disk f → Follows f old → Follows (more f old.disk x) new
-
--- the bytes are a sound row, and this is what was made of it
-pub record ReadsAs {V : Type 0} (v : Version) (spelled : V → List ℕ) (bytes : List ℕ) (row : Row V) : Type 0 where
-  pub seen : List DecodedBlock
-  pub said : decoded_row v bytes ≡ Some seen
-  pub so : AreSeenAs v spelled seen row
-
--- the same where only the row's gist is made, by a host that has found this vote
-pub record ReadsGist {V : Type 0} (v : Version) (spelled : V → List ℕ) (host : ℕ) (best : Said) (bytes : List ℕ) (gist : Gist V) : Type 0 where
-  pub seen : List DecodedBlock
-  pub said : decoded_row v bytes ≡ Some seen
-  pub so : IsGist v spelled host best seen gist
 
 -- from phase 1 on another host's greater ballot ends the attempt
 abbrev pub above : ℕ → ℕ → Option ℕ

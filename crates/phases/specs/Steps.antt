@@ -1,29 +1,17 @@
 -- Where an attempt is with the calls of a phase on one disk.
 use Rattle.std.specs.Prelude.{◌≡◌, ◌+◌, ℕ, pred, true, Option, Some, None, is_some}
-use Rattle.disk.specs.Disk as device
 use Rattle.torn_block.specs.declared.write_steps.WriteCall.{WriteCall}
-use Rattle.torn_block.specs.declared.write_steps.WriteCall.TheVariants.{CloseGate, SyncClosed, PutBody, SyncBody, OpenGate, SyncOpened}
-use Rattle.torn_block.specs.Plan.{Plan, next_after, need_at, device_call}
+use Rattle.torn_block.specs.Plan.{Plan, next_after}
 use Rattle.torn_block.specs.Layout.{Version, copy_length}
 use Rattle.attempt.specs.Calls.{Phase, start, goal}
-use Rattle.phases.specs.declared.heard.Heard as code_heard
-use Rattle.phases.specs.declared.heard.Heard.TheVariants as answer
+use Rattle.attempt.specs.declared.heard.Heard as code_heard
+use Rattle.attempt.specs.declared.heard.Heard.TheVariants as answer
 use Rattle.phases.specs.declared.phase.Phase as code_phase
 use Rattle.phases.specs.declared.phase.Phase.TheVariants as phase
 use Rattle.phases.specs.declared.phase.Stage.{Stage}
 use Rattle.phases.specs.declared.phase.Stage.TheVariants as stage
 
--- so many calls of a write were answered
-abbrev pub made : Option WriteCall → ℕ
-made (Some CloseGate) = 0
-made (Some SyncClosed) = 1
-made (Some PutBody) = 2
-made (Some SyncBody) = 3
-made (Some OpenGate) = 4
-made (Some SyncOpened) = 5
-made None = 6
-
--- and so many of all the calls on a disk
+-- so many of all the calls on a disk were answered
 abbrev pub answered : Phase → Stage → ℕ
 answered p stage.Attaching = 0
 answered p stage.Syncing = 1
@@ -62,7 +50,3 @@ write_then plan (Some call) = stage.Writing (record plan { due = Some call })
 abbrev pub stage_then : Stage → Stage
 stage_then (stage.Writing plan) = write_then plan (next_after plan.due)
 stage_then other = stage.Reading
-
-abbrev pub write_due : ℕ → ℕ → Plan → Option WriteCall → device.Call
-write_due place boot plan None = device.Sync boot
-write_due place boot plan (Some call) = device_call place boot (need_at plan call)

@@ -1,5 +1,5 @@
 ghost use Rattle.std.specs.Prelude.{◌≡◌, ℕ, List};
-ghost use Rattle.phases.specs.declared.heard.Heard.TheVariants.{Done};
+ghost use Rattle.attempt.specs.declared.heard.Heard.TheVariants.{Done};
 ghost use Rattle.phases.specs.Steps.{FitsStage, stage_then};
 
 use torn_block::WriteSteps;

@@ -1,7 +1,7 @@
 -- What an operation leaves of a host's number, and how it was refused.
 use Rattle.std.proofs.Common.{◌≡◌, ◌⊎◌, ◌+◌, ◌<◌, ℕ, List, [], ◌∷◌, ◌++◌, length, get_or, inl, inr, sym, ap, subst, ◌∙◌, arith}
 use Rattle.std.proofs.lemmas.List.{length-append, get_or_default}
-use Rattle.slot_log.specs.Shape.{Shape}
+use Rattle.paxos_block.specs.Shape.{Shape}
 use Rattle.world.specs.Entry.{Filled}
 use Rattle.cluster_tie.specs.Parts.{Own, adds}
 use Rattle.cluster.specs.declared.fault.HostFault.{HostFault}

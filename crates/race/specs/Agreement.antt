@@ -1,7 +1,7 @@
 -- When the prefixes of hosts agree.
 use Rattle.std.specs.Prelude.{◌<◌, ◌⊎◌, ℕ, List, length, slice_index_or}
 use Rattle.lock_command.specs.declared.command.Command.{Command}
-use Rattle.slot_log.specs.Shape.{Shape}
+use Rattle.paxos_block.specs.Shape.{Shape}
 use Rattle.host.specs.Host.{learned_of}
 use Rattle.world.specs.Headline.{IsPrefix}
 use Rattle.cluster_tie.specs.Parts.{Own}

@@ -1,7 +1,7 @@
 -- A race of hosts, and what it leaves.
 use Rattle.std.specs.Prelude.{◌≡◌, ◌<◌, ◌≤◌, ◌↔◌, ℕ, Bool, IsTrue, List, [], length, slice_index_or}
 use Rattle.lock_command.specs.declared.command.Command.{Command}
-use Rattle.slot_log.specs.Shape.{Shape}
+use Rattle.paxos_block.specs.Shape.{Shape}
 use Rattle.host.specs.Host.{learned_of}
 use Rattle.world.specs.Entry.{Filled, of_host}
 use Rattle.world.specs.World.{world, IsFreshRun}

@@ -16,10 +16,10 @@ use Rattle.torn_block.proofs.PlanLaws.{plan_calls}
 use Rattle.paxos_block.proofs.VoteLemmas.{unspent, spent}
 use Rattle.attempt.specs.Heard.{Heard, Booted, Done, Told, Fault, Answers, more, is_bad, told, heard_by, Fits}
 use Rattle.attempt.specs.NextCall.{with_disk}
-use Rattle.phases.specs.Calls.{device_answer}
-use Rattle.phases.specs.Steps.{made, write_due}
-use Rattle.phases.specs.declared.heard.Heard as code_heard
-use Rattle.phases.specs.declared.heard.Heard.TheVariants as answer
+use Rattle.attempt.specs.DeviceCalls.{device_answer}
+use Rattle.attempt.specs.WriteCalls.{made, write_due}
+use Rattle.attempt.specs.declared.heard.Heard as code_heard
+use Rattle.attempt.specs.declared.heard.Heard.TheVariants as answer
 use Rattle.rounds.specs.Status.{Duty, Due, status, read_in, write_on, call_on, next_in, is_left, is_held, waits}
 use Rattle.rounds.specs.Kept.{IsToWrite, IsWriting, IsAt, IsVisiting, IsPassed, Follows, Stands, at_start, goes_on, drops, passes, begins, writes_on, succeeds, hears, call_at, call_due, end_of_status, end_by}
 use Rattle.rounds.specs.declared.end.End as code_end

@@ -10,9 +10,9 @@ use Rattle.torn_block.specs.Plan.{IsReading, told_number, plan_by, next_after}
 use Rattle.paxos_block.specs.Row.{number_or_zero}
 use Rattle.attempt.specs.Heard.{Heard, Booted, Done, Told, Answers}
 use Rattle.attempt.specs.Numbers.{count}
-use Rattle.phases.specs.declared.heard.Heard as code_heard
-use Rattle.phases.specs.declared.heard.Heard.TheVariants as answer
-use Rattle.phases.specs.Steps.{made, write_due}
+use Rattle.attempt.specs.declared.heard.Heard as code_heard
+use Rattle.attempt.specs.declared.heard.Heard.TheVariants as answer
+use Rattle.attempt.specs.WriteCalls.{made, write_due}
 use Rattle.rounds.specs.Status.{Duty, Status, Due, Ended, is_left, is_held, waits, are_enough, visited}
 use Rattle.rounds.specs.declared.end.End as code_end
 use Rattle.rounds.specs.declared.end.End.TheVariants as end

@@ -3,13 +3,13 @@ ghost use Rattle.std.specs.Prelude.{◌≡◌, ◌<◌, ◌≤◌, ◌+◌, ◌*
 ghost use Rattle.torn_block.specs.Layout.{cluster_version};
 ghost use Rattle.torn_block.specs.declared.layout.TheConstants.{DISKS, BLOCK_LENGTH, ROW_LENGTH, COPY_LENGTH};
 ghost use Rattle.torn_block.specs.Plan.{body_in};
-ghost use Rattle.phases.specs.Calls.{IsWithin, call_of_need, device_call_of};
-ghost use Rattle.phases.specs.Steps.{write_due};
+ghost use Rattle.attempt.specs.DeviceCalls.{IsWithin, call_of_need, device_call_of};
+ghost use Rattle.attempt.specs.WriteCalls.{write_due};
 ghost use Rattle.rounds.specs.Kept.{IsSound, at_start, call_due, hears, succeeds, begins, passes, drops, goes_on};
 
 use crate::end::End;
+use attempt::{DeviceCall, Heard, Need};
 use disk::Boot;
-use phases::{DeviceCall, Heard, Need};
 use torn_block::{
     BLOCK_LENGTH, BODY_ROOM, Block128, BlockNeed, Body, ClusterLayout, ROW_LENGTH, WriteSteps,
 };

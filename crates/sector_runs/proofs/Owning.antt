@@ -18,11 +18,11 @@ use Rattle.attempt.specs.Answers.{Heard, Answers, on, boot_of}
 use Rattle.attempt.specs.Setup.{Setup}
 use Rattle.attempt.specs.Status.{Status, Due, Ended, status}
 use Rattle.attempt.specs.NextCall.{with_disk, write_on, call_by, next_in}
-use Rattle.beats.specs.Answers as beat_answers
-use Rattle.beats.specs.Status as beat
-use Rattle.marks.specs.Status as mark
-use Rattle.looks.specs.Status as look
-use Rattle.slot_log.specs.Shape.{Shape}
+use Rattle.rounds.specs.Beat.Answers as beat_answers
+use Rattle.rounds.specs.Beat.Status as beat
+use Rattle.rounds.specs.Marking.Status as mark
+use Rattle.rounds.specs.Look.Status as look
+use Rattle.paxos_block.specs.Shape.{Shape}
 use Rattle.host.specs.Host.{Doing, Attempts, Looks, Beats, Marks, Memory, Host, Stopped, Running, setup_of, beat_of, marking_of, look_of, next_of, next_doing}
 use Rattle.world.specs.Entry.{Filled, Start, Stop, Begin, Called, Torn, is_on, is_of, on_disk, of_host, host_step}
 use Rattle.at_once.specs.AtOnce.{MayDo, Does}

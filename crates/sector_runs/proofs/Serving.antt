@@ -6,7 +6,7 @@ use Rattle.disk.proofs.CrashLemmas.{put-below, put-above}
 use Rattle.disk.specs.declared.fault.DiskFault.TheVariants.{Reset, Failed, Gone}
 use Rattle.disk.specs.Disk.{DiskState, Call, Attach, Read, Write, Sync, Answer, Booted, Told, Done, Fault, IsUnder, Torn, put_at, written, synced, FailureLeaves, Step}
 use Rattle.disk.specs.Disk as disks
-use Rattle.slot_log.specs.Shape.{Shape}
+use Rattle.paxos_block.specs.Shape.{Shape}
 use Rattle.world.specs.Entry.{Filled, Called, Crashed, Lost}
 use Rattle.world.specs.Entry as entry
 use Rattle.world.specs.World.{Tears}

@@ -2,7 +2,7 @@
 use Rattle.std.specs.Prelude.{◌≡◌, ◌+◌, ◌<◌, ◌^◌, ℕ, false, [], ◌∷◌, length}
 use Rattle.disk.specs.Disk.{DiskState, Call, Attach, Read, Write, Sync, success_of}
 use Rattle.torn_block.specs.declared.layout.TheConstants.{ROW_LENGTH}
-use Rattle.slot_log.specs.Shape.{Shape}
+use Rattle.paxos_block.specs.Shape.{Shape}
 use Rattle.world.specs.Entry.{Called}
 use Rattle.sectors.specs.declared.geometry.Geometry.{Geometry}
 use Rattle.sectors.specs.Geometry.{IsGeometry}

@@ -3,7 +3,7 @@ use Rattle.std.specs.Prelude.{◌≡◌, ℕ, List}
 use Rattle.disk.specs.Disk.{DiskState}
 use Rattle.lock_command.specs.declared.command.Command.{Command}
 use Rattle.lock_command.specs.declared.reply.Reply.{Reply}
-use Rattle.slot_log.specs.Shape.{Shape}
+use Rattle.paxos_block.specs.Shape.{Shape}
 use Rattle.host.specs.Kept.{Kept}
 use Rattle.world.specs.Entry.{Filled}
 use Rattle.dlm_images.specs.Operations.{IsAcknowledged}

@@ -2,7 +2,7 @@
 -- order of it all.
 use Rattle.std.specs.Prelude.{◌≡◌, ◌<◌, ◌^◌, ℕ, List, length, take, slice_get, Some}
 use Rattle.disk.specs.Disk.{DiskState}
-use Rattle.slot_log.specs.Shape.{Shape}
+use Rattle.paxos_block.specs.Shape.{Shape}
 use Rattle.host.specs.Host.{Stopped}
 use Rattle.world.specs.Entry.{Filled, Crashed, on_disk, of_host, host_after}
 use Rattle.sectors.specs.declared.geometry.Geometry.{Geometry}

@@ -4,7 +4,7 @@ use Rattle.disk.specs.Disk.{Call, Attach, Read, Write, Sync}
 use Rattle.torn_block.specs.Layout.{cluster_version}
 use Rattle.torn_block.specs.declared.layout.TheConstants.{HOSTS, BLOCK_LENGTH}
 use Rattle.paxos_block.specs.Places.{Spot, BeatOf, VoteOf, place_of}
-use Rattle.slot_log.specs.Shape.{Shape}
+use Rattle.paxos_block.specs.Shape.{Shape}
 use Rattle.host.specs.Host.{Stopped}
 use Rattle.world.specs.Entry.{Filled, Called, Torn, of_host}
 use Rattle.at_once.specs.AtOnce.{Does}

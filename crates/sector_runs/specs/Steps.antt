@@ -7,7 +7,7 @@ use Rattle.torn_block.specs.declared.layout.TheConstants.{BLOCK_LENGTH, ROW_LENG
 use Rattle.paxos_block.specs.Saying.{zeros}
 use Rattle.paxos_block.specs.Places as images
 use Rattle.paxos_block.specs.Places.{Spot}
-use Rattle.slot_log.specs.Shape.{Shape}
+use Rattle.paxos_block.specs.Shape.{Shape}
 use Rattle.world.specs.Entry.{Filled}
 use Rattle.sectors.specs.declared.geometry.Geometry.{Geometry}
 use Rattle.sectors.specs.declared.header.TheConstants.{DEVICE_HEADER_LENGTH}

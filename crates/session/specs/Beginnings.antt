@@ -1,6 +1,6 @@
 -- How operations on a claim begin.
 use Rattle.std.specs.Prelude.{◌≡◌, ◌≢◌, ℕ, List, Bool, Option, None, max}
-use Rattle.lock_modes.specs.declared.mode.Mode.{Mode}
+use Rattle.lock_command.specs.declared.mode.Mode.{Mode}
 use Rattle.session.specs.declared.beginning.Asker.{Asker}
 use Rattle.session.specs.declared.beginning.TheConstants.{LAST_TRIES}
 use Rattle.session.specs.declared.claim.Claim.{Claim}

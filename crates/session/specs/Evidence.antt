@@ -1,15 +1,15 @@
 -- What a log that was learned tells of a claim.
 use Rattle.std.specs.Prelude.{◌≡◌, ◌≢◌, ◌<◌, ◌≤◌, ◌⊎◌, ◌&&◌, ℕ, Bool, true, List, Some, slice_get}
 use Rattle.std.specs.List.{list_any}
-use Rattle.lock_modes.specs.declared.mode.Mode.{Mode}
-use Rattle.lock_modes.specs.Mode.{conflict}
+use Rattle.lock_command.specs.declared.mode.Mode.{Mode}
+use Rattle.lock_command.specs.Mode.{conflict}
 use Rattle.lock_command.specs.declared.command.Command.{Command}
 use Rattle.lock_command.specs.declared.command.Action.TheVariants.{Enqueue, Purge, QuietPurge}
 use Rattle.lock_command.specs.declared.state.LockState.{LockState}
 use Rattle.lock_command.specs.declared.state.LockState.TheVariants.{Granted, Converting, Waiting}
-use Rattle.lock_index.specs.Locks.{is_lock, is_on}
-use Rattle.lock_index.specs.State.{goal_of}
-use Rattle.lock_index.specs.declared.record.LockRecord.{LockRecord}
+use Rattle.lock_command.specs.Locks.{is_lock, is_on}
+use Rattle.lock_command.specs.State.{goal_of}
+use Rattle.lock_command.specs.declared.record.LockRecord.{LockRecord}
 use Rattle.lock_table.specs.declared.known_client.KnownClient.{KnownClient}
 use Rattle.lock_table.specs.Picture.{Shown}
 use Rattle.session.specs.Numbers.{client_of}

@@ -7,4 +7,3 @@ pub mod Moves
 pub mod Numbers
 pub mod Orders
 pub mod Outcomes
-pub mod Signs

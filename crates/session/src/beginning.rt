@@ -9,8 +9,7 @@ use crate::claim::{Claim, Goal, Standing, Step};
 use crate::numbers::lock_of;
 use crate::outcome::{Outcome, Why};
 use crate::pace::Pace;
-use lock_command::{HostNumber, LockName, LockNumber, ValueBytes};
-use lock_modes::Mode;
+use lock_command::{HostNumber, LockName, LockNumber, Mode, ValueBytes};
 
 /// How often in one operation a lock that was given up is released at most, once it is to end soon.
 pub const LAST_TRIES: u8 = 8;

@@ -4,8 +4,7 @@ ghost use Rattle.session.specs.Orders.{order_of};
 use crate::order::Order;
 use crate::outcome::{Outcome, Why};
 use crate::pace::Pace;
-use lock_command::{Command, HostNumber, LockName, LockNumber, RequestNumber, ValueBytes};
-use lock_modes::Mode;
+use lock_command::{Command, HostNumber, LockName, LockNumber, Mode, RequestNumber, ValueBytes};
 
 /// Where a claim stands, as far as its session knows.
 #[derive(Clone, Copy, Debug, PartialEq, Eq)]

@@ -1,6 +1,6 @@
 ghost use Rattle.std.specs.Prelude.{◌≡◌, ◌≢◌, ◌≤◌, ◌<◌, ◌^◌, ◌↔◌, ◌⊎◌, IsTrue, IfSome, length, None};
 ghost use Rattle.lock_command.specs.declared.state.LockState.TheVariants as lock;
-ghost use Rattle.lock_index.specs.State.{goal_of};
+ghost use Rattle.lock_command.specs.State.{goal_of};
 ghost use Rattle.lock_table.specs.declared.known_client.KnownClient.{KnownClient};
 ghost use Rattle.session.specs.Evidence as evidence;
 ghost use Rattle.session.specs.Evidence.{AsksFor, HasHeard, IsFirst, IsOf, IsRequest, Knows, Lacks, NoneBetween, Purges, Shows, ShowsWaiting};
@@ -8,9 +8,9 @@ ghost use Rattle.session.specs.Evidence.{AsksFor, HasHeard, IsFirst, IsOf, IsReq
 use crate::claim::Claim;
 use crate::numbers::client_of;
 use lock_command::{
-    Action, ClientNumber, Command, HostNumber, LockName, LockNumber, RequestNumber, ValueBytes,
+    Action, ClientNumber, Command, HostNumber, LockName, LockNumber, Mode, RequestNumber,
+    ValueBytes, compatible,
 };
-use lock_modes::{Mode, compatible};
 use lock_table::{LockRecord, LockState, Picture};
 
 /// How a table shows the claimed lock.

@@ -13,7 +13,6 @@ mod order;
 mod outcome;
 mod pace;
 mod releasing;
-mod signs;
 
 pub use beginning::Asker;
 pub use claim::{Choice, Claim, Goal, Sign, Standing, Step, Then};
@@ -23,4 +22,3 @@ pub use numbers::{FIRST_CLIENT, FIRST_LOCK, LOCKS_OF_A_HOST, client_of, lock_of}
 pub use order::Order;
 pub use outcome::{Failure, Outcome, Why};
 pub use pace::Pace;
-pub use signs::{sign_name, signs_are_of_one_lock};

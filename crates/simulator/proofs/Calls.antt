@@ -11,7 +11,7 @@ use Rattle.disk.specs.Simulated.{SimState, refusal_of, crashed}
 use Rattle.torn_block.specs.Layout.{cluster_version}
 use Rattle.paxos_block.specs.Places.{image_length}
 use Rattle.torn_block.specs.declared.layout.TheConstants.{HOSTS}
-use Rattle.slot_log.specs.Shape.{Shape}
+use Rattle.paxos_block.specs.Shape.{Shape}
 use Rattle.host.specs.Host.{Host, Running, Memory, hears_from, Doing, next_in, next_of, next_doing}
 use Rattle.host.specs.Kept as hosts
 use Rattle.host.proofs.Hosts.{idle_is}

@@ -1,7 +1,7 @@
 -- What a line tells: an entry of its event, and what the host of that says then.
 use Rattle.std.specs.Prelude.{slice_get, slice_index_or, IsSome}
 use Rattle.std.proofs.Common.{ℕ, zero, suc, ◌≡◌, Option, Some, None, List, [], ◌∷◌, ◌++◌, refl, sym, ap, subst}
-use Rattle.slot_log.specs.Shape.{Shape}
+use Rattle.paxos_block.specs.Shape.{Shape}
 use Rattle.host.specs.declared.answer.HostAnswer.{HostAnswer}
 use Rattle.host.specs.Host.{Host, Stopped, Running, said_of}
 use Rattle.host.specs.Kept as hosts

@@ -10,9 +10,9 @@ use Rattle.disk.proofs.PutLemmas.{length-put_at}
 use Rattle.torn_block.specs.Layout.{cluster_version}
 use Rattle.torn_block.specs.declared.layout.TheConstants.{HOSTS, ROW_LENGTH}
 use Rattle.paxos_block.specs.Places.{image_length, row_place}
-use Rattle.migration.specs.Image.{row_for, rows_for}
+use Rattle.paxos_block.specs.Image.{row_for, rows_for}
 use Rattle.lock_command.specs.declared.command.Command.{Command}
-use Rattle.slot_log.specs.Shape.{Shape}
+use Rattle.paxos_block.specs.Shape.{Shape}
 use Rattle.host.specs.Host.{Stopped}
 use Rattle.host.specs.Kept as hosts
 use Rattle.world.specs.Entry.{Migrated, migrated_to}

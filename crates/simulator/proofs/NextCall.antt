@@ -3,7 +3,7 @@ use Rattle.std.specs.Prelude.{◌&&◌, is_none}
 use Rattle.std.proofs.Common.{ℕ, ◌<◌, ◌≡◌, Bool, false, Option, Some, None, get_or, sym, ap, ◌∙◌}
 use Rattle.disk.specs.Disk.{DiskState, Call}
 use Rattle.disk.specs.Simulated.{SimState, refusal_of}
-use Rattle.slot_log.specs.Shape.{Shape}
+use Rattle.paxos_block.specs.Shape.{Shape}
 use Rattle.host.specs.Host.{Memory, next_of, next_in}
 use Rattle.host.specs.Kept as hosts
 use Rattle.world.specs.World.{world}

@@ -2,7 +2,7 @@
 use Rattle.std.specs.Prelude.{take, slice_get}
 use Rattle.std.proofs.Common.{ℕ, zero, suc, ◌≡◌, Some, List, [], ◌∷◌, refl, ap, inl, inr}
 use Rattle.lock_command.specs.declared.command.Command.{Command}
-use Rattle.slot_log.specs.Shape.{Shape}
+use Rattle.paxos_block.specs.Shape.{Shape}
 use Rattle.world.specs.Entry.{Filled, Migrated}
 use Rattle.world.specs.World.{world, CanMigrate, IsRun}
 use Rattle.world.specs.Happens.{Event, entry_of, happen, run}

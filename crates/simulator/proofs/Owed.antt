@@ -12,10 +12,10 @@ use Rattle.disk.proofs.StepLemmas.{shape_fresh}
 use Rattle.torn_block.specs.Layout.{cluster_version}
 use Rattle.paxos_block.specs.Places.{image_length}
 use Rattle.torn_block.specs.declared.layout.TheConstants.{HOSTS}
-use Rattle.slot_log.specs.Shape.{Shape}
-use Rattle.phases.specs.declared.need.Need.{Need}
-use Rattle.phases.specs.declared.need.DeviceCall as code_call
-use Rattle.phases.specs.Calls.{call_of_need, device_call_of, IsWithin}
+use Rattle.paxos_block.specs.Shape.{Shape}
+use Rattle.attempt.specs.declared.need.Need.{Need}
+use Rattle.attempt.specs.declared.need.DeviceCall as code_call
+use Rattle.attempt.specs.DeviceCalls.{call_of_need, device_call_of, IsWithin}
 use Rattle.host.specs.declared.answer.HostAnswer.{HostAnswer}
 use Rattle.host.specs.declared.task.Task.{Task}
 use Rattle.host.specs.Host.{Stopped, Memory, fresh, starts as starts_task, hears_from, next_in}

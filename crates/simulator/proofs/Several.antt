@@ -3,7 +3,7 @@ use Rattle.std.specs.Prelude.{◌-◌, replicate}
 use Rattle.std.specs.Option.{option_map}
 use Rattle.std.proofs.Common.{ℕ, zero, suc, ◌+◌, ◌≡◌, Option, Some, None, List, [], ◌∷◌, ◌++◌, length, refl, sym, ap, ◌∙◌, subst, arith, append-nil, length-append}
 use Rattle.disk.specs.Disk.{Call}
-use Rattle.slot_log.specs.Shape.{Shape}
+use Rattle.paxos_block.specs.Shape.{Shape}
 use Rattle.host.specs.Host.{next_of}
 use Rattle.world.specs.Entry.{Filled}
 use Rattle.world.specs.World.{World, world}

@@ -18,7 +18,7 @@ use Rattle.std.proofs.lemmas.List.{get_or-set_same, get_or-set_other}
 use Rattle.std.proofs.lemmas.Bool.{cases_Bool, eqb-true, eqb-false}
 use Rattle.world.specs.Happens.{Event}
 use Rattle.simulator.proofs.Changes.{one_disk, no_disk, one_host, no_host}
-use Rattle.slot_log.specs.Shape.{Shape}
+use Rattle.paxos_block.specs.Shape.{Shape}
 
 -- WHAT IS KEPT OF A HOST
 

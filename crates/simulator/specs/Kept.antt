@@ -6,7 +6,7 @@ use Rattle.disk.specs.Simulated.{SimState, refusal_of}
 use Rattle.torn_block.specs.Layout.{cluster_version}
 use Rattle.paxos_block.specs.Places.{image_length}
 use Rattle.torn_block.specs.declared.layout.TheConstants.{HOSTS}
-use Rattle.slot_log.specs.Shape.{Shape}
+use Rattle.paxos_block.specs.Shape.{Shape}
 use Rattle.host.specs.Host.{Host, Stopped, Running, next_of}
 use Rattle.host.specs.Kept as hosts
 use Rattle.world.specs.Entry.{Filled}

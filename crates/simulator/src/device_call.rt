@@ -4,13 +4,13 @@ ghost use Rattle.disk.specs.declared.fault.DiskFault.TheVariants.{Failed};
 ghost use Rattle.disk.specs.Simulated.{refusal_of};
 ghost use Rattle.attempt.specs.History.{Fits};
 ghost use Rattle.torn_block.specs.Layout.{cluster_version};
-ghost use Rattle.phases.specs.Calls.{device_answer, device_call_of, heard_of, IsWithin};
+ghost use Rattle.attempt.specs.DeviceCalls.{device_answer, device_call_of, heard_of, IsWithin};
 ghost use Rattle.world.specs.Entry.{called_by};
 ghost use Rattle.world.specs.Happens.{answer_of, spread_over};
 ghost use Rattle.simulator.specs.Calls.{is_write, may_crash, crashed_if, lost_if};
 
+use attempt::{DeviceCall, Heard, answer_of};
 use disk::{Disk, DiskFault, SimDisk};
-use phases::{DeviceCall, Heard, answer_of};
 use torn_block::{ClusterLayout, ROW_LENGTH};
 
 /// Makes a call on a disk.

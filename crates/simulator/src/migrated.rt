@@ -4,7 +4,7 @@ ghost use Rattle.disk.specs.Disk.{written, synced};
 ghost use Rattle.disk.specs.Simulated.{SimState, fresh_disk};
 ghost use Rattle.torn_block.specs.Layout.{cluster_version};
 ghost use Rattle.paxos_block.specs.Places.{image_length, row_place};
-ghost use Rattle.migration.specs.Image.{rows_for};
+ghost use Rattle.paxos_block.specs.Image.{rows_for};
 ghost use Rattle.lock_command.specs.declared.command.Command.{Command};
 ghost use Rattle.lock_command.specs.Command.{spelling};
 ghost use Rattle.world.specs.Entry.{migrated_to};
@@ -15,8 +15,7 @@ ghost use Rattle.simulator.specs.Kept.{calm};
 use disk::{Boot, Disk, NoMemory, SimDisk};
 use lock_command::{Command, Value};
 use migration::row_for;
-use paxos_block::row_place;
-use slot_log::Config;
+use paxos_block::{Config, row_place};
 use std::alloc::Global;
 use torn_block::ClusterLayout;
 

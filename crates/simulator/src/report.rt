@@ -12,7 +12,7 @@ use crate::simulated_cluster::SimulatedCluster;
 use disk::NoMemory;
 use lock_command::Command;
 use lock_script::Event;
-use slot_log::Config;
+use paxos_block::Config;
 use std::alloc::Global;
 use std::marker::Model;
 use world_served::alone_submissions_are_served;

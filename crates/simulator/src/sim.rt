@@ -14,7 +14,7 @@ use disk::NoMemory;
 use host::HostCore;
 use lock_command::Command;
 use lock_script::Event;
-use slot_log::Config;
+use paxos_block::Config;
 use std::alloc::Global;
 use std::marker::Model;
 

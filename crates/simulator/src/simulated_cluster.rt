@@ -3,7 +3,7 @@ ghost use Rattle.disk.specs.Simulated.{fresh_disk};
 ghost use Rattle.torn_block.specs.Layout.{cluster_version};
 ghost use Rattle.paxos_block.specs.Places.{image_length};
 ghost use Rattle.std.specs.Option.{option_map};
-ghost use Rattle.slot_log.specs.Shape.{Shape};
+ghost use Rattle.paxos_block.specs.Shape.{Shape};
 ghost use Rattle.world.specs.Entry as entries;
 ghost use Rattle.world.specs.Entry.{Filled};
 ghost use Rattle.world.specs.Opening.{CanBegin, begun};
@@ -14,12 +14,12 @@ ghost use Rattle.simulator.specs.Kept.{TellsNext, Kept, LeadsTo, Brings, BringsA
 
 use crate::device_call::{crash_disk, is_write, lose_disk, make, refusal_of, spoil};
 use crate::migrated::{migrate_again, migrated_disks};
+use attempt::Heard;
 use disk::{DiskFault, NoMemory, SimDisk};
 use host::{HostAnswer, HostCore, Task};
 use lock_command::{Action, Command, HOSTS, HostNumber};
 use lock_script::Event;
-use phases::Heard;
-use slot_log::Config;
+use paxos_block::Config;
 use std::alloc::Global;
 use std::marker::Model;
 use torn_block::ROW_LENGTH;

@@ -16,12 +16,12 @@ use Rattle.phases.specs.Kept as attempts
 use Rattle.phases.specs.Kept.{end_of_status}
 use Rattle.attempt.specs.Laws.{IsServedAlone}
 use Rattle.slot_log.specs.Alone.{IsAnsweredAlone}
-use Rattle.slot_log.specs.Shape.{Shape}
+use Rattle.paxos_block.specs.Shape.{Shape}
 use Rattle.slot_log.specs.Learning.{Operation, Memory, Doing, setup_of, next_in, offered_by, says, does, begins, ended, tries_again, with_floor, with_heard, by_status, hears, takes, judges, offered_in, after_learning, is_placed, learns, goes_on}
 use Rattle.slot_log.specs.Kept.{LogTask, Kept, LeadsTo, chosen_in, GoesOn, AreDoing, IsDoing, IsOf, IsOver, is_idle, is_idle_with}
 use Rattle.slot_log.specs.declared.outcome.LogOutcome.{LogOutcome}
 use Rattle.slot_log.specs.declared.outcome.LogOutcome.TheVariants.{Refused}
-use Rattle.slot_log.specs.declared.outcome.Refusal.TheVariants as refusal
+use Rattle.attempt.specs.declared.refusal.Refusal.TheVariants as refusal
 use Rattle.torn_block.specs.Layout.{Version}
 
 -- where no operation is under way, nothing is asked of the attempt

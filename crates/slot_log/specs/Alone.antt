@@ -4,7 +4,7 @@ use Rattle.attempt.specs.Answers.{Answered}
 use Rattle.attempt.specs.Laws.{IsServedAlone}
 use Rattle.attempt.specs.Setup.{Setup}
 use Rattle.torn_block.specs.Layout.{Version}
-use Rattle.slot_log.specs.Shape.{Shape}
+use Rattle.paxos_block.specs.Shape.{Shape}
 use Rattle.slot_log.specs.Learning.{Memory, Doing, setup_of}
 
 -- an attempt has heard at most seventeen answers a disk, and is served where the other hosts rest and most disks answer well

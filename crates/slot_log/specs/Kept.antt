@@ -8,7 +8,7 @@ use Rattle.phases.specs.Calls.{Ending}
 use Rattle.phases.specs.declared.end.End.TheVariants as end
 use Rattle.phases.specs.Notes.{Notes}
 use Rattle.phases.specs.Kept as attempts
-use Rattle.slot_log.specs.Shape.{Shape}
+use Rattle.paxos_block.specs.Shape.{Shape}
 use Rattle.slot_log.specs.Learning.{Doing, Memory, operation_as, setup_of}
 use Rattle.slot_log.specs.declared.operation.LogTask as code_task
 use Rattle.slot_log.specs.declared.outcome.LogOutcome.{LogOutcome}

@@ -6,13 +6,13 @@ use Rattle.attempt.specs.Setup.{Setup}
 use Rattle.attempt.specs.Status.{Status, Due, Ended, End, status, taken}
 use Rattle.attempt.specs.Status as attempt
 use Rattle.attempt.specs.NextCall.{next_call}
-use Rattle.slot_log.specs.Shape.{Shape}
+use Rattle.paxos_block.specs.Shape.{Shape}
 use Rattle.torn_block.specs.Layout.{Version}
 use Rattle.slot_log.specs.declared.operation.Operation as code_operation
 use Rattle.slot_log.specs.declared.operation.Operation.TheVariants.{Placing, Recovering}
 use Rattle.slot_log.specs.declared.outcome.LogOutcome.{LogOutcome}
 use Rattle.slot_log.specs.declared.outcome.LogOutcome.TheVariants.{Placed, Recovered, Refused}
-use Rattle.slot_log.specs.declared.outcome.Refusal.TheVariants as refusal
+use Rattle.attempt.specs.declared.refusal.Refusal.TheVariants as refusal
 
 -- what a learner is asked to do, with the bytes of a value
 abbrev pub Operation : Type 0

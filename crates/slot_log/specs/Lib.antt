@@ -1,5 +1,3 @@
 pub mod Alone
 pub mod Kept
 pub mod Learning
-pub mod Refusals
-pub mod Shape

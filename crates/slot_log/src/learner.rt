@@ -2,18 +2,20 @@ ghost use Rattle.std.specs.Prelude.{◌≡◌, ◌≤◌, ◌<◌, ◌+◌, ◌+
 ghost use Rattle.torn_block.specs.Layout.{hosts_in};
 ghost use Rattle.paxos_block.specs.Places.{image_length};
 ghost use Rattle.attempt.specs.History.{Fits};
-ghost use Rattle.phases.specs.Calls.{call_of_need, heard_as, end_as, end_of, IsWithin};
+ghost use Rattle.attempt.specs.DeviceCalls.{call_of_need, heard_as, IsWithin};
+ghost use Rattle.phases.specs.Calls.{end_as, end_of};
 ghost use Rattle.phases.specs.Room.{RowFits};
 ghost use Rattle.slot_log.specs.Alone.{IsAnsweredAlone};
 ghost use Rattle.slot_log.specs.Kept.{Kept, task_as, chosen_in, LeadsTo, IsSameLog, is_idle, offered_of, due_call, IsOf, IsOver, KeepsLearned};
 ghost use Rattle.slot_log.specs.Learning.{Memory, operation_as, Doing, fresh, says, does, begins, goes_on, tries_again, ended, hears, takes, with_floor, learns, after_learning, is_idle_in, next_in, offered_in};
-ghost use Rattle.slot_log.specs.Shape.{Shape};
+ghost use Rattle.paxos_block.specs.Shape.{Shape};
 
-use crate::config::Config;
 use crate::operation::{LogTask, Operation, is_placed_by};
-use crate::outcome::{LogOutcome, Refusal};
+use crate::outcome::LogOutcome;
+use attempt::{Heard, Need, Refusal};
 use disk::NoMemory;
-use phases::{Attempt, End, Heard, Need};
+use paxos_block::Config;
+use phases::{Attempt, End};
 use std::alloc::Global;
 use std::marker::Model;
 use torn_block::Layout;

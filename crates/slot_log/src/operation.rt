@@ -1,7 +1,8 @@
 ghost use Rattle.std.specs.Prelude.{◌≡◌};
 ghost use Rattle.slot_log.specs.Learning.{operation_as, is_placed};
 
-use crate::outcome::{LogOutcome, Refusal};
+use crate::outcome::LogOutcome;
+use attempt::Refusal;
 use torn_block::Layout;
 
 /// What a learner is asked to do.

@@ -4,10 +4,9 @@ ghost use Rattle.lock_command.specs.Command.{is_submittable};
 use crate::names::name_of;
 use crate::numbers::Numbers;
 use lock_command::{
-    Action, Answer, ClientNumber, Command, HostNumber, LockName, LockNumber, Refusal, Reply,
+    Action, Answer, ClientNumber, Command, HostNumber, LockName, LockNumber, Mode, Refusal, Reply,
     RequestNumber, ValueBytes,
 };
-use lock_modes::Mode;
 
 /// How many locks clients use: as many as a table takes.
 const LOCKS: usize = 256;

@@ -7,8 +7,7 @@ use crate::names::drawn_names;
 use crate::numbers::Numbers;
 use crate::sessions::{Asked, Sessions, Wish};
 use crate::words::Size;
-use lock_command::{HostNumber, LockName, ValueBytes};
-use lock_modes::Mode;
+use lock_command::{HostNumber, LockName, Mode, ValueBytes};
 use std::alloc::{AllocError, Global};
 use std::collections::VecDeque;
 

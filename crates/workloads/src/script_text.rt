@@ -2,8 +2,7 @@ use crate::commands::Commands;
 use crate::failure::Failure;
 use crate::numbers::Numbers;
 use crate::words::Size;
-use lock_command::{Action, Command, HostNumber, ValueBytes};
-use lock_modes::Mode;
+use lock_command::{Action, Command, HostNumber, Mode, ValueBytes};
 use std::io::{self, Write};
 
 /// How many submissions a host makes before the next one goes on.

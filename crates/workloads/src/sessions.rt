@@ -5,10 +5,9 @@ use crate::digest::Digest;
 use crate::failure::Failure;
 use crate::numbers::Numbers;
 use lock_command::{
-    Action, Answer, ClientNumber, Command, HOSTS, HostNumber, LockName, LockNumber, Refusal, Reply,
-    RequestNumber, ValueBytes,
+    Action, Answer, ClientNumber, Command, HOSTS, HostNumber, LockName, LockNumber, Mode, Refusal,
+    Reply, RequestNumber, ValueBytes,
 };
-use lock_modes::Mode;
 use lock_table::Table;
 use std::alloc::Global;
 

@@ -5,7 +5,7 @@ use Rattle.std.proofs.lemmas.Bool.{eqb-true, cases_Bool}
 use Rattle.disk.specs.Disk.{DiskState, Call, Attach, Read, Write, Sync, Answer, Booted, Told, Done, Fault, Step, success_of}
 use Rattle.attempt.specs.Answers.{heard_as}
 use Rattle.attempt.specs.History.{Fits}
-use Rattle.slot_log.specs.Shape.{Shape}
+use Rattle.paxos_block.specs.Shape.{Shape}
 use Rattle.host.specs.declared.task.Task.{Task}
 use Rattle.host.specs.Host.{Memory, Host, Stopped, Running, fresh, starts, hears_from, is_idle, idles, next_in, next_of}
 use Rattle.world.specs.Entry.{Filled, Start, Stop, Begin, Called, Torn, Crashed, Lost, Migrated, is_of, host_step, hears_on, started, begins_on}

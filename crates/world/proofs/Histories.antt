@@ -25,21 +25,21 @@ use Rattle.attempt.proofs.Histories.{visit, history_reached}
 use Rattle.torn_block.specs.Layout.{Version}
 use Rattle.paxos_block.specs.Row.{DecodedBlock}
 use Rattle.paxos_block.proofs.VoteLemmas.{greatest_is_greatest}
-use Rattle.beats.specs.Answers as beat_answers
-use Rattle.beats.specs.History as beat_history
-use Rattle.beats.specs.Status as beat
-use Rattle.beats.proofs.Histories as beats
-use Rattle.marks.specs.History as mark_history
-use Rattle.marks.specs.Status as mark
-use Rattle.marks.proofs.Histories as marks
-use Rattle.looks.specs.History as look_history
-use Rattle.looks.specs.Status as look
-use Rattle.looks.proofs.Histories as looks
-use Rattle.looks.proofs.Ends.{decided_is}
+use Rattle.rounds.specs.Beat.Answers as beat_answers
+use Rattle.rounds.specs.Beat.History as beat_history
+use Rattle.rounds.specs.Beat.Status as beat
+use Rattle.rounds.proofs.Beat.Histories as beats
+use Rattle.rounds.specs.Marking.History as mark_history
+use Rattle.rounds.specs.Marking.Status as mark
+use Rattle.rounds.proofs.Marking.Histories as marks
+use Rattle.rounds.specs.Look.History as look_history
+use Rattle.rounds.specs.Look.Status as look
+use Rattle.rounds.proofs.Look.Histories as looks
+use Rattle.rounds.proofs.Look.Ends.{decided_is}
 use Rattle.lock_command.specs.declared.command.Command.{Command}
 use Rattle.lock_command.specs.Reading.{decoded}
-use Rattle.slot_log.specs.Shape.{Shape}
-use Rattle.slot_log.specs.declared.outcome.Refusal.TheVariants as refusal
+use Rattle.paxos_block.specs.Shape.{Shape}
+use Rattle.attempt.specs.declared.refusal.Refusal.TheVariants as refusal
 use Rattle.host.specs.declared.answer.HostAnswer.TheVariants.{Looked, Refused}
 use Rattle.host.specs.declared.task.Task.{Task}
 use Rattle.host.specs.declared.task.Task.TheVariants.{Submit, Recover, Look, Beat, Mark}

@@ -3,9 +3,9 @@ use Rattle.std.proofs.Common.{ℕ, ◌<◌, ◌≡◌, Some, List, [], ◌∷◌
 use Rattle.disk.specs.Disk.{Call}
 use Rattle.attempt.specs.Answers.{Answered, on, heard_as}
 use Rattle.attempt.proofs.Hearing.{history_more}
-use Rattle.looks.specs.History.{IsHistory}
-use Rattle.looks.specs.Status.{Setup, next_call}
-use Rattle.slot_log.specs.Shape.{Shape}
+use Rattle.rounds.specs.Look.History.{IsHistory}
+use Rattle.rounds.specs.Look.Status.{Setup, next_call}
+use Rattle.paxos_block.specs.Shape.{Shape}
 use Rattle.host.specs.Host.{Looking, Looks, Memory, Host, Running, look_of, next_doing, next_of}
 use Rattle.world.specs.Entry.{Filled}
 use Rattle.world.specs.World.{world, IsRun}

@@ -6,11 +6,11 @@ use Rattle.disk.specs.declared.fault.DiskFault.TheVariants.{Failed}
 use Rattle.disk.specs.Disk.{DiskState, Call, Attach, Read, Write, Sync, Answer, Fault}
 use Rattle.attempt.specs.Answers.{on, heard_as}
 use Rattle.attempt.specs.Looking.{OnlyReads}
-use Rattle.looks.specs.Status.{Status, Due, Ended, Decided, Unmarked, NoMajority, status}
-use Rattle.looks.proofs.Histories as histories
+use Rattle.rounds.specs.Look.Status.{Status, Due, Ended, Decided, Unmarked, NoMajority, status}
+use Rattle.rounds.proofs.Look.Histories as histories
 use Rattle.lock_command.specs.declared.command.Command.{Command}
 use Rattle.lock_command.specs.Reading.{decoded}
-use Rattle.slot_log.specs.Shape.{Shape}
+use Rattle.paxos_block.specs.Shape.{Shape}
 use Rattle.host.specs.declared.answer.HostAnswer.TheVariants.{Looked}
 use Rattle.host.specs.Host.{Doing, Looking, Looks, Memory, Running, does, says, learns, hears_from, hears_look, look_of, look_by, looks_on, looking_with, takes_marked, next_of}
 use Rattle.world.specs.Entry.{Filled, Start, Stop, Begin, Called, Torn, Crashed, Lost, Migrated, is_of, called_by, disk_step}

@@ -3,7 +3,7 @@ use Rattle.std.specs.Prelude.{filter}
 use Rattle.std.proofs.Common.{ℕ, ◌≡◌, Bool, true, false, cond, List, [], ◌∷◌, ◌++◌, refl, ap, ◌∙◌, append-nil}
 use Rattle.std.proofs.lemmas.List.Elements.{filter-append}
 use Rattle.disk.specs.Disk.{DiskState}
-use Rattle.slot_log.specs.Shape.{Shape}
+use Rattle.paxos_block.specs.Shape.{Shape}
 use Rattle.host.specs.Host.{Host, Stopped}
 use Rattle.world.specs.Entry.{Filled, is_on, is_of, on_disk, of_host, disk_step, disk_after, host_step, host_after}
 use Rattle.world.specs.World.{opening_disk, world}

@@ -11,7 +11,7 @@ use Rattle.disk.specs.Crash.{IsWhole}
 use Rattle.disk.specs.Filling.{nth_given, spread, filled}
 use Rattle.disk.specs.Simulated.{refusal_under, refusal_of}
 use Rattle.torn_block.specs.declared.layout.TheConstants.{HOSTS}
-use Rattle.slot_log.specs.Shape.{Shape}
+use Rattle.paxos_block.specs.Shape.{Shape}
 use Rattle.host.specs.declared.task.Task.{Task}
 use Rattle.host.specs.declared.task.Task.TheVariants.{Submit, Recover, Look, Beat, Mark}
 use Rattle.host.specs.Host.{next_of}

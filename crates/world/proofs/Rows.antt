@@ -8,14 +8,14 @@ use Rattle.torn_block.specs.Block.{sequence_of, body_of, number_bytes, tail_with
 use Rattle.torn_block.specs.Place.{copy_in}
 use Rattle.paxos_block.specs.Row.{decoded_row}
 use Rattle.paxos_block.specs.Saying.{zeros, heading, body_saying, number_at, claim_of, is_said}
-use Rattle.lock_modes.specs.declared.mode.Mode.TheVariants.{Exclusive}
+use Rattle.lock_command.specs.declared.mode.Mode.TheVariants.{Exclusive}
 use Rattle.lock_command.specs.declared.command.Command.{Command}
 use Rattle.lock_command.specs.declared.command.Action.TheVariants.{Enqueue}
 use Rattle.lock_command.specs.Command.{number}
 use Rattle.lock_command.specs.Reading.{lock_at, request_at, mode_of, name_at, enqueue_at, action_at, command_at}
 use Rattle.lock_table.specs.Apply.{applied, granted}
-use Rattle.slot_log.specs.Shape.{Shape}
-use Rattle.slot_log.specs.declared.outcome.Refusal.TheVariants as refusal
+use Rattle.paxos_block.specs.Shape.{Shape}
+use Rattle.attempt.specs.declared.refusal.Refusal.TheVariants as refusal
 use Rattle.host.specs.declared.answer.HostAnswer.{HostAnswer}
 use Rattle.host.specs.declared.answer.HostAnswer.TheVariants.{Ack, Recovered, Looked, Marked, Refused}
 use Rattle.host.specs.declared.task.Task.TheVariants.{Submit, Recover, Look, Mark}

@@ -9,10 +9,10 @@ use Rattle.disk.specs.Crash.{IsWhole}
 use Rattle.disk.specs.Simulated.{fresh_disk}
 use Rattle.torn_block.specs.Layout.{cluster_version}
 use Rattle.paxos_block.specs.Places.{image_length, row_place}
-use Rattle.migration.specs.Image.{rows_for}
+use Rattle.paxos_block.specs.Image.{rows_for}
 use Rattle.lock_command.specs.declared.command.Command.{Command}
 use Rattle.lock_command.specs.Command.{spelling}
-use Rattle.slot_log.specs.Shape.{Shape}
+use Rattle.paxos_block.specs.Shape.{Shape}
 use Rattle.host.specs.declared.task.Task.TheVariants.{Submit}
 use Rattle.world.specs.Entry.{Filled, Start, Stop, Begin, Called, Torn, Crashed, Lost, Migrated, is_on, is_of, torn_by, called_by, disk_step}
 use Rattle.world.specs.World.{World, world, ReadsBack, MayFollow, CanMigrate, MayBegin, IsRunFrom, IsFreshRun, IsRun}

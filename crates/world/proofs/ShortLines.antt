@@ -12,7 +12,7 @@ use Rattle.lock_command.specs.Reading.{lock_at, request_at, mode_of, name_at, en
 use Rattle.lock_command.specs.declared.reply.Reply.{Reply}
 use Rattle.lock_table.specs.Apply.{applied, granted}
 use Rattle.lock_table.specs.Picture.{Shown}
-use Rattle.lock_index.specs.Locks.{is_lock}
+use Rattle.lock_command.specs.Locks.{is_lock}
 use Rattle.host.specs.declared.answer.HostAnswer.TheVariants.{Ack, Recovered}
 use Rattle.host.specs.declared.task.Task.TheVariants.{Submit}
 use Rattle.host.specs.Host.{Submitting, idles, reply_after}

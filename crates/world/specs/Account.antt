@@ -7,13 +7,13 @@ use Rattle.attempt.specs.Setup.{Setup}
 use Rattle.attempt.specs.Status.{Status, Due, Ended, End, status, taken}
 use Rattle.attempt.specs.Status as attempt
 use Rattle.heartbeat.specs.Suggesting.{Readings}
-use Rattle.beats.specs.Answers as beat_answers
-use Rattle.beats.specs.Status as beat
-use Rattle.looks.specs.Status as look
+use Rattle.rounds.specs.Beat.Answers as beat_answers
+use Rattle.rounds.specs.Beat.Status as beat
+use Rattle.rounds.specs.Look.Status as look
 use Rattle.lock_command.specs.declared.command.Command.{Command}
 use Rattle.lock_command.specs.Reading.{decoded}
-use Rattle.slot_log.specs.Shape.{Shape}
-use Rattle.slot_log.specs.declared.outcome.Refusal.TheVariants as refusal
+use Rattle.paxos_block.specs.Shape.{Shape}
+use Rattle.attempt.specs.declared.refusal.Refusal.TheVariants as refusal
 use Rattle.host.specs.declared.answer.HostAnswer.TheVariants.{Refused}
 use Rattle.host.specs.declared.task.Task.TheVariants.{Submit, Recover}
 use Rattle.host.specs.Host.{Doing, Attempts, Looks, Beats, Memory, Host, Stopped, Running, fresh, setup_of, beat_of, look_of, with_heard, looking_with, said_of, learned_of, is_idle}

@@ -4,10 +4,10 @@ use Rattle.disk.specs.declared.fault.DiskFault.TheVariants.{Reset, Failed, Gone}
 use Rattle.disk.specs.Disk.{DiskState, Call, Attach, Read, Write, Sync, Answer, Fault, written, synced, done_by, lost}
 use Rattle.torn_block.specs.Layout.{cluster_version}
 use Rattle.paxos_block.specs.Places.{row_place}
-use Rattle.migration.specs.Image.{rows_for}
+use Rattle.paxos_block.specs.Image.{rows_for}
 use Rattle.lock_command.specs.declared.command.Command.{Command}
 use Rattle.lock_command.specs.Command.{spelling}
-use Rattle.slot_log.specs.Shape.{Shape}
+use Rattle.paxos_block.specs.Shape.{Shape}
 use Rattle.host.specs.declared.task.Task.{Task}
 use Rattle.host.specs.Host.{Host, Stopped, Running, fresh, starts, hears_from}
 

@@ -1,9 +1,9 @@
 -- Two short runs over one disk: the first submission, and a recovery of an empty log.
 use Rattle.std.specs.Prelude.{ℕ, false, List, [], ◌∷◌, replicate}
-use Rattle.lock_modes.specs.declared.mode.Mode.TheVariants.{Exclusive}
+use Rattle.lock_command.specs.declared.mode.Mode.TheVariants.{Exclusive}
 use Rattle.lock_command.specs.declared.command.Command.{Command}
 use Rattle.lock_command.specs.declared.command.Action.TheVariants.{Enqueue}
-use Rattle.slot_log.specs.Shape.{Shape}
+use Rattle.paxos_block.specs.Shape.{Shape}
 use Rattle.host.specs.declared.answer.HostAnswer.{HostAnswer}
 use Rattle.world.specs.Entry.{Filled}
 use Rattle.host.specs.declared.task.Task.TheVariants.{Submit, Recover}

@@ -1,7 +1,7 @@
 -- What the answers of events owe to what hosts say, and the events to what may follow.
 use Rattle.std.specs.Prelude.{◌≡◌, ℕ, true, List, [], ◌∷◌, length, take, slice_get, Some}
 use Rattle.lock_command.specs.declared.command.Command.{Command}
-use Rattle.slot_log.specs.Shape.{Shape}
+use Rattle.paxos_block.specs.Shape.{Shape}
 use Rattle.host.specs.declared.answer.HostAnswer.{HostAnswer}
 use Rattle.world.specs.Entry.{Filled, Migrated, is_on, is_of, disk_step, host_step}
 use Rattle.world.specs.World.{World, world, MayFollow, IsRun}

@@ -1,7 +1,7 @@
 -- How a cluster begins, and the list that events make of it then.
 use Rattle.std.specs.Prelude.{List, [], ◌∷◌}
 use Rattle.lock_command.specs.declared.command.Command.{Command}
-use Rattle.slot_log.specs.Shape.{Shape}
+use Rattle.paxos_block.specs.Shape.{Shape}
 use Rattle.world.specs.Entry.{Filled, Migrated}
 use Rattle.world.specs.World.{World, world, CanMigrate}
 use Rattle.world.specs.Happens.{Event, Line, happen, answers_from}

@@ -5,7 +5,7 @@ ghost use Rattle.lock_command.specs.Command.{spelling};
 ghost use Rattle.lock_command.specs.declared.reply.Reply.{Reply};
 ghost use Rattle.lock_table.specs.Apply.{granted};
 ghost use Rattle.lock_table.specs.Picture.{Shown};
-ghost use Rattle.lock_index.specs.Locks.{is_lock};
+ghost use Rattle.lock_command.specs.Locks.{is_lock};
 ghost use Rattle.host.specs.declared.answer.HostAnswer.TheVariants.{Ack, Recovered, Looked};
 ghost use Rattle.world.specs.Chosen.{IsSubmittedBefore, IsAcknowledgedAt, IsRecovery};
 ghost use Rattle.world.specs.Headline.{IsAcknowledgedBefore};

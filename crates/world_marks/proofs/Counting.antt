@@ -5,13 +5,13 @@ use Rattle.std.proofs.lemmas.Bool.{and_parts, cases_eq, eq-eqb, leb-true}
 use Rattle.disk.specs.Disk.{Call, Answer}
 use Rattle.attempt.specs.Answers.{Heard, Answers, on, heard_as, all_good}
 use Rattle.attempt.specs.Numbers.{count}
-use Rattle.marks.specs.Status as mark
-use Rattle.slot_log.specs.Shape.{Shape}
-use Rattle.slot_log.specs.declared.outcome.Refusal.TheVariants as refusal
+use Rattle.rounds.specs.Marking.Status as mark
+use Rattle.paxos_block.specs.Shape.{Shape}
+use Rattle.attempt.specs.declared.refusal.Refusal.TheVariants as refusal
 use Rattle.host.specs.declared.answer.HostAnswer.TheVariants as said
 use Rattle.host.specs.declared.task.Task.TheVariants.{Mark}
 use Rattle.host.specs.Host.{Doing, Marks, Memory, Host, Stopped, Running, does, says, marking_with, marking_of, look_of, looking_with}
-use Rattle.looks.specs.Status as look
+use Rattle.rounds.specs.Look.Status as look
 use Rattle.world.specs.Entry.{Filled, Begin, Called, is_of, begins_on}
 use Rattle.world.specs.World.{World, MayFollow, IsRun}
 use Rattle.world.specs.Chosen.{at}

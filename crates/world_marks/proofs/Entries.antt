@@ -8,7 +8,7 @@ use Rattle.torn_block.specs.declared.layout.TheConstants.{HOSTS}
 use Rattle.torn_block.proofs.RegisterLaws.{rests_crashed}
 use Rattle.paxos_block.specs.Places.{VoteOf, place_of}
 use Rattle.paxos_block.proofs.Outcomes.{Outcomes}
-use Rattle.slot_log.specs.Shape.{Shape}
+use Rattle.paxos_block.specs.Shape.{Shape}
 use Rattle.world.specs.Entry.{Filled, Called, Torn, Crashed, Lost, Migrated, is_on, disk_step}
 use Rattle.world.specs.World.{World, MayFollow}
 use Rattle.world_safety.specs.Marks.{AllSay}

@@ -19,10 +19,10 @@ use Rattle.attempt.proofs.Firsts.{count_all}
 use Rattle.attempt.proofs.Histories.{history_reached}
 use Rattle.attempt.proofs.Visitors.{left_is, left_over}
 use Rattle.lock_command.specs.Command.{spelling}
-use Rattle.looks.specs.Status as look
-use Rattle.marks.specs.Status as mark
-use Rattle.looks.proofs.Ends.{no_mark_read, unmarked_is}
-use Rattle.slot_log.specs.Shape.{Shape}
+use Rattle.rounds.specs.Look.Status as look
+use Rattle.rounds.specs.Marking.Status as mark
+use Rattle.rounds.proofs.Look.Ends.{no_mark_read, unmarked_is}
+use Rattle.paxos_block.specs.Shape.{Shape}
 use Rattle.host.specs.declared.answer.HostAnswer.TheVariants.{Looked}
 use Rattle.host.specs.declared.task.Task.TheVariants.{Look, Mark}
 use Rattle.host.specs.Host.{Doing, Attempts, Looks, Memory, Host, Stopped, Running, marking_of, marking_with, look_of, looking_with, idles}

@@ -28,9 +28,9 @@ use Rattle.attempt.specs.Setup.{Setup}
 use Rattle.attempt.specs.Standing.{IsIn}
 use Rattle.attempt.proofs.Histories.{visit}
 use Rattle.attempt.proofs.Votes.{told_is}
-use Rattle.beats.specs.Answers as beat_answers
-use Rattle.marks.specs.Status as mark
-use Rattle.slot_log.specs.Shape.{Shape}
+use Rattle.rounds.specs.Beat.Answers as beat_answers
+use Rattle.rounds.specs.Marking.Status as mark
+use Rattle.paxos_block.specs.Shape.{Shape}
 use Rattle.host.specs.Host.{Attempt, Marking, Looking, Doing, Attempts, Looks, Beats, Marks, Memory, Running, beat_of, marking_of, look_of, setup_of, next_of}
 use Rattle.world.specs.Entry.{Called, disk_step}
 use Rattle.world.specs.World.{World}

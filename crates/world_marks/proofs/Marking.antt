@@ -23,8 +23,8 @@ use Rattle.attempt.specs.Answers.{Heard, Answered, Answers, on, heard_as, is_bad
 use Rattle.attempt.specs.Calls.{Opening, One, Kind, Reading, Putting, seventeen}
 use Rattle.attempt.proofs.Lists.{length_more, good_more, row_kept, row_last, row_none}
 use Rattle.attempt.proofs.More.{on_more, by_disk}
-use Rattle.marks.specs.Status as mark
-use Rattle.slot_log.specs.Shape.{Shape}
+use Rattle.rounds.specs.Marking.Status as mark
+use Rattle.paxos_block.specs.Shape.{Shape}
 use Rattle.host.specs.Host.{Marking, Doing, Marks, Memory, Host, Running, marking_of, next_of, next_doing}
 use Rattle.world.specs.Entry.{Filled, Called, disk_step}
 use Rattle.world.specs.World.{World, MayFollow}

@@ -7,7 +7,7 @@ use Rattle.disk.proofs.CrashLemmas.{may_leave_now}
 use Rattle.torn_block.specs.Layout.{cluster_version}
 use Rattle.paxos_block.specs.Places.{image_length}
 use Rattle.torn_block.specs.declared.layout.TheConstants.{HOSTS}
-use Rattle.slot_log.specs.Shape.{Shape}
+use Rattle.paxos_block.specs.Shape.{Shape}
 use Rattle.host.specs.Host.{Marking, Doing, Attempts, Marks, Memory, Host, Stopped, Running}
 use Rattle.world.specs.Entry.{Filled, Called}
 use Rattle.world.specs.World.{World, MayFollow, MayBegin, IsRun}

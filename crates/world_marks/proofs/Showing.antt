@@ -16,8 +16,8 @@ use Rattle.attempt.specs.Answers as answers
 use Rattle.attempt.specs.Answers.{Heard, Answered, Answers, on, heard_as, told}
 use Rattle.attempt.proofs.Lists.{length_more, get_front, get_last, get_none}
 use Rattle.attempt.proofs.More.{on_more, by_disk}
-use Rattle.looks.specs.Status as look
-use Rattle.slot_log.specs.Shape.{Shape}
+use Rattle.rounds.specs.Look.Status as look
+use Rattle.paxos_block.specs.Shape.{Shape}
 use Rattle.host.specs.Host.{Attempt, Looking, Doing, Attempts, Looks, Memory, Host, Running, setup_of, look_of, next_of}
 use Rattle.world.specs.Entry.{Filled, Called, disk_step}
 use Rattle.world.specs.World.{World, IsRun}

@@ -18,7 +18,7 @@ use Rattle.attempt.specs.Setup.{Setup}
 use Rattle.attempt.proofs.Lists.{length_more, boot_more, row_kept, row_last, row_none}
 use Rattle.attempt.proofs.More.{on_more, by_disk}
 use Rattle.lock_command.specs.declared.command.Command.{Command}
-use Rattle.slot_log.specs.Shape.{Shape}
+use Rattle.paxos_block.specs.Shape.{Shape}
 use Rattle.host.specs.Host.{Attempt, Attempts, Memory, Running, setup_of}
 use Rattle.world.specs.Entry.{Filled, Called, Torn, torn_by, called_by, disk_step}
 use Rattle.world.specs.World.{World, MayFollow}

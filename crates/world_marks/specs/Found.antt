@@ -8,8 +8,8 @@ use Rattle.attempt.specs.Calls.{Opening, One, Two}
 use Rattle.attempt.specs.Numbers.{count}
 use Rattle.attempt.specs.Setup.{Setup}
 use Rattle.attempt.specs.Status.{Status, Due, Ended, Committed, Decided, Empty, Outrun, NoMajority, BallotsSpent, status}
-use Rattle.looks.specs.Status as look
-use Rattle.slot_log.specs.Shape.{Shape}
+use Rattle.rounds.specs.Look.Status as look
+use Rattle.paxos_block.specs.Shape.{Shape}
 use Rattle.host.specs.declared.answer.HostAnswer.TheVariants.{Looked, Marked}
 use Rattle.host.specs.declared.task.Task.TheVariants.{Look, Mark}
 use Rattle.host.specs.Host.{Looking, Looks, Memory, Running}

@@ -1,6 +1,6 @@
 // What becomes of marks in every run, and so of every list of events.
 ghost use Rattle.std.specs.Prelude.{List};
-ghost use Rattle.slot_log.specs.Shape.{Shape};
+ghost use Rattle.paxos_block.specs.Shape.{Shape};
 ghost use Rattle.world.specs.Entry.{Filled};
 ghost use Rattle.world.specs.World.{IsRun};
 ghost use Rattle.world_marks.specs.Found.{StaysMarked, CountsMarked, AttemptsFind, LooksSee, LooksFind, LooksFindMigrated};

@@ -8,11 +8,11 @@ use Rattle.attempt.specs.Prepared.{Proposes, IsPrepared, IsAccepted, IsMarkSeen}
 use Rattle.attempt.specs.Proposal.{ballot}
 use Rattle.attempt.specs.Setup.{Setup}
 use Rattle.attempt.specs.Status.{Ended, Decided, status}
-use Rattle.looks.specs.Status as look
+use Rattle.rounds.specs.Look.Status as look
 use Rattle.lock_command.specs.declared.command.Command.{Command}
 use Rattle.lock_command.specs.Command.{spelling}
 use Rattle.lock_command.specs.declared.reply.Reply.{Reply}
-use Rattle.slot_log.specs.Shape.{Shape}
+use Rattle.paxos_block.specs.Shape.{Shape}
 use Rattle.world.specs.Entry.{Filled, Begin}
 use Rattle.world.specs.World.{World}
 use Rattle.host.specs.declared.answer.HostAnswer.TheVariants.{Ack, Recovered}

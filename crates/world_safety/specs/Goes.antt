@@ -7,8 +7,8 @@ use Rattle.attempt.specs.Prepared.{Proposes}
 use Rattle.attempt.specs.Proposal.{ballot}
 use Rattle.attempt.specs.Setup.{Setup}
 use Rattle.attempt.specs.Status.{Ended, Decided, status}
-use Rattle.looks.specs.Status as look
-use Rattle.slot_log.specs.Shape.{Shape}
+use Rattle.rounds.specs.Look.Status as look
+use Rattle.paxos_block.specs.Shape.{Shape}
 use Rattle.host.specs.declared.answer.HostAnswer.TheVariants.{Recovered}
 use Rattle.host.specs.Host.{Attempt, Looking, Attempts, Looks, Memory, Running, input_of, setup_of, look_of, looking_with}
 use Rattle.world.specs.Entry.{Filled, Called, is_of, host_step}

@@ -1,6 +1,6 @@
 -- The log of a list of entries up to a place.
 use Rattle.std.specs.Prelude.{◌≡◌, ℕ, List, slice_get, Some}
-use Rattle.slot_log.specs.Shape.{Shape}
+use Rattle.paxos_block.specs.Shape.{Shape}
 use Rattle.world.specs.Entry.{Filled}
 use Rattle.world_safety.specs.Tracks.{IsChosenBefore}
 

@@ -14,9 +14,9 @@ use Rattle.attempt.specs.Calls.{Kind, Attaching, Syncing, Reading, Putting}
 use Rattle.attempt.specs.Answers.{Heard, Booted, on, all_good, boot_of}
 use Rattle.attempt.specs.Votes.{TellsVotes}
 use Rattle.attempt_safety.specs.Registers.{IsNext}
-use Rattle.marks.specs.Status as mark
-use Rattle.marks.specs.Status.{own_block, with_mark, write_on}
-use Rattle.slot_log.specs.Shape.{Shape}
+use Rattle.rounds.specs.Marking.Status as mark
+use Rattle.rounds.specs.Marking.Status.{own_block, with_mark, write_on}
+use Rattle.paxos_block.specs.Shape.{Shape}
 use Rattle.host.specs.Host.{Memory, Marking, marking_of}
 use Rattle.world.specs.World.{World}
 use Rattle.world_safety.specs.Knows.{CanWrite, IsCurrent}

@@ -13,7 +13,7 @@ use Rattle.paxos_block.specs.Votes.{says_in}
 use Rattle.attempt.specs.Answers.{Heard, Told}
 use Rattle.lock_command.specs.declared.command.Command.{Command}
 use Rattle.lock_command.specs.Command.{spelling}
-use Rattle.slot_log.specs.Shape.{Shape}
+use Rattle.paxos_block.specs.Shape.{Shape}
 use Rattle.host.specs.Host.{Memory, Running}
 use Rattle.world.specs.World.{World}
 

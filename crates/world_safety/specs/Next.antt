@@ -1,7 +1,7 @@
 -- The world after one entry more.
 use Rattle.std.specs.Prelude.{◌==◌, ℕ, cond}
 use Rattle.host.specs.Host.{Host}
-use Rattle.slot_log.specs.Shape.{Shape}
+use Rattle.paxos_block.specs.Shape.{Shape}
 use Rattle.world.specs.Entry.{Filled, is_on, is_of, disk_step, host_step}
 use Rattle.world.specs.World.{World}
 

@@ -4,7 +4,7 @@ use Rattle.lock_command.specs.declared.command.Command.{Command}
 use Rattle.lock_table.specs.Apply.{applied, table_after}
 use Rattle.lock_table.specs.Carrying.{carried_over, forgetting, table_later, without_clients}
 use Rattle.lock_table.specs.Picture.{Shown, IsPictureOf}
-use Rattle.slot_log.specs.Shape.{Shape}
+use Rattle.paxos_block.specs.Shape.{Shape}
 use Rattle.host.specs.declared.answer.HostAnswer.TheVariants.{Recovered}
 use Rattle.world.specs.Entry.{Filled}
 use Rattle.world.specs.Chosen.{migrated, SaysAt}

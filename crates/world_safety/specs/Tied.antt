@@ -5,7 +5,7 @@ use Rattle.torn_block.specs.declared.layout.TheConstants.{HOSTS}
 use Rattle.paxos_block.specs.Places.{IsImage}
 use Rattle.attempt.specs.Answers.{on}
 use Rattle.lock_command.specs.Command.{spelling}
-use Rattle.slot_log.specs.Shape.{Shape}
+use Rattle.paxos_block.specs.Shape.{Shape}
 use Rattle.host.specs.Host.{Attempt, Doing, Attempts, Marks, Memory, Host, Stopped, Running, input_of, setup_of}
 use Rattle.world.specs.World.{World}
 use Rattle.agreement.specs.Event.{state_after}

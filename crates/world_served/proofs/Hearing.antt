@@ -15,8 +15,8 @@ use Rattle.attempt.specs.Looking.{OnlyReads, LeavesBytes}
 use Rattle.attempt.specs.Setup.{Setup}
 use Rattle.attempt.specs.NextCall.{call_by}
 use Rattle.attempt.proofs.More.{on_more, by_disk}
-use Rattle.beats.specs.Answers as beat_answers
-use Rattle.slot_log.specs.Shape.{Shape}
+use Rattle.rounds.specs.Beat.Answers as beat_answers
+use Rattle.paxos_block.specs.Shape.{Shape}
 use Rattle.host.specs.Host.{Attempt, Marking, Doing, Attempts, Looks, Beats, Marks, Memory, Host, Running, setup_of, beat_of, next_doing, next_of}
 use Rattle.world.specs.Entry.{Filled, Called, Torn, Crashed, Lost, Migrated, is_on, is_of, disk_step}
 use Rattle.world.specs.World.{World, IsRun}

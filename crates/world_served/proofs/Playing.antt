@@ -12,7 +12,7 @@ use Rattle.attempt.specs.Calls.{Phase, Opening, One, Two}
 use Rattle.attempt.specs.Answers.{Heard, Answered, Answers, on, heard_as, all_good}
 use Rattle.attempt.specs.Setup.{Setup}
 use Rattle.attempt.specs.Visits.{is_stuck, is_past, visited, are_enough}
-use Rattle.slot_log.specs.Shape.{Shape}
+use Rattle.paxos_block.specs.Shape.{Shape}
 use Rattle.host.specs.Host.{Doing, Attempts, Memory, Host, Stopped, Running, setup_of, next_of}
 use Rattle.world.specs.Entry.{Filled, Called, is_of, of_host, disk_step, host_step}
 use Rattle.world.specs.World.{World, world}

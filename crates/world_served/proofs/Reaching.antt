@@ -18,9 +18,9 @@ use Rattle.lock_command.specs.declared.command.Command.{Command}
 use Rattle.lock_command.specs.Command.{number}
 use Rattle.lock_command.specs.Reading.{lock_at, request_at, mode_of, name_at, enqueue_at, convert_at, action_at, command_at}
 use Rattle.lock_table.specs.Apply.{applied, granted, without_value}
-use Rattle.lock_index.specs.Locks.{settled}
+use Rattle.lock_command.specs.Locks.{settled}
 use Rattle.lock_command.specs.declared.reply.Answer.TheVariants.{Queued}
-use Rattle.slot_log.specs.Shape.{Shape}
+use Rattle.paxos_block.specs.Shape.{Shape}
 use Rattle.host.specs.declared.answer.HostAnswer.{HostAnswer}
 use Rattle.host.specs.declared.answer.HostAnswer.TheVariants.{Ack}
 use Rattle.host.specs.Host.{Host, Stopped, Running, fresh, is_stopped, idles, said_of}

@@ -1,5 +1,4 @@
 -- As long as no other host promises or votes, each row that an attempt reads shows of the others the mbal that the opening's row of that disk showed.
-use Rattle.std.specs.Prelude.{}
 use Rattle.std.proofs.Common.{ℕ, ◌+◌, ◌≤◌, ◌≡◌, ◌≢◌, inl, inr, true, Some, None, List, [], ◌∷◌, ◌++◌, length, sym, ap, ◌∙◌, arith}
 use Rattle.std.proofs.lemmas.Bool.{cases_order}
 use Rattle.disk.specs.Disk.{DiskState}

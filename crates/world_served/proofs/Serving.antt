@@ -5,7 +5,7 @@ use Rattle.std.proofs.lemmas.Bool.{ltb-true}
 use Rattle.attempt.specs.Answers.{on}
 use Rattle.attempt.specs.Numbers.{count}
 use Rattle.lock_command.specs.declared.command.Command.{Command}
-use Rattle.slot_log.specs.Shape.{Shape}
+use Rattle.paxos_block.specs.Shape.{Shape}
 use Rattle.host.specs.Host.{Operation, Submitting, Attempt, Doing, Attempts, Memory, Running, learned_of, says, does, begins, full_answer, goes_on}
 use Rattle.world.specs.Entry.{Filled}
 use Rattle.world.specs.World.{World}

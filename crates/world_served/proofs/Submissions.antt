@@ -5,7 +5,7 @@ use Rattle.std.proofs.lemmas.Bool.{cases_order, cases_Bool, eq-eqb, true≢false
 use Rattle.disk.specs.Disk.{Call, Answer}
 use Rattle.attempt.specs.Numbers.{count}
 use Rattle.lock_command.specs.declared.command.Command.{Command}
-use Rattle.slot_log.specs.Shape.{Shape}
+use Rattle.paxos_block.specs.Shape.{Shape}
 use Rattle.host.specs.Host.{Submitting, Doing, Attempts, Memory, Host, Stopped, Running, idles, learned_of, said_of, does, goes_on, next_doing, next_of}
 use Rattle.host.specs.declared.task.Task.TheVariants.{Submit}
 use Rattle.world.specs.Entry.{Filled, Begin, Called, is_of, host_step}

@@ -7,7 +7,7 @@ use Rattle.attempt.specs.Laws.{OnMost}
 use Rattle.attempt.specs.Setup.{Setup}
 use Rattle.attempt.specs.Standing.{IsIn}
 use Rattle.attempt.specs.Visits.{is_stuck, is_past, visited}
-use Rattle.slot_log.specs.Shape.{Shape}
+use Rattle.paxos_block.specs.Shape.{Shape}
 use Rattle.host.specs.Host.{Attempt, Attempts, Memory, Running}
 use Rattle.world.specs.Entry.{Filled, Called, Torn, is_of}
 use Rattle.world.specs.Chosen.{at, Hears, IsCallOf}

@@ -4,7 +4,7 @@ use Rattle.attempt.specs.Answers.{Answered, on}
 use Rattle.attempt.specs.Laws.{IsServed}
 use Rattle.attempt.specs.Setup.{Setup}
 use Rattle.attempt.specs.Status.{status}
-use Rattle.slot_log.specs.Shape.{Shape}
+use Rattle.paxos_block.specs.Shape.{Shape}
 use Rattle.world.specs.Entry.{Filled}
 use Rattle.world.specs.Chosen.{Hears}
 use Rattle.world_served.specs.Alone.{IsAlone, MostAnswerEach}

@@ -3,7 +3,7 @@ ghost use Rattle.std.specs.Prelude.{◌≡◌, ◌≤◌, ◌+◌, ◌*◌, List
 ghost use Rattle.attempt.specs.Numbers.{count};
 ghost use Rattle.lock_command.specs.declared.reply.Answer.TheVariants.{Queued};
 ghost use Rattle.lock_table.specs.Apply.{granted, without_value};
-ghost use Rattle.slot_log.specs.Shape.{Shape};
+ghost use Rattle.paxos_block.specs.Shape.{Shape};
 ghost use Rattle.host.specs.Host.{said_of};
 ghost use Rattle.host.specs.declared.answer.HostAnswer.TheVariants.{Ack};
 ghost use Rattle.world.specs.Chosen.{at};

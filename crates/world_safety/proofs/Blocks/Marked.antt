@@ -39,8 +39,8 @@ use Rattle.agreement.specs.State.{Cell}
 use Rattle.agreement.specs.Event.{IsReading}
 use Rattle.attempt_safety.specs.Machine.{block_said}
 use Rattle.attempt_safety.specs.Registers.{IsNext}
-use Rattle.marks.specs.Status as mark
-use Rattle.marks.specs.Status.{own_block, is_value, is_to_mark, with_mark, write_on, call_by}
+use Rattle.rounds.specs.Marking.Status as mark
+use Rattle.rounds.specs.Marking.Status.{own_block, is_value, is_to_mark, with_mark, write_on, call_by}
 use Rattle.world_safety.specs.Blocks.{said, Stands}
 use Rattle.world_safety.specs.Knows.{CanWrite, IsCurrent}
 use Rattle.world_safety.specs.Marking.{marked_place, IsMarking, KnowsMarkFor, KnowsMark}

@@ -20,14 +20,14 @@ use Rattle.paxos_block.specs.Places.{VoteOf, IsImage, place_of, row_place, image
 use Rattle.paxos_block.specs.Row.{IsSound, copy_saying, says_of}
 use Rattle.paxos_block.specs.Saying.{MaySay, body_saying, zeros}
 use Rattle.paxos_block.proofs.SayingLemmas.{claims_back}
-use Rattle.migration.specs.Image.{vote_for, block_for, rows_for}
+use Rattle.paxos_block.specs.Image.{vote_for, block_for, rows_for}
 use Rattle.migration.proofs.Lengths.{length-body}
 use Rattle.migration.proofs.Reading.{length-rows}
 use Rattle.migration.proofs.Rows.{with_rows, rows_hold, rows_hold_no_more}
 use Rattle.lock_command.specs.declared.command.Command.{Command}
 use Rattle.lock_command.specs.Command.{spelling}
 use Rattle.lock_command.proofs.Lengths.{spelling_long}
-use Rattle.slot_log.specs.Shape.{Shape}
+use Rattle.paxos_block.specs.Shape.{Shape}
 use Rattle.world.specs.Entry.{migrated_to}
 use Rattle.world.specs.World.{CanMigrate, opening_disk, ReadsBack}
 use Rattle.agreement.specs.State.{Cell}

@@ -16,7 +16,7 @@ use Rattle.attempt.proofs.Visitors.{left_is, left_over}
 use Rattle.attempt.proofs.Preparing as preparing
 use Rattle.lock_command.specs.declared.command.Command.{Command}
 use Rattle.lock_command.specs.Command.{spelling}
-use Rattle.slot_log.specs.Shape.{Shape}
+use Rattle.paxos_block.specs.Shape.{Shape}
 use Rattle.host.specs.declared.answer.HostAnswer.{HostAnswer}
 use Rattle.host.specs.declared.answer.HostAnswer.TheVariants.{Ack, Recovered}
 use Rattle.host.specs.Host.{Operation, Submitting, Recovering, setup_of, with_heard}

@@ -9,7 +9,7 @@ use Rattle.lock_command.specs.Command.{spelling}
 use Rattle.attempt.specs.Answers.{Answered, on}
 use Rattle.attempt.specs.Calls as attempt
 use Rattle.attempt.specs.Setup.{Setup}
-use Rattle.slot_log.specs.Shape.{Shape}
+use Rattle.paxos_block.specs.Shape.{Shape}
 use Rattle.host.specs.declared.answer.HostAnswer.{HostAnswer}
 use Rattle.host.specs.declared.answer.HostAnswer.TheVariants.{Recovered}
 use Rattle.host.specs.declared.task.Task.TheVariants.{Recover}

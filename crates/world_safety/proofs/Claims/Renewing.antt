@@ -6,7 +6,7 @@ use Rattle.lock_table.specs.Apply.{applied, table_after}
 use Rattle.lock_table.specs.Carrying.{carried_over, without_clients}
 use Rattle.lock_table.specs.Picture.{IsPictureOf}
 use Rattle.lock_table.proofs.Carrying.{forgotten_later, forgotten_replied, pictured_later, replied_later}
-use Rattle.slot_log.specs.Shape.{Shape}
+use Rattle.paxos_block.specs.Shape.{Shape}
 use Rattle.world.specs.Entry.{Filled}
 use Rattle.world.specs.World.{IsRun}
 use Rattle.host.specs.declared.answer.HostAnswer.TheVariants.{Recovered}

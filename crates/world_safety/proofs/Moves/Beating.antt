@@ -17,9 +17,9 @@ use Rattle.attempt.proofs.Lists.{by_eq}
 use Rattle.heartbeat.specs.Beat.{beat_body}
 use Rattle.attempt.specs.Calls.{seventeen}
 use Rattle.attempt.specs.NextCall.{with_disk}
-use Rattle.beats.specs.Answers as beat_answers
-use Rattle.beats.specs.Status as beat
-use Rattle.slot_log.specs.Shape.{Shape}
+use Rattle.rounds.specs.Beat.Answers as beat_answers
+use Rattle.rounds.specs.Beat.Status as beat
+use Rattle.paxos_block.specs.Shape.{Shape}
 use Rattle.host.specs.Host.{Beats, beat_by, beat_of, hears_beat}
 use Rattle.world_safety.specs.Marks.{KeepsMarks}
 use Rattle.world.specs.Entry.{Filled, Called, Torn, disk_step}

@@ -6,7 +6,7 @@ use Rattle.disk.specs.Disk.{DiskState, Call, Attach, Read, Write, Sync, Answer, 
 use Rattle.attempt.specs.Answers.{Answered, on, heard_as}
 use Rattle.attempt.specs.Setup.{Setup}
 use Rattle.attempt.specs.Status.{status, taken}
-use Rattle.slot_log.specs.Shape.{Shape}
+use Rattle.paxos_block.specs.Shape.{Shape}
 use Rattle.host.specs.Host.{Attempt, Doing, Attempts, Memory, Host, Running, setup_of, by_status, hears_from, next_of}
 use Rattle.world.specs.Entry.{Called, Torn, disk_step, host_step}
 use Rattle.world.specs.World.{World, Tears}

@@ -14,7 +14,7 @@ use Rattle.attempt.specs.Setup.{Setup}
 use Rattle.attempt.specs.NextCall.{says_for, call_by}
 use Rattle.attempt.proofs.Histories.{behind_due}
 use Rattle.attempt.proofs.Lists.{by_eq}
-use Rattle.slot_log.specs.Shape.{Shape}
+use Rattle.paxos_block.specs.Shape.{Shape}
 use Rattle.host.specs.Host.{Attempt, Memory, setup_of}
 use Rattle.world.specs.Entry.{Filled, Called, disk_step}
 use Rattle.world.specs.World.{World}

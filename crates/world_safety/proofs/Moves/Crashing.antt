@@ -11,7 +11,7 @@ use Rattle.torn_block.specs.Place.{block_in}
 use Rattle.torn_block.specs.Register.{Value}
 use Rattle.paxos_block.specs.Places.{VoteOf, place_of, IsImage}
 use Rattle.attempt.proofs.Lists.{by_eq}
-use Rattle.slot_log.specs.Shape.{Shape}
+use Rattle.paxos_block.specs.Shape.{Shape}
 use Rattle.host.specs.Host.{setup_of}
 use Rattle.world.specs.Entry.{Crashed, Lost, disk_step, crashed_to}
 use Rattle.world.specs.World.{World}

@@ -21,7 +21,7 @@ use Rattle.attempt.proofs.Histories.{IsReached, history_reached, visit}
 use Rattle.attempt.proofs.Replies.{IsAnswer, answer_is, next_is}
 use Rattle.attempt.proofs.Statuses.{IsDueAt, due_is}
 use Rattle.attempt.proofs.Visitors.{IsWaiting, waiting_is}
-use Rattle.slot_log.specs.Shape.{Shape}
+use Rattle.paxos_block.specs.Shape.{Shape}
 use Rattle.host.specs.Host.{Attempt, Doing, Attempts, Memory, Host, Stopped, Running, setup_of, next_doing, next_of}
 use Rattle.world.specs.Entry.{Called, disk_step}
 use Rattle.world.specs.World.{World}

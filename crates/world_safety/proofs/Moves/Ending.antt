@@ -11,8 +11,8 @@ use Rattle.attempt.specs.Status.{Status, Due, Ended, Decided, End, status, taken
 use Rattle.lock_command.specs.declared.command.Command.{Command}
 use Rattle.lock_command.specs.Command.{spelling}
 use Rattle.lock_command.specs.Reading.{decoded}
-use Rattle.slot_log.specs.Shape.{Shape}
-use Rattle.slot_log.specs.declared.outcome.Refusal.TheVariants as refusal
+use Rattle.paxos_block.specs.Shape.{Shape}
+use Rattle.attempt.specs.declared.refusal.Refusal.TheVariants as refusal
 use Rattle.host.specs.declared.answer.HostAnswer.TheVariants.{Ack, Recovered, Refused}
 use Rattle.host.specs.Host.{Attempt, Attempts, Memory, input_of, setup_of, says, does, begins, with_floor, learns, reply_after, is_submitted, after_learning, takes, tries_again, ended, by_status}
 use Rattle.host.proofs.Hosts.{decoded_spelled}

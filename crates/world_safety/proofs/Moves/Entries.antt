@@ -1,7 +1,7 @@
 -- Each entry that may follow is a few moves of the machines.
 use Rattle.std.proofs.Common.{ℕ, List, refl}
 use Rattle.disk.specs.Disk.{Call, Answer}
-use Rattle.slot_log.specs.Shape.{Shape}
+use Rattle.paxos_block.specs.Shape.{Shape}
 use Rattle.host.specs.Host.{Doing, Attempts, Looks, Beats, Marks}
 use Rattle.world.specs.Entry.{Filled, Start, Stop, Begin, Called, Torn, Crashed, Lost, Migrated}
 use Rattle.world.specs.World.{World, MayFollow}

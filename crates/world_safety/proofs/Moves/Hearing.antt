@@ -11,7 +11,7 @@ use Rattle.attempt.specs.Prepared.{Proposes}
 use Rattle.attempt.specs.Setup.{Setup}
 use Rattle.attempt.proofs.More.{on_more, by_disk}
 use Rattle.lock_command.specs.Command.{spelling}
-use Rattle.slot_log.specs.Shape.{Shape}
+use Rattle.paxos_block.specs.Shape.{Shape}
 use Rattle.host.specs.Host.{Attempt, Memory, setup_of}
 use Rattle.world.specs.Entry.{Filled, Called, disk_step}
 use Rattle.world.specs.World.{World}

@@ -11,10 +11,10 @@ use Rattle.attempt.specs.Calls.{Kind, Attaching}
 use Rattle.attempt.proofs.Lists.{by_eq}
 use Rattle.lock_command.specs.declared.command.Command.{Command}
 use Rattle.lock_command.specs.Command.{spelling}
-use Rattle.slot_log.specs.Shape.{Shape}
+use Rattle.paxos_block.specs.Shape.{Shape}
 use Rattle.host.specs.declared.answer.HostAnswer.{HostAnswer}
 use Rattle.host.specs.declared.answer.HostAnswer.TheVariants.{Recovered}
-use Rattle.marks.specs.Status as mark
+use Rattle.rounds.specs.Marking.Status as mark
 use Rattle.host.specs.Host.{Operation, Attempt, Doing, Attempts, Marks, Memory, Host, Stopped, Running, marking_of, input_of, setup_of, says, begins, full_answer, goes_on}
 use Rattle.world.specs.World.{World}
 use Rattle.agreement.specs.Event.{Event, after, state_after}

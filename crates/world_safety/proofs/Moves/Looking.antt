@@ -8,12 +8,12 @@ use Rattle.torn_block.specs.Layout.{cluster_version}
 use Rattle.torn_block.specs.declared.layout.TheConstants.{HOSTS, ROW_LENGTH}
 use Rattle.paxos_block.specs.Places.{row_place}
 use Rattle.attempt.specs.Answers.{Heard, Answers, on, heard_as, boot_of}
-use Rattle.looks.specs.Status as look
+use Rattle.rounds.specs.Look.Status as look
 use Rattle.lock_command.specs.declared.command.Command.{Command}
 use Rattle.lock_command.specs.Command.{spelling}
 use Rattle.lock_command.specs.Reading.{decoded}
-use Rattle.slot_log.specs.Shape.{Shape}
-use Rattle.slot_log.specs.declared.outcome.Refusal.TheVariants as refusal
+use Rattle.paxos_block.specs.Shape.{Shape}
+use Rattle.attempt.specs.declared.refusal.Refusal.TheVariants as refusal
 use Rattle.host.specs.declared.answer.HostAnswer.TheVariants.{Looked, Refused}
 use Rattle.host.specs.Host.{Looking, Looks, Memory, says, does, learns, hears_look, look_of, look_by, looking_with, looks_on, takes_marked}
 use Rattle.host.proofs.Hosts.{decoded_spelled}

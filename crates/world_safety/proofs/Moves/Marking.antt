@@ -31,9 +31,9 @@ use Rattle.std.proofs.Common.{length-drop}
 use Rattle.std.proofs.lemmas.List.{length-take-le}
 use Rattle.world_safety.proofs.Blocks.Owning.{row_told}
 use Rattle.lock_command.specs.declared.command.Command.{Command}
-use Rattle.marks.specs.Status as mark
-use Rattle.slot_log.specs.Shape.{Shape}
-use Rattle.slot_log.specs.declared.outcome.Refusal.TheVariants as refusal
+use Rattle.rounds.specs.Marking.Status as mark
+use Rattle.paxos_block.specs.Shape.{Shape}
+use Rattle.attempt.specs.declared.refusal.Refusal.TheVariants as refusal
 use Rattle.host.specs.declared.answer.HostAnswer.TheVariants.{Refused}
 use Rattle.host.specs.declared.task.Task.TheVariants.{Mark}
 use Rattle.host.specs.Host.{Marking, Marks, Memory, says, does, hears_marking, marking_by, marking_with, marking_of, starts_marking, spelled}

@@ -10,7 +10,7 @@ use Rattle.paxos_block.proofs.Outcomes.{Outcomes}
 use Rattle.attempt.specs.Answers.{Answers}
 use Rattle.attempt.specs.Proposal.{ballot}
 use Rattle.attempt.specs.Setup.{Setup}
-use Rattle.slot_log.specs.Shape.{Shape}
+use Rattle.paxos_block.specs.Shape.{Shape}
 use Rattle.host.specs.Host.{Attempt, Doing, Attempts, Memory, Host, Stopped, Running, hears_from}
 use Rattle.world.specs.Entry.{Filled, Called, Torn, is_on, disk_step, host_step}
 use Rattle.world.specs.World.{World}

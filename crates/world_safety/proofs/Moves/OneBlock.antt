@@ -5,7 +5,7 @@ use Rattle.disk.specs.Disk.{DiskState}
 use Rattle.torn_block.specs.Layout.{cluster_version}
 use Rattle.torn_block.specs.declared.layout.TheConstants.{HOSTS}
 use Rattle.paxos_block.specs.Places.{VoteOf, place_of, IsImage}
-use Rattle.slot_log.specs.Shape.{Shape}
+use Rattle.paxos_block.specs.Shape.{Shape}
 use Rattle.host.specs.Host.{setup_of}
 use Rattle.world.specs.World.{World}
 use Rattle.agreement.specs.Log.{IsHistory, slots_after}

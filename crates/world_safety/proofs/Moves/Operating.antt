@@ -2,7 +2,7 @@
 use Rattle.std.specs.Prelude.{IsTrue}
 use Rattle.std.proofs.Common.{ℕ, ◌<◌, ◌≡◌, inl, inr, Some, None, [], ◌∷◌, ◌++◌, append-nil, refl, sym, subst, ap, ◌∙◌}
 use Rattle.torn_block.specs.declared.layout.TheConstants.{HOSTS}
-use Rattle.slot_log.specs.Shape.{Shape}
+use Rattle.paxos_block.specs.Shape.{Shape}
 use Rattle.host.specs.declared.answer.HostAnswer.TheVariants.{Recovered}
 use Rattle.host.specs.declared.task.Task.{Task}
 use Rattle.host.specs.declared.task.Task.TheVariants.{Submit, Recover, Look, Beat, Mark}

@@ -7,7 +7,7 @@ use Rattle.attempt.specs.Answers as answers
 use Rattle.attempt.specs.Answers.{Answers, on, heard_as}
 use Rattle.attempt.specs.Setup.{Setup}
 use Rattle.lock_command.specs.Command.{spelling}
-use Rattle.slot_log.specs.Shape.{Shape}
+use Rattle.paxos_block.specs.Shape.{Shape}
 use Rattle.host.specs.Host.{Attempt, Memory, setup_of}
 use Rattle.world.specs.Entry.{Called, disk_step}
 use Rattle.world.specs.World.{World}

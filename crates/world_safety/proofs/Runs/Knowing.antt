@@ -6,22 +6,22 @@ use Rattle.disk.specs.Disk.{Call, Answer}
 use Rattle.paxos_block.specs.Row.{DecodedBlock}
 use Rattle.attempt.specs.Answers as answers
 use Rattle.attempt.specs.Answers.{Heard, Answered, on, heard_as}
-use Rattle.marks.specs.Status as mark
+use Rattle.rounds.specs.Marking.Status as mark
 use Rattle.attempt.specs.Status as attempt
 use Rattle.attempt.specs.Status.{Status, Due, Ended, status, taken}
 use Rattle.lock_command.specs.declared.command.Command.{Command}
 use Rattle.lock_command.specs.Command.{spelling}
 use Rattle.lock_command.specs.Reading.{decoded}
-use Rattle.slot_log.specs.Shape.{Shape}
-use Rattle.slot_log.specs.declared.outcome.Refusal.TheVariants as refusal
+use Rattle.paxos_block.specs.Shape.{Shape}
+use Rattle.attempt.specs.declared.refusal.Refusal.TheVariants as refusal
 use Rattle.host.specs.declared.answer.HostAnswer.{HostAnswer}
 use Rattle.host.specs.declared.answer.HostAnswer.TheVariants.{Ack, Recovered, Looked, Beaten, Marked, Refused}
 use Rattle.host.specs.declared.task.Task.{Task}
 use Rattle.host.specs.declared.task.Task.TheVariants.{Submit, Recover, Look, Beat, Mark}
 use Rattle.host.specs.Host.{Operation, Submitting, Recovering, Attempt, Looking, Marking, Doing, Attempts, Looks, Beats, Marks, Memory, Host, Stopped, Running, setup_of, says, does, reads, begins, full_answer, goes_on, with_floor, learns, reply_after, is_submitted, after_learning, takes, tries_again, by_status, with_heard, look_of, look_by, looking_with, looks_on, takes_marked, beat_by, beat_of, suggested, marking_by, marking_with, marking_of, starts, hears_from}
-use Rattle.beats.specs.Answers as beat_answers
-use Rattle.beats.specs.Status as beat
-use Rattle.looks.specs.Status as look
+use Rattle.rounds.specs.Beat.Answers as beat_answers
+use Rattle.rounds.specs.Beat.Status as beat
+use Rattle.rounds.specs.Look.Status as look
 use Rattle.host.proofs.Hosts.{decoded_spelled}
 use Rattle.world.specs.Entry.{Filled, Start, Stop, Begin, Called, Torn, Crashed, Lost, Migrated, is_of, started, begins_on, host_step}
 use Rattle.world.specs.World.{World, ReadsBack, MayBeGiven, MayBegin, IsRun}

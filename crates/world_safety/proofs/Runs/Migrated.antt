@@ -12,7 +12,7 @@ use Rattle.torn_block.specs.declared.layout.TheConstants.{HOSTS}
 use Rattle.paxos_block.specs.Places.{VoteOf, IsImage, place_of, image_length}
 use Rattle.lock_command.specs.declared.command.Command.{Command}
 use Rattle.lock_command.specs.Command.{spelling}
-use Rattle.slot_log.specs.Shape.{Shape}
+use Rattle.paxos_block.specs.Shape.{Shape}
 use Rattle.world.specs.Entry.{Filled, Migrated, migrated_to}
 use Rattle.world.specs.World.{World, opening_disk, CanMigrate}
 use Rattle.world.specs.Chosen.{at, IsMigrated}

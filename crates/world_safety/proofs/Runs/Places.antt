@@ -1,7 +1,7 @@
 -- Place by place through a list of entries.
 use Rattle.std.specs.Prelude.{take, slice_get}
 use Rattle.std.proofs.Common.{ℕ, zero, suc, ◌≡◌, Bool, true, false, cond, Option, Some, None, List, [], ◌∷◌, ◌++◌, refl, sym, subst, ap, ◌∙◌}
-use Rattle.slot_log.specs.Shape.{Shape}
+use Rattle.paxos_block.specs.Shape.{Shape}
 use Rattle.world.specs.Entry.{Filled, is_of, host_step}
 use Rattle.world.specs.World.{World, world, MayBegin, IsRun}
 use Rattle.world.specs.Chosen.{at}

@@ -23,10 +23,10 @@ use Rattle.attempt.proofs.Lists.{length_more, get_front, get_last, get_none}
 use Rattle.attempt.proofs.More.{on_more, by_disk}
 use Rattle.attempt.proofs.Statuses.{HasDecided, told_by}
 use Rattle.attempt.proofs.Votes.{told_is}
-use Rattle.looks.specs.Shown.{IsMarkRead}
-use Rattle.looks.specs.Status as look
-use Rattle.looks.proofs.Ends.{decided_is, mark_read}
-use Rattle.slot_log.specs.Shape.{Shape}
+use Rattle.rounds.specs.Look.Shown.{IsMarkRead}
+use Rattle.rounds.specs.Look.Status as look
+use Rattle.rounds.proofs.Look.Ends.{decided_is, mark_read}
+use Rattle.paxos_block.specs.Shape.{Shape}
 use Rattle.host.specs.Host.{Attempt, Memory, setup_of}
 use Rattle.world.specs.Entry.{Called, disk_step}
 use Rattle.world.specs.World.{World}

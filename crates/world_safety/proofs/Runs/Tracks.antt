@@ -10,7 +10,7 @@ use Rattle.attempt.specs.Proposal.{ballot}
 use Rattle.attempt.specs.Setup.{Setup}
 use Rattle.lock_command.specs.declared.command.Command.{Command}
 use Rattle.lock_command.specs.Command.{spelling}
-use Rattle.slot_log.specs.Shape.{Shape}
+use Rattle.paxos_block.specs.Shape.{Shape}
 use Rattle.disk.specs.Disk.{Call, Answer}
 use Rattle.attempt.specs.Status.{Ended, Decided, status}
 use Rattle.host.specs.declared.task.Task.TheVariants.{Submit}
@@ -18,7 +18,7 @@ use Rattle.host.specs.Host.{Attempt, Looking, Attempts, Looks, Memory, Host, Sto
 use Rattle.world.specs.Entry.{Filled, Begin, Called, Migrated, is_of}
 use Rattle.world.specs.World.{World, MayFollow, CanMigrate, IsRun}
 use Rattle.world.specs.Chosen.{at, Hears, IsChosenAt, IsMigrated, IsSubmittedBefore}
-use Rattle.looks.specs.Status as look
+use Rattle.rounds.specs.Look.Status as look
 use Rattle.world.proofs.Looking.{fits, next_is}
 use Rattle.world.proofs.Runs.{IsMigration, beginning, each, follows_or, follows_of, migrated_first, begins_migrated}
 use Rattle.agreement.specs.Event.{Event}

@@ -1,6 +1,6 @@
 -- The world after one entry more is the next one.
 use Rattle.std.proofs.Common.{ℕ, ◌≡◌, Bool, true, false, cond, List, [], ◌∷◌, ◌++◌, refl}
-use Rattle.slot_log.specs.Shape.{Shape}
+use Rattle.paxos_block.specs.Shape.{Shape}
 use Rattle.world.specs.Entry.{Filled, is_on, is_of, disk_step, host_step}
 use Rattle.world.specs.World.{world}
 use Rattle.world.proofs.Projections.{disk_here, disk_there, host_here, host_there}

@@ -1,6 +1,6 @@
 use Rattle.std.proofs.Common.{arith, ◌∙◌, subst}
 use Rattle.std.proofs.lemmas.Option.{slice_get_within, get_or_from_slice_get}
-use Rattle.lock_index.specs.declared.record.LockRecord.{LockRecord}
+use Rattle.lock_command.specs.declared.record.LockRecord.{LockRecord}
 use Rattle.c_host.specs.Views.{ShowsLock}
 use Rattle.c_host.proofs.Shown.{shown_put}
 use Rattle.c_host.proofs.showing.show_locks.Goals as goal

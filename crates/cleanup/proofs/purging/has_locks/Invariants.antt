@@ -1,6 +1,6 @@
 use Rattle.std.proofs.Common.{◌<◌, ◌≡◌, ℕ, Some}
 use Rattle.std.specs.Prelude.{slice_get}
-use Rattle.lock_index.specs.declared.record.LockRecord.{LockRecord}
+use Rattle.lock_command.specs.declared.record.LockRecord.{LockRecord}
 use Rattle.cleanup.proofs.purging.has_locks.Given as goal
 
 -- none below the place was taken through the host

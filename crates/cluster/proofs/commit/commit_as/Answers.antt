@@ -1,8 +1,8 @@
 use Rattle.std.proofs.Common.{◌≡◌, ℕ, ◌<◌, ◌++◌, ◌∷◌, [], List, length, sym, ap, subst, ◌∙◌, arith, false}
 use Rattle.disk.specs.Disk.{Call, Answer}
 use Rattle.torn_block.specs.Layout.{cluster_version}
-use Rattle.phases.specs.Calls.{call_of_need}
-use Rattle.slot_log.specs.Shape.{Shape}
+use Rattle.attempt.specs.DeviceCalls.{call_of_need}
+use Rattle.paxos_block.specs.Shape.{Shape}
 use Rattle.host.specs.Host.{Memory, hears_from, is_idle}
 use Rattle.host.specs.Kept.{LeadsTo}
 use Rattle.world.specs.Entry.{Filled, disk_step}

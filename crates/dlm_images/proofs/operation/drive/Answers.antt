@@ -2,15 +2,14 @@ use Rattle.std.proofs.Common.{◌≤◌, ◌<◌, ℕ, arith, sym, ◌∙◌, su
 use Rattle.disk.specs.Disk as device
 use Rattle.torn_block.specs.Layout.{cluster_version}
 use Rattle.paxos_block.specs.Places.{image_length}
-use Rattle.slot_log.specs.Shape.{Shape}
+use Rattle.paxos_block.specs.Shape.{Shape}
 use Rattle.attempt.specs.Answers.{Heard, heard_as}
 use Rattle.attempt.specs.History.{Fits}
-use Rattle.beats.specs.Calls.{device_answer}
+use Rattle.attempt.specs.DeviceCalls.{device_answer, IsWithin, call_of_need}
 use Rattle.host.specs.Alone.{IsAnsweredAlone}
 use Rattle.host.specs.Host.{hears_from}
 use Rattle.host.proofs.Hosts.{heard_same}
 use Rattle.dlm_images.specs.Operations.{Made, Standing}
-use Rattle.phases.specs.Calls.{IsWithin, call_of_need}
 use Rattle.host.specs.Kept.{LeadsTo, due_call}
 use Rattle.dlm_images.proofs.Driving.{driven_at_first, driven_more, driven_out, within_more}
 use Rattle.dlm_images.proofs.operation.drive.Goals as goal

@@ -1,5 +1,5 @@
 use Rattle.std.proofs.Common.{◌≡◌, ◌<◌, ◌≤◌, Some, length, arith, refl, rules, sym, ◌∙◌}
-use Rattle.slot_log.specs.declared.outcome.Refusal.TheVariants as refusal
+use Rattle.attempt.specs.declared.refusal.Refusal.TheVariants as refusal
 use Rattle.host.specs.declared.answer.HostAnswer.TheVariants as answer
 use Rattle.folder_migration.specs.Filling.{EndsRefused, none, acknowledged, full}
 use Rattle.folder_migration.specs.declared.old_log.TheConstants.{TRIES}

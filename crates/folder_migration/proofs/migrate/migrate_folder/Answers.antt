@@ -1,5 +1,5 @@
 use Rattle.std.proofs.Common.{◌≤◌, arith, rules, subst}
-use Rattle.dlm_images.specs.SetFaults.{IsFormatFault}
+use Rattle.folders.specs.SetFaults.{IsFormatFault}
 use Rattle.folder_migration.specs.Migrating.{AreBlank, AreNotBegun, MayFail}
 use Rattle.folder_migration.proofs.Writing.{stops}
 use Rattle.folder_migration.proofs.migrate.migrate_folder.Goals as goal

@@ -1,8 +1,8 @@
 use Rattle.std.proofs.Common.{◌<◌, Some, ap, arith, refl, ◌∙◌, subst}
 use Rattle.torn_block.specs.Layout.{cluster_version}
 use Rattle.paxos_block.specs.Places.{image_length}
-use Rattle.phases.specs.Calls.{IsWithin, call_of_need, device_answer}
-use Rattle.migration.specs.Image.{Setup}
+use Rattle.attempt.specs.DeviceCalls.{IsWithin, call_of_need, device_answer}
+use Rattle.paxos_block.specs.Image.{Setup}
 use Rattle.migration.specs.Fits.{HasRoom}
 use Rattle.migration.specs.Kept.{setup_by, setup_of}
 use Rattle.dlm_images.proofs.Driving.{within_more}

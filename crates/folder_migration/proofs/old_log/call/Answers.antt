@@ -1,7 +1,7 @@
 use Rattle.std.proofs.Common.{subst}
 use Rattle.torn_block.specs.Layout.{Version1}
 use Rattle.attempt.specs.Heard.{Fits}
-use Rattle.phases.specs.Calls.{device_answer, call_of_need}
+use Rattle.attempt.specs.DeviceCalls.{device_answer, call_of_need}
 use Rattle.folder_migration.proofs.Recovering.{heard_same, leads_as, alone_as}
 use Rattle.folder_migration.proofs.old_log.call.Goals as goal
 

@@ -1,5 +1,5 @@
 use Rattle.std.proofs.Common.{◌≡◌, ◌≤◌, ◌<◌, ◌+◌, ◌-◌, List, length, vec_capacity, refl, arith, ap, sym, ◌∙◌, subst}
-use Rattle.slot_log.specs.Shape.{Shape}
+use Rattle.paxos_block.specs.Shape.{Shape}
 use Rattle.folder_migration.specs.Recovery.{AreLarge}
 use Rattle.folder_migration.proofs.Recovering.{at_first, as_many, called, judges_more, under_way_as}
 use Rattle.folder_migration.proofs.old_log.drive.Goals as goal

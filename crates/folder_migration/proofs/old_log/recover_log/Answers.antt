@@ -1,6 +1,6 @@
 use Rattle.std.proofs.Common.{sym, subst}
 use Rattle.torn_block.specs.Layout.{Version1}
-use Rattle.slot_log.specs.Shape.{Shape}
+use Rattle.paxos_block.specs.Shape.{Shape}
 use Rattle.slot_log.specs.Kept.{LeadsTo}
 use Rattle.slot_log.specs.Learning.{fresh, goes_on}
 use Rattle.slot_log.specs.declared.operation.Operation.TheVariants.{Recovering}

@@ -1,7 +1,7 @@
 use Rattle.std.proofs.Common.{◌≡◌, ◌++◌, ℕ, List, ap, sym, ◌∙◌, append_assoc}
 use Rattle.std.specs.Prelude.{codes, decimal}
 use Rattle.std.specs.String.{string_bytes}
-use Rattle.session.specs.Signs.{sign_name}
+use Rattle.lock_command.specs.Signs.{sign_name}
 use Rattle.folder_migration.proofs.signs.sign_path.Goals as goal
 
 -- three words with points between them, joined from the right and from the left

@@ -1,7 +1,7 @@
 use Rattle.std.proofs.Common.{◌≡◌, true, false, sym, ◌∙◌, arith, subst}
 use Rattle.std.proofs.lemmas.Option.{get_or_from_slice_get}
-use Rattle.lock_index.specs.declared.record.LockRecord.{LockRecord}
-use Rattle.lock_index.specs.State.{is_waiting}
+use Rattle.lock_command.specs.declared.record.LockRecord.{LockRecord}
+use Rattle.lock_command.specs.State.{is_waiting}
 use Rattle.inspect.proofs.MarkLemmas.{as_read, is_not, was_not, starts_within, none_of_run, of_run, none_of_queue, marks_both, seen_kept}
 use Rattle.inspect.proofs.edges.mark_blockers.Goals as goal
 

@@ -1,6 +1,6 @@
 use Rattle.std.proofs.Common.{◌≡◌, ℕ, true, false, slice_index_or, sym, ◌∙◌, ap, subst, true≢false, arith, refl, length, slice_set, ◌+◌, ◌*◌}
 use Rattle.std.proofs.lemmas.Option.{get_or_from_slice_get, slice_get_read}
-use Rattle.lock_index.specs.declared.record.LockRecord.{LockRecord}
+use Rattle.lock_command.specs.declared.record.LockRecord.{LockRecord}
 use Rattle.inspect.specs.Blocked.{is_in_the_way}
 use Rattle.inspect.specs.Marks.{Marked}
 use Rattle.inspect.proofs.MarkLemmas.{in_its_way, one_marked}

@@ -1,6 +1,6 @@
 use Rattle.std.proofs.Common.{◌≡◌, ◌<◌, ◌≤◌, ◌∙◌, ℕ, arith, refl, length, slice_index_or, slice_set, sym, ap, subst}
 use Rattle.std.proofs.lemmas.Option.{slice_get_read}
-use Rattle.lock_index.specs.declared.record.LockRecord.{LockRecord}
+use Rattle.lock_command.specs.declared.record.LockRecord.{LockRecord}
 use Rattle.inspect.specs.Marks.{IsSeen}
 use Rattle.inspect.proofs.MarkLemmas.{queue_marked, seen_more}
 use Rattle.inspect.proofs.edges.mark_queue.Goals as goal

@@ -1,5 +1,5 @@
 use Rattle.std.proofs.Common.{List, subst, sym}
-use Rattle.lock_index.specs.declared.record.LockRecord.{LockRecord}
+use Rattle.lock_command.specs.declared.record.LockRecord.{LockRecord}
 use Rattle.inspect.specs.Blocked.{IsBlockedBy}
 use Rattle.inspect.specs.Marks.{Marked}
 use Rattle.inspect.proofs.TrailLemmas.{cycle_by}

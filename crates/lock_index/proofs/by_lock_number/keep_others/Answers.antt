@@ -1,5 +1,5 @@
 use Rattle.std.proofs.Common.{◌≡◌, ◌<◌, ◌-◌, suc, not, length, ap, ◌∙◌, arith}
-use Rattle.lock_index.specs.Locks.{is_through}
+use Rattle.lock_command.specs.Locks.{is_through}
 use Rattle.lock_index.specs.Shelved.{no_lock}
 use Rattle.lock_index.proofs.Partly.{partly, taken_none, taken_next, taken_last}
 use Rattle.lock_index.proofs.by_lock_number.keep_others.Goals as goal

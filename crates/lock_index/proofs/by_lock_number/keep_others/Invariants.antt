@@ -1,6 +1,6 @@
 use Rattle.std.proofs.Common.{◌≡◌, ◌≤◌, ◌<◌, ◌-◌, true, not, length, get_or}
-use Rattle.lock_index.specs.declared.record.LockRecord.{LockRecord}
-use Rattle.lock_index.specs.Locks.{is_through}
+use Rattle.lock_command.specs.declared.record.LockRecord.{LockRecord}
+use Rattle.lock_command.specs.Locks.{is_through}
 use Rattle.lock_index.proofs.Partly.{partly}
 use Rattle.lock_index.proofs.by_lock_number.keep_others.Given as goal
 

@@ -1,8 +1,8 @@
 use Rattle.std.proofs.Common.{◌≡◌, drop, get_or, Some, None, sym, ap, ◌∙◌}
 use Rattle.std.specs.Bool.{then_some}
 use Rattle.std.proofs.lemmas.Bool.{eq-eqb}
-use Rattle.lock_index.specs.declared.record.LockRecord.{LockRecord}
-use Rattle.lock_index.specs.Locks.{is_lock}
+use Rattle.lock_command.specs.declared.record.LockRecord.{LockRecord}
+use Rattle.lock_command.specs.Locks.{is_lock}
 use Rattle.lock_index.proofs.Parts.{first}
 use Rattle.lock_index.proofs.Shown.{lock_of}
 use Rattle.lock_index.proofs.Keyed.{first_if, then_some_if, find_at_cut}

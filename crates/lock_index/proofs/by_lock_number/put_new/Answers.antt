@@ -1,9 +1,9 @@
 use Rattle.std.proofs.Common.{List, sym, ap, subst, ◌∙◌}
 use Rattle.std.specs.List.{filter}
 use Rattle.std.specs.List.Sorted.{IsSorted}
-use Rattle.lock_index.specs.declared.record.LockRecord.{LockRecord}
+use Rattle.lock_command.specs.declared.record.LockRecord.{LockRecord}
 use Rattle.lock_index.specs.Indexed.{number_cmp}
-use Rattle.lock_index.specs.Locks.{is_lock}
+use Rattle.lock_command.specs.Locks.{is_lock}
 use Rattle.lock_index.proofs.Shown.{lock_of}
 use Rattle.lock_index.proofs.Keyed.{insert_at_cut, rising_insert}
 use Rattle.lock_index.proofs.by_lock_number.put_new.Goals as goal

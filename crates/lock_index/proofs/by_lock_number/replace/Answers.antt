@@ -2,9 +2,9 @@ use Rattle.std.proofs.Common.{◌≡◌, ◌<◌, ℕ, nat_lt, true, false, List
 use Rattle.std.specs.List.{filter}
 use Rattle.std.specs.List.Sorted.{IsSorted, IsPartitionPoint}
 use Rattle.std.proofs.lemmas.Bool.{eq-eqb}
-use Rattle.lock_index.specs.declared.record.LockRecord.{LockRecord}
+use Rattle.lock_command.specs.declared.record.LockRecord.{LockRecord}
 use Rattle.lock_index.specs.Indexed.{number_cmp}
-use Rattle.lock_index.specs.Locks.{is_lock, lock_in, put, IsDistinct}
+use Rattle.lock_command.specs.Locks.{is_lock, lock_in, put, IsDistinct}
 use Rattle.lock_index.proofs.Shown.{lock_of, some_of}
 use Rattle.lock_index.proofs.Keyed.{set_at_cut}
 use Rattle.lock_index.proofs.Standing.{cut_where_stands, found_there}

@@ -1,8 +1,8 @@
 use Rattle.std.proofs.Common.{◌≡◌, ◌<◌, ℕ, nat_lt, true, false, List, length, remove, IsSome, ◌∙◌}
 use Rattle.std.specs.List.Sorted.{IsSorted, IsPartitionPoint}
-use Rattle.lock_index.specs.declared.record.LockRecord.{LockRecord}
+use Rattle.lock_command.specs.declared.record.LockRecord.{LockRecord}
 use Rattle.lock_index.specs.Indexed.{number_cmp}
-use Rattle.lock_index.specs.Locks.{lock_in, without, IsDistinct}
+use Rattle.lock_command.specs.Locks.{lock_in, without, IsDistinct}
 use Rattle.lock_index.proofs.Shown.{lock_of, some_of}
 use Rattle.lock_index.proofs.Keyed.{remove_at_cut}
 use Rattle.lock_index.proofs.by_lock_number.take_away.Goals as goal

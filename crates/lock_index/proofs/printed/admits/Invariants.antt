@@ -1,5 +1,5 @@
 use Rattle.std.proofs.Common.{◌≡◌, drop}
-use Rattle.lock_index.specs.Locks.{admits}
+use Rattle.lock_command.specs.Locks.{admits}
 use Rattle.lock_index.proofs.printed.admits.Given as goal
 
 -- the rest decides

@@ -1,6 +1,6 @@
 use Rattle.std.proofs.Common.{◌≡◌, drop, Some, None, sym, ap, ◌∙◌, arith}
 use Rattle.std.specs.List.{list_any}
-use Rattle.lock_index.specs.Locks.{is_on}
+use Rattle.lock_command.specs.Locks.{is_on}
 use Rattle.lock_command.specs.Name.{same_name}
 use Rattle.lock_index.proofs.Parts.{first}
 use Rattle.lock_index.proofs.Cuts.{slice_get_is_first}

@@ -1,7 +1,7 @@
 use Rattle.std.proofs.Common.{◌≡◌, Some, None, true, false, nat_lt, get_or, sym, ap, ◌∙◌, arith}
-use Rattle.lock_index.specs.declared.record.LockRecord.{LockRecord}
+use Rattle.lock_command.specs.declared.record.LockRecord.{LockRecord}
 use Rattle.lock_index.specs.Keys.{lock_key}
-use Rattle.lock_index.specs.Locks.{head_of}
+use Rattle.lock_command.specs.Locks.{head_of}
 use Rattle.lock_index.specs.Shelved.{no_lock}
 use Rattle.lock_index.proofs.Groups.{turn_by_key, no_turn_behind}
 use Rattle.lock_index.proofs.Stretches.{passes_if, fails_if}

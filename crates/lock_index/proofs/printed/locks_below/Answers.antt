@@ -1,7 +1,7 @@
 use Rattle.std.proofs.Common.{subst, sym, arith}
 use Rattle.std.proofs.lemmas.Bool.{not-true, not-false}
 use Rattle.lock_command.specs.Name.{IsName}
-use Rattle.lock_index.specs.State.{is_queued}
+use Rattle.lock_command.specs.State.{is_queued}
 use Rattle.lock_index.proofs.Groups.{granted_key, queued_key, lower_in_front, place_behind, place_in_front, group_ordered, group_narrows}
 use Rattle.lock_index.proofs.printed.locks_below.Goals as goal
 

@@ -1,5 +1,5 @@
 use Rattle.std.proofs.Common.{◌≡◌, ◌<◌, true, length, get_or, sym, ap, ◌∙◌}
-use Rattle.lock_index.specs.Locks.{is_lock}
+use Rattle.lock_command.specs.Locks.{is_lock}
 use Rattle.std.proofs.lemmas.Bool.{not-false}
 use Rattle.std.proofs.lemmas.List.{get_or_default}
 use Rattle.lock_index.proofs.Keyed.{inside_where_found, stands_where_found, remove_where_stands}

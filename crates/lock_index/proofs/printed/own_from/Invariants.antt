@@ -1,6 +1,6 @@
 use Rattle.std.proofs.Common.{◌≡◌, ◌-◌, length, drop, Some}
 use Rattle.std.specs.List.{find}
-use Rattle.lock_index.specs.Locks.{is_lock}
+use Rattle.lock_command.specs.Locks.{is_lock}
 use Rattle.lock_index.proofs.printed.own_from.Given as goal
 
 -- the record is among the rest

@@ -1,4 +1,4 @@
-use Rattle.lock_index.specs.Locks.{is_lock}
+use Rattle.lock_command.specs.Locks.{is_lock}
 use Rattle.lock_index.specs.Printed.{printed_cmp}
 use Rattle.lock_index.proofs.PrintedOrder.{printed_order}
 use Rattle.lock_index.proofs.Cuts.{found_from}
@@ -11,4 +11,4 @@ own_from-requires-clause-there c =
     let xs = c.args.printed.now in
     let i = c.locks_below-head.result in
     found_from printed_cmp printed_order (is_lock own.lock) own xs i
-    (below_own xs c.locks_below-head.ensures.fit own c.key.result i c.key.ensures.fits c.key.ensures.key c.locks_below-head.ensures.bound c.locks_below-head.ensures.point.0) c.requires.there
+    (below_own xs c.locks_below-head.ensures.fit own c.lock_key.result i c.lock_key.ensures.fits c.lock_key.ensures.key c.locks_below-head.ensures.bound c.locks_below-head.ensures.point.0) c.requires.there

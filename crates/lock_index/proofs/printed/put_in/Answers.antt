@@ -1,7 +1,7 @@
 use Rattle.std.proofs.Common.{◌+◌, List, subst, sym}
 use Rattle.std.proofs.lemmas.Bool.{not-true, not-false}
-use Rattle.lock_index.specs.declared.record.LockRecord.{LockRecord}
-use Rattle.lock_index.specs.State.{is_queued}
+use Rattle.lock_command.specs.declared.record.LockRecord.{LockRecord}
+use Rattle.lock_command.specs.State.{is_queued}
 use Rattle.lock_index.specs.Indexed.{IsGrantedGroup}
 use Rattle.lock_index.proofs.Groups.{group_with_granted, group_with_queued}
 use Rattle.lock_index.proofs.printed.put_in.Goals as goal

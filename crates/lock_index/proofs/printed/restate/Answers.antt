@@ -3,10 +3,10 @@ use Rattle.std.specs.List.Sorted.{IsSorted}
 use Rattle.std.specs.Ordering.{is_lt}
 use Rattle.std.proofs.lemmas.Bool.{not-true}
 use Rattle.std.proofs.lemmas.List.Kept.{IsSortedBy-filter}
-use Rattle.lock_index.specs.declared.record.LockRecord.{LockRecord}
-use Rattle.lock_index.specs.State.{is_queued}
+use Rattle.lock_command.specs.declared.record.LockRecord.{LockRecord}
+use Rattle.lock_command.specs.State.{is_queued}
 use Rattle.lock_index.specs.Keys.{lock_key, HasKey}
-use Rattle.lock_index.specs.Locks.{is_lock, without}
+use Rattle.lock_command.specs.Locks.{is_lock, without}
 use Rattle.lock_index.specs.Printed.{printed_cmp}
 use Rattle.lock_index.specs.Placed.{placed}
 use Rattle.lock_index.specs.Indexed.{stands_before_rank, IsGrantedGroup}

@@ -1,5 +1,5 @@
 use Rattle.std.proofs.Common.{◌-◌, List, subst, sym, refl, arith}
-use Rattle.lock_index.specs.declared.record.LockRecord.{LockRecord}
+use Rattle.lock_command.specs.declared.record.LockRecord.{LockRecord}
 use Rattle.lock_index.specs.Indexed.{IsGrantedGroup}
 use Rattle.lock_index.proofs.Groups.{group_without}
 use Rattle.lock_index.proofs.printed.take_out.Goals as goal

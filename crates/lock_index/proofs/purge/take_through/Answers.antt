@@ -2,8 +2,8 @@ use Rattle.std.proofs.Common.{◌≡◌, ◌≤◌, ◌<◌, ◌-◌, ◌||◌, 
 use Rattle.std.specs.List.{list_any}
 use Rattle.lock_command.specs.Name.{same_name}
 use Rattle.std.proofs.lemmas.List.{length-drop}
-use Rattle.lock_index.specs.declared.record.LockRecord.{LockRecord}
-use Rattle.lock_index.specs.Locks.{is_on, is_through}
+use Rattle.lock_command.specs.declared.record.LockRecord.{LockRecord}
+use Rattle.lock_command.specs.Locks.{is_on, is_through}
 use Rattle.lock_index.specs.Shelved.{no_lock}
 use Rattle.lock_index.proofs.Keyed.{kept_fewer}
 use Rattle.lock_index.proofs.Partly.{partly, behind, taken_none, taken_next, taken_last, partly_last, behind_none, behind_taken}

@@ -1,8 +1,8 @@
 use Rattle.std.proofs.Common.{◌≡◌, ◌≤◌, ◌<◌, ◌+◌, ◌-◌, ℕ, List, true, not, length, get_or, vec_len, vec_capacity}
 use Rattle.std.specs.List.{list_any}
 use Rattle.lock_command.specs.Name.{same_name}
-use Rattle.lock_index.specs.declared.record.LockRecord.{LockRecord}
-use Rattle.lock_index.specs.Locks.{is_on, is_through}
+use Rattle.lock_command.specs.declared.record.LockRecord.{LockRecord}
+use Rattle.lock_command.specs.Locks.{is_on, is_through}
 use Rattle.lock_index.proofs.Partly.{partly, behind}
 use Rattle.lock_index.proofs.purge.take_through.Given as goal
 

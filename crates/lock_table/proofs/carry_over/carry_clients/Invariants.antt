@@ -1,6 +1,6 @@
 use Rattle.std.proofs.Common.{◌≡◌, ◌≤◌, ◌+◌, ◌++◌, filter, map, take, vec_len, vec_capacity}
 use Rattle.lock_table.specs.declared.clients.TheConstants.{CLIENTS}
-use Rattle.lock_index.specs.declared.record.TheConstants.{LOCKS}
+use Rattle.lock_command.specs.declared.record.TheConstants.{LOCKS}
 use Rattle.lock_command.specs.Command.{spelling}
 use Rattle.lock_table.specs.Carrying.{carried_client, is_among, stays_known}
 use Rattle.lock_table.proofs.carry_over.carry_clients.Given as goal

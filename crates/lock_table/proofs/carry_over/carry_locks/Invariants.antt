@@ -1,6 +1,6 @@
 use Rattle.std.proofs.Common.{◌≡◌, ◌≤◌, ◌+◌, map, take, vec_len, vec_capacity}
 use Rattle.lock_table.specs.declared.clients.TheConstants.{CLIENTS}
-use Rattle.lock_index.specs.declared.record.TheConstants.{LOCKS}
+use Rattle.lock_command.specs.declared.record.TheConstants.{LOCKS}
 use Rattle.lock_command.specs.Command.{spelling}
 use Rattle.lock_table.specs.Carrying.{carried_lock}
 use Rattle.lock_table.specs.Stored.{value_in}

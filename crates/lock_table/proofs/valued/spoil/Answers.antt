@@ -1,13 +1,13 @@
 use Rattle.std.proofs.Common.{◌≡◌, ◌<◌, ◌+◌, ◌&&◌, suc, true, false, List, ◌∷◌, [], ◌++◌, length, take, sym, ap, subst, ◌∙◌, arith}
 use Rattle.std.specs.List.{list_any}
 use Rattle.std.proofs.Math.Seq.{take-suc}
-use Rattle.lock_index.specs.declared.record.TheConstants.{LOCKS}
-use Rattle.lock_index.specs.declared.record.LockRecord.{LockRecord}
+use Rattle.lock_command.specs.declared.record.TheConstants.{LOCKS}
+use Rattle.lock_command.specs.declared.record.LockRecord.{LockRecord}
 use Rattle.lock_table.specs.declared.values.NamedValue.{NamedValue}
-use Rattle.lock_index.specs.Locks.{is_on, is_through}
+use Rattle.lock_command.specs.Locks.{is_on, is_through}
 use Rattle.lock_table.specs.Stored.{value_in, IsValued}
 use Rattle.lock_table.specs.Values.{invalid, stored, spoiled, zeros}
-use Rattle.lock_index.specs.State.{is_writer}
+use Rattle.lock_command.specs.State.{is_writer}
 use Rattle.lock_table.proofs.Stored.{has_at, room_for, put_stores, valued_put, spoil_next, spoil_past, spoil_none}
 use Rattle.lock_table.proofs.valued.spoil.Goals as goal
 use Rattle.lock_table.proofs.valued.spoil.Goals.{then-is_spoilt, else-is_spoilt}

@@ -1,6 +1,6 @@
 use Rattle.std.proofs.Common.{◌<◌, ◌≡◌, ℕ, Some}
 use Rattle.std.specs.Prelude.{slice_get}
-use Rattle.lock_index.specs.declared.record.LockRecord.{LockRecord}
+use Rattle.lock_command.specs.declared.record.LockRecord.{LockRecord}
 use Rattle.session.specs.Evidence.{IsOf}
 use Rattle.session.proofs.evidence.find.Given as goal
 

@@ -5,7 +5,7 @@ use Rattle.disk.specs.declared.fault.DiskFault.TheVariants.{Reset, Gone}
 use Rattle.disk.specs.Disk.{DiskState, Device, Answer, Call, Attach, Read, Write, Sync, success_of, done_by}
 use Rattle.disk.specs.Simulated.{SimState, outcome_by, refusal_of}
 use Rattle.torn_block.specs.Layout.{cluster_version}
-use Rattle.phases.specs.Calls.{device_call_of}
+use Rattle.attempt.specs.DeviceCalls.{device_call_of}
 use Rattle.world.specs.Entry.{called_by}
 use Rattle.world.specs.Happens.{answer_by}
 use Rattle.simulator.proofs.device_call.make.Goals as goal

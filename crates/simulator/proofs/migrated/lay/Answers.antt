@@ -5,7 +5,7 @@ use Rattle.disk.specs.Simulated.{SimState, fresh_disk}
 use Rattle.torn_block.specs.Layout.{cluster_version}
 use Rattle.torn_block.specs.declared.layout.TheConstants.{ROW_LENGTH}
 use Rattle.paxos_block.specs.Places.{image_length, row_place}
-use Rattle.migration.specs.Image.{rows_for}
+use Rattle.paxos_block.specs.Image.{rows_for}
 use Rattle.simulator.specs.Kept.{calm}
 use Rattle.simulator.proofs.Moved.{HasRows, TakesRow, no_rows, one_row_more, takes_row}
 use Rattle.simulator.proofs.migrated.lay.Goals as goal

@@ -5,7 +5,7 @@ use Rattle.disk.specs.Disk.{written, synced}
 use Rattle.disk.specs.Simulated.{SimState, fresh_disk}
 use Rattle.torn_block.specs.Layout.{cluster_version}
 use Rattle.paxos_block.specs.Places.{image_length, row_place}
-use Rattle.migration.specs.Image.{rows_for}
+use Rattle.paxos_block.specs.Image.{rows_for}
 use Rattle.lock_command.specs.Command.{spelling}
 use Rattle.world.specs.Entry.{migrated_to}
 use Rattle.simulator.specs.Kept.{calm}

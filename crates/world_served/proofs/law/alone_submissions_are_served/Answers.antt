@@ -1,5 +1,5 @@
 use Rattle.std.proofs.Common.{◌≤◌, List}
-use Rattle.slot_log.specs.Shape.{Shape}
+use Rattle.paxos_block.specs.Shape.{Shape}
 use Rattle.world.specs.Entry.{Filled}
 use Rattle.world.specs.World.{IsRun}
 use Rattle.world.specs.Happens.{run}

@@ -3,8 +3,7 @@ use Rattle.disk.specs.Disk.{Call}
 use Rattle.attempt.specs.Answers.{Heard}
 use Rattle.attempt.specs.History.{Fits}
 use Rattle.torn_block.specs.Layout.{cluster_version}
-use Rattle.phases.specs.Calls.{device_call_of, heard_of}
-use Rattle.beats.specs.Calls.{device_answer}
+use Rattle.attempt.specs.DeviceCalls.{device_call_of, heard_of, device_answer}
 use Rattle.host.specs.Kept.{due_call}
 use Rattle.host.proofs.Hosts.{heard_same}
 use Rattle.c_host.proofs.open_host.OpenHost.hear.Goals as goal

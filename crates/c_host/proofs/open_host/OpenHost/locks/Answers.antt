@@ -1,5 +1,5 @@
 use Rattle.std.proofs.Common.{List, length, ap, subst}
-use Rattle.lock_index.specs.declared.record.LockRecord.{LockRecord}
+use Rattle.lock_command.specs.declared.record.LockRecord.{LockRecord}
 use Rattle.c_host.specs.Views.{ShowBelow, ShowsLock}
 use Rattle.c_host.proofs.open_host.OpenHost.locks.Goals as goal
 

@@ -3,7 +3,7 @@ use Rattle.std.specs.Prelude.{IsTrue}
 use Rattle.disk.specs.Disk.{Device, DiskState, Answer}
 use Rattle.torn_block.specs.Layout.{cluster_version}
 use Rattle.paxos_block.specs.Places.{image_length}
-use Rattle.slot_log.specs.Shape.{Shape}
+use Rattle.paxos_block.specs.Shape.{Shape}
 use Rattle.cluster_tie.specs.Parts.{Own}
 use Rattle.cluster.specs.Book.{BookState, answer_in, disk_in, image_on, Makes, IsFollowedBy}
 use Rattle.cluster.specs.Seat.{due_in}

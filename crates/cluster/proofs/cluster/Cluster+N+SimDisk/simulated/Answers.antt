@@ -5,7 +5,7 @@ use Rattle.std.proofs.lemmas.List.Elements.{All-replicate}
 use Rattle.disk.specs.Simulated.{SimState, fresh_disk}
 use Rattle.torn_block.specs.Layout.{cluster_version}
 use Rattle.paxos_block.specs.Places.{image_length}
-use Rattle.slot_log.specs.Shape.{Shape}
+use Rattle.paxos_block.specs.Shape.{Shape}
 use Rattle.disk.proofs.CutLemmas.{cut_fresh}
 use Rattle.world.specs.World.{opening_disk}
 use Rattle.cluster.specs.Book.{image_on}

@@ -1,7 +1,7 @@
 use Rattle.std.specs.Prelude.{is_some, ◌*◌}
 use Rattle.std.proofs.Common.{ℕ, ◌+◌, ◌≡◌, ◌≤◌, ap, ◌∙◌, arith}
 use Rattle.std.proofs.lemmas.Nat.{mul-le}
-use Rattle.slot_log.specs.Shape.{Shape}
+use Rattle.paxos_block.specs.Shape.{Shape}
 use Rattle.fault_sweep.specs.Replayed.{Heard, HasKept, Played}
 use Rattle.fault_sweep.specs.Sweeping.{recovery}
 use Rattle.fault_sweep.proofs.Covering.{nothing_kept}

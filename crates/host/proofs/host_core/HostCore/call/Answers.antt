@@ -1,7 +1,7 @@
 use Rattle.std.proofs.Common.{refl}
 use Rattle.torn_block.specs.Layout.{cluster_version}
-use Rattle.phases.specs.Calls.{call_of_need}
-use Rattle.phases.specs.declared.heard.Heard.TheVariants as answer
+use Rattle.attempt.specs.DeviceCalls.{call_of_need}
+use Rattle.attempt.specs.declared.heard.Heard.TheVariants as answer
 use Rattle.host.specs.Kept.{values_with}
 use Rattle.host.proofs.UnderWay.{beat_next, known, look_next, marking_next}
 use Rattle.host.proofs.Hosts.{attempt_next}

@@ -5,7 +5,7 @@ use Rattle.lock_command.specs.declared.command.Command.{Command}
 use Rattle.lock_command.specs.Reading.{decoded}
 use Rattle.lock_command.specs.declared.reply.Reply.{Reply}
 use Rattle.torn_block.specs.Layout.{cluster_version}
-use Rattle.phases.specs.Calls.{heard_of}
+use Rattle.attempt.specs.DeviceCalls.{heard_of}
 use Rattle.slot_log.specs.Learning as log
 use Rattle.slot_log.specs.declared.outcome.LogOutcome.{LogOutcome}
 use Rattle.host.specs.Host.{hears, reply_after}

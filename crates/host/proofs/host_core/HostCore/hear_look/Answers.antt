@@ -1,7 +1,7 @@
 use Rattle.std.proofs.Common.{◌∙◌, Some, length, ap, subst, sym, arith}
 use Rattle.std.proofs.lemmas.List.{map-id}
-use Rattle.looks.specs.Kept.{IsInside}
-use Rattle.looks.specs.Status.{Setup}
+use Rattle.rounds.specs.Look.Kept.{IsInside}
+use Rattle.rounds.specs.Look.Status.{Setup}
 use Rattle.host.specs.Kept.{IsAlone}
 use Rattle.host.proofs.UnderWay.{look_alone, look_fails, look_few, look_finds_none, look_goes, look_learns}
 use Rattle.host.proofs.host_core.HostCore.hear_look.Goals as goal

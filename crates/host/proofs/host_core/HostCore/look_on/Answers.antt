@@ -1,9 +1,9 @@
 use Rattle.std.proofs.Common.{◌≡◌, ◌∙◌, [], length, sym, ap, subst, arith}
 use Rattle.std.proofs.lemmas.List.{length-map, map-id}
 use Rattle.lock_command.specs.Command.{spelling}
-use Rattle.looks.specs.Kept as look_kept
-use Rattle.looks.specs.Status as look
-use Rattle.slot_log.specs.Shape.{Shape}
+use Rattle.rounds.specs.Look.Kept as look_kept
+use Rattle.rounds.specs.Look.Status as look
+use Rattle.paxos_block.specs.Shape.{Shape}
 use Rattle.host.specs.Host.{look_of}
 use Rattle.host.specs.Kept.{is_idle}
 use Rattle.host.proofs.UnderWay.{begins_look, known, looked_all}

@@ -1,5 +1,5 @@
 use Rattle.std.proofs.Common.{◌≡◌, get_or, sym, ap, ◌∙◌}
-use Rattle.lock_index.specs.declared.record.LockRecord.{LockRecord}
+use Rattle.lock_command.specs.declared.record.LockRecord.{LockRecord}
 use Rattle.lock_index.proofs.NumberedPlaces.{number_in_order, stands_there}
 use Rattle.lock_index.proofs.Places.{read_in_order}
 use Rattle.lock_index.proofs.by_lock_number.ByLockNumber.hinted.Goals as goal

@@ -1,8 +1,8 @@
 use Rattle.std.proofs.Common.{◌||◌, take, sym, ap, ◌∙◌, arith}
 use Rattle.std.specs.List.{list_any}
 use Rattle.std.proofs.lemmas.List.Folds.{list_any_more}
-use Rattle.lock_index.specs.declared.record.LockRecord.{LockRecord}
-use Rattle.lock_index.specs.State.{is_writer}
+use Rattle.lock_command.specs.declared.record.LockRecord.{LockRecord}
+use Rattle.lock_command.specs.State.{is_writer}
 use Rattle.lock_index.specs.Shelved.{no_lock}
 use Rattle.lock_index.proofs.by_printed_order.ByPrintedOrder.has_writer.Goals as goal
 

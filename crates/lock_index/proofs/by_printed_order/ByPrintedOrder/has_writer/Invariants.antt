@@ -1,6 +1,6 @@
 use Rattle.std.proofs.Common.{◌≡◌, take}
 use Rattle.std.specs.List.{list_any}
-use Rattle.lock_index.specs.State.{is_writer}
+use Rattle.lock_command.specs.State.{is_writer}
 use Rattle.lock_index.proofs.by_printed_order.ByPrintedOrder.has_writer.Given as goal
 
 -- some lock so far

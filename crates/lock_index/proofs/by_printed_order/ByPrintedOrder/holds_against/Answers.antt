@@ -1,5 +1,5 @@
 use Rattle.std.proofs.Common.{◌==◌, not, length, get_or, ap, ◌∙◌, bit_and, arith}
-use Rattle.lock_index.specs.State.{holds_against}
+use Rattle.lock_command.specs.State.{holds_against}
 use Rattle.lock_index.specs.Shelved.{at_places}
 use Rattle.lock_index.proofs.Conflicts.{bits_at}
 use Rattle.lock_index.proofs.by_printed_order.ByPrintedOrder.holds_against.Goals as goal

@@ -1,5 +1,5 @@
 use Rattle.std.proofs.Common.{length, get_or, ap, ◌∙◌, arith}
-use Rattle.lock_index.specs.State.{is_writer}
+use Rattle.lock_command.specs.State.{is_writer}
 use Rattle.lock_index.specs.Shelved.{at_places}
 use Rattle.lock_index.proofs.Conflicts.{writer_at}
 use Rattle.lock_index.proofs.by_printed_order.ByPrintedOrder.is_writer.Goals as goal

@@ -1,6 +1,6 @@
 use Rattle.std.proofs.Common.{◌≡◌, ◌<◌, ◌/◌, ◌^◌, ℕ, List, length, get_or, sym, ap, subst, ◌∙◌, arith}
 use Rattle.std.proofs.lemmas.Grind.{get_or_default_zero}
-use Rattle.lock_index.specs.declared.record.LockRecord.{LockRecord}
+use Rattle.lock_command.specs.declared.record.LockRecord.{LockRecord}
 use Rattle.lock_index.specs.Keys.{spelled, lock_key, HasKey, IsKeyed}
 use Rattle.lock_index.specs.Shelved.{at_places, IsShelved}
 use Rattle.lock_index.proofs.PlacedKeys.{shown_there, key_in_order, fits_in_order}

@@ -1,6 +1,6 @@
 use Rattle.std.proofs.Common.{◌≡◌, false, not, get_or, sym, ap, ◌∙◌, inl, inr, arith}
 use Rattle.std.proofs.lemmas.Bool.{cases_lt, and_parts, and_from, not-true}
-use Rattle.lock_index.specs.State.{holds_against}
+use Rattle.lock_command.specs.State.{holds_against}
 use Rattle.lock_index.specs.Shelved.{no_lock}
 use Rattle.lock_index.proofs.by_printed_order.ByPrintedOrder.none_against.Goals as goal
 

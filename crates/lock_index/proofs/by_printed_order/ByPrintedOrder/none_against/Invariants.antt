@@ -1,6 +1,6 @@
 use Rattle.std.proofs.Common.{◌≡◌, false, IsTrue}
 use Rattle.std.specs.List.{AllWithin}
-use Rattle.lock_index.specs.State.{holds_against}
+use Rattle.lock_command.specs.State.{holds_against}
 use Rattle.lock_index.proofs.by_printed_order.ByPrintedOrder.none_against.Given as goal
 
 -- none of those so far, and none at all but where none is against it

@@ -1,6 +1,6 @@
 use Rattle.std.proofs.Common.{◌≡◌, [], ◌∷◌, ◌++◌, remove, subst, List, ℕ, sym, ap, ◌∙◌, arith, rules}
 use Rattle.std.proofs.lemmas.List.{length-map}
-use Rattle.lock_index.specs.declared.record.LockRecord.{LockRecord}
+use Rattle.lock_command.specs.declared.record.LockRecord.{LockRecord}
 use Rattle.lock_index.specs.Bits.{held_bit, held_bits}
 use Rattle.lock_index.specs.Keys.{IsKeyed}
 use Rattle.lock_index.proofs.PlacedKeys.{keyed_remove}

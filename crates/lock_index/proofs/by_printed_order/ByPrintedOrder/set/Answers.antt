@@ -1,6 +1,6 @@
 use Rattle.std.proofs.Common.{◌≡◌, ◌<◌, length, set, sym, ap, ◌∙◌, arith}
 use Rattle.std.proofs.lemmas.List.{map-set}
-use Rattle.lock_index.specs.declared.record.LockRecord.{LockRecord}
+use Rattle.lock_command.specs.declared.record.LockRecord.{LockRecord}
 use Rattle.lock_index.specs.Bits.{held_bit, held_bits}
 use Rattle.lock_index.specs.Keys.{lock_key}
 use Rattle.lock_index.specs.Shelved.{no_lock, at_place, at_places}

@@ -1,7 +1,7 @@
 use Rattle.std.proofs.Common.{◌≡◌, List, length, sym, ap, subst, ◌∙◌, arith}
-use Rattle.lock_index.specs.declared.record.LockRecord.{LockRecord}
+use Rattle.lock_command.specs.declared.record.LockRecord.{LockRecord}
 use Rattle.lock_index.specs.Indexed.{IsIndexed}
-use Rattle.lock_index.specs.Locks.{lock_in, without, put}
+use Rattle.lock_command.specs.Locks.{lock_in, without, put}
 use Rattle.lock_index.specs.Printed.{printed_cmp}
 use Rattle.lock_index.specs.Placed.{placed, in_order}
 use Rattle.lock_index.proofs.Shown.{indexed_put, numbers_find, numbers_length, shown_put, without_new}

@@ -1,8 +1,8 @@
 use Rattle.std.proofs.Common.{◌≡◌, ℕ, List, Some, refl, sym, ap, subst, ◌∙◌}
 use Rattle.std.specs.List.{filter}
-use Rattle.lock_index.specs.declared.record.LockRecord.{LockRecord}
+use Rattle.lock_command.specs.declared.record.LockRecord.{LockRecord}
 use Rattle.lock_index.specs.Indexed.{IsIndexed}
-use Rattle.lock_index.specs.Locks.{is_lock, lock_in, without, put, in_state}
+use Rattle.lock_command.specs.Locks.{is_lock, lock_in, without, put, in_state}
 use Rattle.lock_index.specs.Printed.{printed_cmp}
 use Rattle.lock_index.specs.Placed.{placed, in_order}
 use Rattle.lock_index.proofs.Shown.{indexed_put, numbers_find, numbers_distinct, shown_put}

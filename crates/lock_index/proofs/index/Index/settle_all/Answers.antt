@@ -1,7 +1,7 @@
 use Rattle.std.proofs.Common.{◌≡◌, ◌+◌, List, drop, sym, ap, subst, ◌∙◌, arith}
 use Rattle.std.proofs.lemmas.List.{drop_all}
-use Rattle.lock_index.specs.declared.record.LockRecord.{LockRecord}
-use Rattle.lock_index.specs.Locks.{settled, settled_all, IsDistinct}
+use Rattle.lock_command.specs.declared.record.LockRecord.{LockRecord}
+use Rattle.lock_command.specs.Locks.{settled, settled_all, IsDistinct}
 use Rattle.lock_index.proofs.Apart.{IsDistinct-settled}
 use Rattle.lock_index.proofs.Shown.{shown, shown_twice, IsDistinct-shown, all_settled_next}
 use Rattle.lock_index.proofs.index.Index.settle_all.Goals as goal

@@ -1,5 +1,5 @@
 use Rattle.std.proofs.Common.{◌≡◌, drop}
-use Rattle.lock_index.specs.Locks.{settled_all, IsDistinct}
+use Rattle.lock_command.specs.Locks.{settled_all, IsDistinct}
 use Rattle.lock_index.specs.Printed.{printed_cmp}
 use Rattle.lock_index.specs.Placed.{in_order}
 use Rattle.lock_index.proofs.index.Index.settle_all.Given as goal

@@ -1,7 +1,7 @@
 use Rattle.std.proofs.Common.{◌≡◌, ◌∙◌, sym, ap, Some, None, true, false, arith, length}
 use Rattle.lock_command.specs.declared.state.LockState.TheVariants.{Granted}
-use Rattle.lock_index.specs.State.{goal_of}
-use Rattle.lock_index.specs.Locks.{head_of, admits, settled, put, granted, in_state, queue}
+use Rattle.lock_command.specs.State.{goal_of}
+use Rattle.lock_command.specs.Locks.{head_of, admits, settled, put, granted, in_state, queue}
 use Rattle.lock_index.proofs.Turns.{settled-blocked, settled-idle}
 use Rattle.lock_index.proofs.Shown.{shown, granted_next, granted_fewer}
 use Rattle.lock_index.proofs.index.Index.settle_behind.Goals as goal

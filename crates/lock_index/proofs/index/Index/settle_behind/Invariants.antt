@@ -1,6 +1,6 @@
 use Rattle.std.proofs.Common.{◌≡◌, length}
 use Rattle.lock_index.specs.Indexed.{IsGrantedGroup}
-use Rattle.lock_index.specs.Locks.{settled, queue}
+use Rattle.lock_command.specs.Locks.{settled, queue}
 use Rattle.lock_index.specs.Printed.{printed_cmp}
 use Rattle.lock_index.specs.Placed.{in_order}
 use Rattle.lock_index.proofs.index.Index.settle_behind.Given as goal

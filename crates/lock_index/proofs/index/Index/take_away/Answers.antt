@@ -1,5 +1,5 @@
 use Rattle.std.proofs.Common.{◌≡◌, not, Some, refl, ap, ◌∙◌}
-use Rattle.lock_index.specs.Locks.{is_lock, lock_in}
+use Rattle.lock_command.specs.Locks.{is_lock, lock_in}
 use Rattle.lock_index.proofs.Shown.{indexed_filter, numbers_find, numbers_distinct}
 use Rattle.lock_index.proofs.index.Index.take_away.Goals as goal
 

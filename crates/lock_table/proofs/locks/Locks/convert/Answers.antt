@@ -1,7 +1,7 @@
 use Rattle.std.proofs.Common.{◌≡◌, ◌∙◌, arith, rules}
 use Rattle.std.proofs.lemmas.Grind.{common_steps}
 use Rattle.lock_command.specs.declared.state.LockState.TheVariants.{Granted}
-use Rattle.lock_index.specs.Locks.{put, in_state, settled}
+use Rattle.lock_command.specs.Locks.{put, in_state, settled}
 use Rattle.lock_index.proofs.Numbered.{IsDistinct-put}
 use Rattle.lock_index.proofs.Shown.{shown, shown-settled}
 use Rattle.lock_table.proofs.locks.Locks.convert.Goals as goal

@@ -1,7 +1,7 @@
 use Rattle.std.proofs.Common.{◌≡◌, ℕ, not, List, map, sym, ap, subst, ◌∙◌}
 use Rattle.std.specs.List.{filter}
-use Rattle.lock_index.specs.declared.record.LockRecord.{LockRecord}
-use Rattle.lock_index.specs.Locks.{is_through, settled_all, IsDistinct}
+use Rattle.lock_command.specs.declared.record.LockRecord.{LockRecord}
+use Rattle.lock_command.specs.Locks.{is_through, settled_all, IsDistinct}
 use Rattle.lock_index.proofs.Numbered.{IsDistinct-filter}
 use Rattle.lock_table.proofs.Behave.{any-names}
 use Rattle.lock_index.proofs.Settled.{is_among}

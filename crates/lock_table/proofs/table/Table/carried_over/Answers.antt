@@ -1,6 +1,6 @@
 use Rattle.std.proofs.Common.{◌++◌, filter, map, ap, ◌∙◌}
 use Rattle.lock_command.specs.Command.{spelling}
-use Rattle.lock_index.specs.declared.record.LockRecord.{LockRecord}
+use Rattle.lock_command.specs.declared.record.LockRecord.{LockRecord}
 use Rattle.lock_table.specs.declared.known_client.KnownClient.{KnownClient}
 use Rattle.lock_table.specs.Carrying.{carried_lock, carried_client, carried_over, is_among, stays_known, without_clients}
 use Rattle.lock_table.specs.Picture.{Shown}

@@ -1,11 +1,11 @@
 use Rattle.std.proofs.Common.{◌≡◌, List, [], filter, sym, ap, subst, ◌∙◌}
-use Rattle.lock_index.specs.declared.record.TheConstants.{LOCKS}
+use Rattle.lock_command.specs.declared.record.TheConstants.{LOCKS}
 use Rattle.lock_table.specs.declared.values.NamedValue.{NamedValue}
 use Rattle.lock_table.specs.Apply.{done}
 use Rattle.lock_index.specs.Printed.{printed_cmp}
 use Rattle.lock_index.specs.Placed.{in_order}
-use Rattle.lock_index.specs.declared.record.LockRecord.{LockRecord}
-use Rattle.lock_index.specs.Locks.{IsDistinct}
+use Rattle.lock_command.specs.declared.record.LockRecord.{LockRecord}
+use Rattle.lock_command.specs.Locks.{IsDistinct}
 use Rattle.lock_table.specs.Stored.{Valued, value_in, is_locked, put_if, IsValued, entry_by, asked_lock, asked_value_by, may_lose}
 use Rattle.lock_table.specs.Values.{of_locked, changed, values_after, asked_value, returned, zeros}
 use Rattle.lock_table.proofs.Behave.{same-of_locked, distinct-done, told_asked}

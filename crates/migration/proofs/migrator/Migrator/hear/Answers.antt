@@ -1,7 +1,7 @@
 use Rattle.std.proofs.Common.{◌≡◌, ◌∙◌, ◌++◌, ◌∷◌, [], None, ap, sym, subst, arith}
 use Rattle.attempt.specs.Heard.{Fits}
 use Rattle.torn_block.specs.Layout.{cluster_version}
-use Rattle.phases.specs.Calls.{heard_of}
+use Rattle.attempt.specs.DeviceCalls.{heard_of}
 use Rattle.migration.specs.Heard.{at_first}
 use Rattle.migration.specs.Kept.{LeadsTo, device_answer, call_due}
 use Rattle.migration.specs.declared.notes.Notes.{Notes}

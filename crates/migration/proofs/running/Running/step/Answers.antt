@@ -2,7 +2,7 @@ use Rattle.std.proofs.Common.{ℕ, ◌∙◌, ◌++◌, ◌∷◌, [], Option, S
 use Rattle.std.proofs.Math.ListN.{set}
 use Rattle.disk.specs.Simulated.{SimState, outcome}
 use Rattle.torn_block.specs.Layout.{cluster_version}
-use Rattle.phases.specs.Calls.{device_call_of, call_of_need, IsWithin}
+use Rattle.attempt.specs.DeviceCalls.{device_call_of, call_of_need, IsWithin}
 use Rattle.migration.specs.Events.{Step, run}
 use Rattle.migration.specs.Kept.{device_answer}
 use Rattle.migration.specs.Running.{LeadsTo}

@@ -3,7 +3,7 @@ use Rattle.std.proofs.Common.{ℕ, ◌∙◌, ◌++◌, ◌∷◌, [], Option, N
 use Rattle.std.proofs.Math.ListN.{set}
 use Rattle.disk.specs.Simulated.{SimState, failed_by, refusal_of}
 use Rattle.torn_block.specs.Layout.{cluster_version}
-use Rattle.phases.specs.Calls.{device_call_of, call_of_need, IsWithin}
+use Rattle.attempt.specs.DeviceCalls.{device_call_of, call_of_need, IsWithin}
 use Rattle.migration.specs.Events.{Tear, run}
 use Rattle.migration.specs.Running.{LeadsTo}
 use Rattle.migration.specs.declared.notes.Notes.{Notes}

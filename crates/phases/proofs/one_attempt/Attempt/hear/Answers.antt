@@ -1,6 +1,6 @@
 use Rattle.std.proofs.Common.{◌++◌, ◌∷◌, []}
 use Rattle.attempt.proofs.Ends.{bound, served}
-use Rattle.phases.specs.Calls.{heard_as}
+use Rattle.attempt.specs.DeviceCalls.{heard_as}
 use Rattle.phases.specs.Kept.{answer_of}
 use Rattle.phases.proofs.Calling.{leads_on}
 use Rattle.phases.proofs.one_attempt.Attempt.hear.Goals as goal

@@ -2,9 +2,9 @@ use Rattle.std.proofs.Common.{List, Option, refl, subst, ap}
 use Rattle.paxos_block.specs.Row.{DecodedBlock, decoded_row}
 use Rattle.paxos_block.specs.Saying.{said_as}
 use Rattle.attempt.specs.Answers.{Told, is_bad}
-use Rattle.phases.specs.Moves.{ReadsGist}
+use Rattle.attempt.specs.ReadRows.{ReadsGist}
 use Rattle.phases.specs.Notes.{Notes}
-use Rattle.phases.proofs.Answering.{reads_gist}
+use Rattle.attempt.proofs.ReadRows.{reads_gist}
 use Rattle.phases.proofs.one_attempt.Attempt.hear_row.Goals as goal
 
 pub returns-in-Ok-clause-follows : goal.returns-in-Ok-clause-follows

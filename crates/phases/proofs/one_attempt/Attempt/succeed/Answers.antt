@@ -1,6 +1,6 @@
 use Rattle.std.proofs.Common.{◌≡◌, ◌∙◌, ℕ, List, None, sym, subst, ap}
 use Rattle.attempt.specs.Answers.{Done}
-use Rattle.phases.specs.declared.heard.Heard.TheVariants as answer
+use Rattle.attempt.specs.declared.heard.Heard.TheVariants as answer
 use Rattle.phases.specs.declared.phase.Stage.{Stage}
 use Rattle.phases.specs.Inside.{notes_in}
 use Rattle.phases.specs.Moves.{Takes}

@@ -10,7 +10,7 @@ use Rattle.disk.specs.Disk.{Fault}
 use Rattle.disk.specs.declared.fault.DiskFault.TheVariants.{Failed}
 use Rattle.disk.specs.Simulated.{SimState}
 use Rattle.torn_block.specs.Layout.{cluster_version}
-use Rattle.phases.specs.Calls.{device_call_of, IsWithin}
+use Rattle.attempt.specs.DeviceCalls.{device_call_of, IsWithin}
 use Rattle.world.specs.Entry.{Filled, called_by}
 use Rattle.world.specs.Happens.{spread_over}
 use Rattle.simulator.proofs.simulated_cluster.SimulatedCluster.fail.Goals as goal

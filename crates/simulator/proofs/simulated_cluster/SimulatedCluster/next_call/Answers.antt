@@ -2,7 +2,7 @@ use Rattle.std.proofs.Common.{◌≡◌, ℕ, None, Some, Option, get_or, sym, a
 use Rattle.std.specs.Prelude.{◌&&◌, is_none}
 use Rattle.disk.specs.declared.fault.DiskFault.{DiskFault}
 use Rattle.torn_block.specs.Layout.{cluster_version}
-use Rattle.phases.specs.Calls.{device_call_of}
+use Rattle.attempt.specs.DeviceCalls.{device_call_of}
 use Rattle.simulator.specs.Calls.{is_write}
 use Rattle.simulator.specs.Kept.{TellsNext}
 use Rattle.simulator.proofs.NextCall.{tells_none, tells_next}

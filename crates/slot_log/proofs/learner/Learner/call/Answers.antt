@@ -1,4 +1,4 @@
-use Rattle.phases.specs.Calls.{call_of_need}
+use Rattle.attempt.specs.DeviceCalls.{call_of_need}
 use Rattle.slot_log.specs.Kept.{kept_of, Kept}
 use Rattle.slot_log.proofs.Learners.{call_next}
 use Rattle.slot_log.proofs.learner.Learner.call.Goals as goal

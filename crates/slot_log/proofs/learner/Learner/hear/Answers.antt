@@ -2,10 +2,11 @@ use Rattle.std.proofs.Common.{ℕ, Option, Some, None, [], ◌∷◌, ◌++◌, 
 use Rattle.std.specs.Option.{option_map}
 use Rattle.slot_log.specs.declared.operation.LogTask as code_task
 use Rattle.attempt.specs.Answers.{Heard, Answered}
-use Rattle.phases.specs.Calls.{Ending, heard_as, end_as, end_in}
+use Rattle.phases.specs.Calls.{Ending, end_as, end_in}
+use Rattle.attempt.specs.DeviceCalls.{heard_as}
 use Rattle.phases.specs.declared.end.End as code_end
 use Rattle.phases.specs.declared.end.End.TheVariants as end
-use Rattle.slot_log.specs.Shape.{Shape}
+use Rattle.paxos_block.specs.Shape.{Shape}
 use Rattle.slot_log.specs.Alone.{IsAnsweredAlone}
 use Rattle.slot_log.specs.Learning.{Memory, setup_of, hears}
 use Rattle.slot_log.specs.Kept.{kept_of, task_as, Kept, LeadsTo, IsOver, is_idle, is_idle_with}

@@ -1,5 +1,0 @@
-use Rattle.dlm_images.proofs.Opening.{AreResized}
-use Rattle.dlm_images.proofs.folder.resize.Given as goal
-
-abbrev pub invariant-loop-disk : goal.invariant-loop-disk
-invariant-loop-disk g l = AreResized l.size l.disk l.initial.disks.items l.disks.items

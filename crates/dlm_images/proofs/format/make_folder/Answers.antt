@@ -1,7 +1,0 @@
-use Rattle.std.proofs.Common.{rules, subst}
-use Rattle.dlm_images.specs.Formatting.{AreNew}
-use Rattle.dlm_images.proofs.Laying.{laid_out_of_new}
-use Rattle.dlm_images.proofs.format.make_folder.Goals as goal
-
-pub returns-in-Ok-clause-laid_out : goal.returns-in-Ok-clause-laid_out
-returns-in-Ok-clause-laid_out g c = laid_out_of_new c.args.config c.args.cluster c.deref_mut.result.now c.lay_out.new.devices (subst (AreNew c.args.config) (search rules) c.in_ok-devices.ensures.room) c.in-Ok.ensures.laid_out

@@ -1,9 +1,0 @@
-use Rattle.dlm_images.specs.Formatting.{AreOpened, EachBecame, HaveRoom, MakesOnly, OpensGate}
-use Rattle.dlm_images.proofs.layout.open_gates.Given as goal
-
-abbrev pub invariant-loop-disk : goal.invariant-loop-disk
-invariant-loop-disk g l = record {
-  opened : AreOpened g.D.Disk.gives l.fn.boots l.disk l.initial.devices l.devices;
-  calls : EachBecame (λ disk old new. MakesOnly g.D.Disk.gives OpensGate old new) l.initial.devices l.devices;
-  room : HaveRoom g.D.Disk.device 1 l.devices;
-}

@@ -1,5 +1,0 @@
-use Rattle.dlm_images.proofs.Sets.{IsFoundBelow}
-use Rattle.dlm_images.proofs.set.common_header.Given as goal
-
-abbrev pub invariant-loop-number : goal.invariant-loop-number
-invariant-loop-number l = IsFoundBelow l.found l.first l.number

@@ -1,9 +1,0 @@
-use Rattle.dlm_images.specs.Finishing.{OpensFound}
-use Rattle.dlm_images.specs.Formatting.{FirstBecame, HaveRoom}
-use Rattle.dlm_images.proofs.unfinished.finish.Given as goal
-
-abbrev pub invariant-loop-disk : goal.invariant-loop-disk
-invariant-loop-disk g l = record {
-  opened : FirstBecame (λ disk old new. OpensFound g.D.Disk.gives old new) l.disk l.initial.devices l.devices;
-  room : HaveRoom g.D.Disk.device 1 l.devices;
-}

@@ -1,0 +1,10 @@
+pub mod Damage
+pub mod Finishing
+pub mod Folders
+pub mod Formatting
+pub mod Headers
+pub mod ImageFaults
+pub mod Layout
+pub mod Reading
+pub mod SetFaults
+pub mod Sets
