@@ -101,6 +101,37 @@ build() {
     return $ended
 }
 
+# check_below CRATE LOG: proves the libraries that a crate stands on, where they lie, each as soon as those below it are proved. A check uses more than one
+# processor, so half as many run at once as there are. What one has proved is kept for the next and for `rt lib`. All that `rt` prints goes into the log.
+check_below() {
+    local name library pid status failed=0 below
+    local -A named=() proved=() running=()
+    while read -r name library; do
+        [[ $name != [a-z]* ]] || named[${name%:}]=$library
+    done < "$top/crates.txt"
+    find_below "$1"
+    while true; do
+        for name in "${below[@]}"; do
+            [[ $failed -eq 0 && -z ${proved[$name]-} && " ${running[*]-} " != *" $name "* ]] || continue
+            [[ ${#running[@]} -eq 0 || ${#running[@]} -lt $(($(nproc) / 2)) ]] || break
+            for library in ${named[$name]}; do
+                [[ -z ${named[$library]+listed} || -n ${proved[$library]-} ]] || continue 2
+            done
+            (cd -- "$top/crates/$name" && rt check < /dev/null) >> "$2" 2>&1 &
+            running[$!]=$name
+        done
+        [[ ${#running[@]} -gt 0 ]] || return "$failed"
+        status=0
+        wait -n -p pid "${!running[@]}" || status=$?
+        if [[ $status -eq 0 ]]; then
+            proved[${running[$pid]}]=1
+        else
+            failed=1
+        fi
+        unset "running[$pid]"
+    done
+}
+
 # note_proved CRATE [FILE]: what is proved, the program or this file, has its sum beside it, written by those alone that have just proved it.
 note_proved() {
     sha256sum < "$top/crates/$1/out/${2-$1}" > "$top/crates/$1/out/proved"

@@ -4,17 +4,19 @@
 set -uo pipefail
 
 source "$(dirname -- "$(readlink -f -- "${BASH_SOURCE[0]}")")/lib.sh"
-mkdir -p -- "$work/stand_ins/"{bin,c} "$work/capi/"{src,include,examples/dlm-mount} "$work/crates/dlm_c/src" "$work/crates/disk/"{src,proofs}
+mkdir -p -- "$work/stand_ins/"{bin,c} "$work/capi/"{src,include,examples/dlm-mount} "$work/crates/"{dlm_c,torn_block}/src "$work/crates/disk/"{src,proofs}
 cp -- "$top/build.sh" "$work"
 cp -- "$top/capi/"{build.sh,midgegalena.pc.in} "$work/capi"
-printf 'disk: thiserror\ndlm_c: staticlib: disk\n' > "$work/crates.txt"
+printf 'torn_block: disk thiserror\ndlm_c staticlib: disk torn_block\ndisk: thiserror\nbench: torn_block\n' > "$work/crates.txt"
 echo 1.7 > "$work/VERSION"
 printf '#define MG_VERSION_MAJOR 1\n#define MG_VERSION_MINOR 7\n' > "$work/capi/include/midgegalena.h"
 touch -- "$work/crates/"{dlm_c,disk}/src/lib.rt "$work/capi/src/mg-lock.c" "$work/stand_ins/c/"{libos_c,liblibc_c}.a
 
-# `rt lib` makes the archive of the crate that it is run in, says so, and fails where there is a file `broken`; it edits a source in the midst where there is `late`.
+# `rt check` says in which crate it is run, and fails where there is a file `unproved`. `rt lib` makes the archive of the crate that it is run in, says so, and
+# fails where there is a file `broken`; it edits a source in the midst where there is `late`.
 cat > "$work/stand_ins/bin/rt" << END
 #!/usr/bin/env bash
+[[ \$1 != check ]] || { echo "\${PWD##*/}" >> "$work/calls"; [[ ! -e "$work/unproved" ]]; exit; }
 [[ \$1 == lib && \${PWD##*/} == dlm_c && ! -e "$work/broken" ]] || exit 1
 echo rt >> "$work/calls"
 mkdir -p out && date +%N > out/libdlm_c.a
@@ -46,7 +48,7 @@ expect() {
     grep -qx "prefix=$work/usr" "$work/capi/out/midgegalena.pc" && grep -qx 'Version: 1.7' "$work/capi/out/midgegalena.pc" || fail "$1: midgegalena.pc"
 }
 
-expect "nothing is there" 'rt cc'
+expect "nothing is there" 'disk torn_block rt cc'
 expect "nothing changed" ''
 touch -- "$work/capi/src/mg-lock.c"
 expect "C changed" cc
@@ -55,15 +57,15 @@ expect "dlm-mount changed" cc
 touch -- "$work/crates/disk/proofs/Disk.antt"
 expect "a proof changed" ''
 touch -- "$work/crates/disk/src/lib.rt"
-expect "a crate below changed" 'rt cc'
+expect "a crate below changed" 'disk torn_block rt cc'
 echo other > "$work/crates/dlm_c/out/libdlm_c.a"
-expect "another archive in the proved one's place" 'rt cc'
+expect "another archive in the proved one's place" 'disk torn_block rt cc'
 rm -- "$work/crates/dlm_c/out/proved"
-expect "nothing tells what was proved" 'rt cc'
+expect "nothing tells what was proved" 'disk torn_block rt cc'
 touch -- "$work/late" "$work/crates/dlm_c/src/lib.rt"
-expect "an edit during the proof" 'rt cc'
+expect "an edit during the proof" 'disk torn_block rt cc'
 touch -- "$work/capi/src/mg-lock.c"
-expect "after an edit during the proof" 'rt cc'
+expect "after an edit during the proof" 'disk torn_block rt cc'
 rm -- "$work/capi/out/mg-lock"
 expect "a program was taken away" cc
 
@@ -79,6 +81,11 @@ failing "VERSION alone was changed" "VERSION is 1.8, and the header's numbers ar
 echo 1.7 > "$work/VERSION"
 touch -- "$work/broken" "$work/crates/dlm_c/src/lib.rt"
 failing "it is not proved" 'not built: .*/build.log says why'
+rm -- "$work/broken"
+touch -- "$work/unproved"
+: > "$work/calls"
+failing "a crate below is not proved" 'not built: .*/build.log says why'
+[[ $(<"$work/calls") == disk ]] || fail "a crate below is not proved: calls $(paste -sd ' ' "$work/calls")"
 mkdir -- "$work/tools"
 for tool in bash dirname readlink sed paste find mkdir touch sha256sum; do
     ln -s -- "$(type -P "$tool")" "$work/tools/$tool"
