@@ -21,7 +21,7 @@ zeros_from : (commands : List Command) (t : Plain) → HasZeros t.locks t.values
 zeros_from [] t has = has
 zeros_from (command ∷ commands) t has = zeros_from commands (applied t command).table (zeros-applied t command has)
 
-has_picture : (commands : List Command) → IsPictureOf (pictured (table_after commands)) (table_after commands)
+pub has_picture : (commands : List Command) → IsPictureOf (pictured (table_after commands)) (table_after commands)
 has_picture commands = picture_of_pictured (table_after commands) (reachable_distinct commands) (zeros_from commands no_locks (λ name none. refl))
 
 -- what shows what other commands leave has the one picture of it
@@ -31,7 +31,7 @@ same_picture learned others shown as_after is =
     subst (λ (s : Shown). IsPictureOf s (table_after others)) (one_shown (table_after learned) (pictured (table_after others)) shown (as_after.shows (pictured (table_after others)) own) is) own
 
 -- one epoch more
-one_more : (learned others own : List Command) (shown : Shown) → IsAsAfter learned others → IsPictureOf shown (table_after learned) → IsAsAfter (carried_over shown ++ own) (others ++ own)
+pub one_more : (learned others own : List Command) (shown : Shown) → IsAsAfter learned others → IsPictureOf shown (table_after learned) → IsAsAfter (carried_over shown ++ own) (others ++ own)
 one_more learned others own shown as_after is =
     let there = same_picture learned others shown as_after is in
     record {
@@ -39,13 +39,13 @@ one_more learned others own shown as_after is =
       replies = λ command. replied_later others own shown command there;
     }
 
-same_list : (learned others : List Command) → learned ≡ others → IsAsAfter learned others
+pub same_list : (learned others : List Command) → learned ≡ others → IsAsAfter learned others
 same_list learned others same = record {
   shows = λ after is. subst (λ (l : List Command). IsPictureOf after (table_after l)) (sym same) is;
   replies = λ command. ap (λ (l : List Command). (applied (table_after l) command).reply) same;
 }
 
-of_list : (learned same others : List Command) → learned ≡ same → IsAsAfter same others → IsAsAfter learned others
+pub of_list : (learned same others : List Command) → learned ≡ same → IsAsAfter same others → IsAsAfter learned others
 of_list learned same others is as_after = subst (λ (l : List Command). IsAsAfter l others) (sym is) as_after
 
 pub tables_go_on : TablesGoOn

@@ -1,5 +1,9 @@
 pub mod First
 pub mod Going
+pub mod Headline
+pub mod Lists
 pub mod Lived
+pub mod Logs
+pub mod Places
 pub mod Puts
 pub mod WithoutEnd

@@ -13,21 +13,8 @@ use Rattle.world_safety.specs.Tracks.{IsChosenBefore, IsTrue, IsTrueOf}
 use Rattle.world_safety.proofs.Claims.Recovering.{misses_nothing}
 use Rattle.world_safety.proofs.Runs.Knowing.{chosen_upto}
 use Rattle.world_safety.proofs.Runs.Tracks.{all_true}
-use Rattle.endless.specs.Lived.{Lived, In, Seen, part, now, RunsIn, IsWholeBy, IsLived, RecoveriesAreOfTheLast}
-
--- as time goes on no less is done
-now_rises : (e i j : ℕ) (lived : List Lived) → i ≤ j → now e i lived ≤ now e j lived
-now_rises e zero j lived order = omega arith
-now_rises e (suc i) zero lived order = absurd (omega (arith, order))
-now_rises e (suc i) (suc j) [] order = omega arith
-now_rises e (suc i) (suc j) (Seen entry ∷ lived) order = let rest = now_rises e i j lived (omega (arith, order)) in omega (arith, rest)
-now_rises e (suc i) (suc j) (In epoch entry ∷ lived) order =
-    let rest = now_rises e i j lived (omega (arith, order)) in
-    either (epoch == e) rest
-  where
-    either : (b : Bool) → now e i lived ≤ now e j lived → cond b (suc (now e i lived)) (now e i lived) ≤ cond b (suc (now e j lived)) (now e j lived)
-    either true rest = omega (arith, rest)
-    either false rest = rest
+use Rattle.endless.specs.Lived.{Lived, part, now, RunsIn, IsWholeBy, IsLived, RecoveriesAreOfTheLast}
+use Rattle.endless.proofs.Places.{now_rises}
 
 -- the last item of a list
 last_of : {A : Type 0} (items : List A) (n : ℕ) → length items ≡ suc n → (item : A) × (slice_get items n ≡ Some item)

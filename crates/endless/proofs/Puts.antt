@@ -12,7 +12,8 @@ use Rattle.world.specs.World.{IsRun, ReadsBack}
 use Rattle.world.specs.Chosen.{at, migrated, IsChosenAt, IsMigrated, IsChosen}
 use Rattle.world_safety.specs.Goes.{ProposesWith}
 use Rattle.world_safety.specs.Tracks.{IsChosenBefore, IsSubmittedBy, AreChosen, IsTrue, IsTrueOf, IsTrueDoing}
-use Rattle.world_safety.proofs.Runs.Tracks.{all_true, IsPutBefore, put_by_then}
+use Rattle.world_safety.specs.Tied.{HostAt, IsDoing, IsRunning, IsTrying}
+use Rattle.world_safety.proofs.Runs.Tracks.{moves_at, tied_at, all_true, IsPutBefore, put_by_then}
 use Rattle.endless.specs.Epochs.{IsCallAt}
 
 -- with a call a host put the value in, which is the spelling of the command that it was submitting, for the slot behind those that it had learned
@@ -35,7 +36,7 @@ pub one_spelled : (command wanted : Command) → ReadsBack command → ReadsBack
 one_spelled command wanted one other same = let both : Some command ≡ Some wanted = sym one ∙ ap decoded same ∙ other in cc
 
 module _ (c : Shape) (log : List Filled) (run : IsRun c log) (fresh : migrated log ≡ []) where
-  none_migrated : (slot : ℕ) (value : List ℕ) → IsMigrated log slot value → ⊥
+  pub none_migrated : (slot : ℕ) (value : List ℕ) → IsMigrated log slot value → ⊥
   none_migrated slot value is = let none : slice_get (map spelling []) slot ≡ Some value = subst (λ (l : List Command). slice_get (map spelling l) slot ≡ Some value) fresh is in absurd (nothing slot none)
     where
       nothing : (k : ℕ) → slice_get (map spelling []) k ≡ Some value → ⊥
@@ -83,6 +84,15 @@ module _ (c : Shape) (log : List Filled) (run : IsRun c log) (fresh : migrated l
   pub put_chosen : (slot : ℕ) (value : List ℕ) → IsChosen c log slot value → IsPutBy c log slot value
   put_chosen slot value (inl is) = put_before (suc is.0) slot value (inl (record { place = is.0; before = omega arith; is = is.1 }))
   put_chosen slot value (inr is) = absurd (none_migrated slot value is)
+
+  -- what is chosen is chosen for a slot of the log
+  pub chosen_fits : (slot : ℕ) (value : List ℕ) → IsChosen c log slot value → slot < c.slots
+  chosen_fits slot value is =
+      let put = put_chosen slot value is in
+      let running : IsRunning c (at c log put.place) (moves_at c log run put.place) put.host put.memory = subst (HostAt c (at c log put.place) (moves_at c log run put.place) put.host) put.running ((tied_at c log run put.place).hosts put.host) in
+      let trying : IsTrying c (at c log put.place) (moves_at c log run put.place) put.host put.memory put.doing = subst (IsDoing c (at c log put.place) (moves_at c log run put.place) put.host put.memory) put.does running.doing in
+      let fits = trying.fits in
+      omega (arith, fits, put.on_slot)
 
   -- what a host has learned was chosen, and reads back
   learned_true : (i : ℕ) (host : Host) (h : ℕ) → IsTrueOf c log i h host → AreChosen c log i (learned_of host)

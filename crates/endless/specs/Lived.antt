@@ -1,28 +1,33 @@
--- What is done in all epochs, in one order.
+-- What is done in all epochs, in one order: what an epoch is of it, and when somebody has learned an epoch whole.
 use Rattle.std.specs.Prelude.{◌≡◌, ◌+◌, ◌==◌, ◌<◌, ◌≤◌, ℕ, zero, suc, List, [], ◌∷◌, length, if◌then◌else◌}
 use Rattle.paxos_block.specs.Shape.{Shape}
 use Rattle.host.specs.Host.{Memory, Running}
-use Rattle.world.specs.Entry.{Filled}
+use Rattle.world.specs.Entry.{Filled, Crashed, Lost}
 use Rattle.world.specs.World.{IsRun}
 use Rattle.world.specs.Chosen.{at, IsRecovery}
 
--- what a host does in an epoch, and what becomes of a disk, which all epochs see
 pub data Lived : Type 0 where
+  -- what a host does in an epoch
   In : (epoch : ℕ) → (entry : Filled) → Lived
-  Seen : (entry : Filled) → Lived
+  -- a disk crashes, and these are the bytes of its image of each epoch then
+  Crash : (disk : ℕ) → (left : ℕ → List ℕ) → Lived
+  -- a disk is lost for good, for each epoch
+  Loss : (disk : ℕ) → Lived
 
 -- what is done in an epoch
 abbrev pub part : ℕ → List Lived → List Filled
 part e [] = []
 part e (In epoch entry ∷ lived) = if epoch == e then entry ∷ part e lived else part e lived
-part e (Seen entry ∷ lived) = entry ∷ part e lived
+part e (Crash disk left ∷ lived) = Crashed disk (left e) ∷ part e lived
+part e (Loss disk ∷ lived) = Lost disk ∷ part e lived
 
 -- so much of it is done before place i of all
 abbrev pub now : ℕ → ℕ → List Lived → ℕ
 now e zero lived = 0
 now e (suc i) [] = 0
 now e (suc i) (In epoch entry ∷ lived) = if epoch == e then suc (now e i lived) else now e i lived
-now e (suc i) (Seen entry ∷ lived) = suc (now e i lived)
+now e (suc i) (Crash disk left ∷ lived) = suc (now e i lived)
+now e (suc i) (Loss disk ∷ lived) = suc (now e i lived)
 
 -- at place i of all the host is running in the epoch, and knows this
 abbrev pub RunsIn : Shape → List Lived → (i e h : ℕ) → Memory → Type 0

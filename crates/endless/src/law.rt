@@ -1,5 +1,6 @@
 // What the logs of epochs, one after another, are together.
 ghost use Rattle.endless.specs.Epochs.{CarriedComesFirst, TablesGoOn, EpochsGoOn};
+ghost use Rattle.endless.specs.Headline.{EndlessHeadline};
 ghost use Rattle.endless.specs.Lived.{RecoveriesAreOfTheLast};
 ghost use Rattle.endless.specs.WithoutEnd.{OneLogWithoutEnd};
 
@@ -21,4 +22,10 @@ pub fn recoveries_are_of_the_last()
 /// each reply goes by it.
 pub fn one_log_without_end()
     ensures { OneLogWithoutEnd }
+{}
+
+/// One log without an end, and nothing that was acknowledged is lost: so it is with all that is done in all epochs, where hosts keep to
+/// them.
+pub fn endless_headline()
+    ensures { EndlessHeadline }
 {}

@@ -3,4 +3,4 @@
 
 mod law;
 
-pub use law::{epochs_go_on, one_log_without_end, recoveries_are_of_the_last};
+pub use law::{endless_headline, epochs_go_on, one_log_without_end, recoveries_are_of_the_last};
