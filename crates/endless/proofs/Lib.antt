@@ -6,4 +6,5 @@ pub mod Lived
 pub mod Logs
 pub mod Places
 pub mod Puts
+pub mod Shared
 pub mod WithoutEnd

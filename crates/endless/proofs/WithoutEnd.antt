@@ -29,7 +29,7 @@ not_bare (Crashed k left) deed disks log is = cc
 not_bare (Lost k) deed disks log is = cc
 not_bare (Migrated d l) deed disks log is = absurd deed
 
-none_migrated : (run log : List Filled) → map bare run ≡ map bare log → AreDeeds log → migrated run ≡ []
+pub none_migrated : (run log : List Filled) → map bare run ≡ map bare log → AreDeeds log → migrated run ≡ []
 none_migrated [] log same deeds = refl
 none_migrated (Start h ∷ run) log same deeds = refl
 none_migrated (Stop h ∷ run) log same deeds = refl
@@ -53,7 +53,7 @@ bare_call h disk call answer (Crashed d left) is = absurd (cc)
 bare_call h disk call answer (Lost d) is = absurd (cc)
 bare_call h disk call answer (Migrated d log) is = absurd (cc)
 
-same_call : (run log : List Filled) → map bare run ≡ map bare log → (i h : ℕ) → IsCallAt run i h → IsCallAt log i h
+pub same_call : (run log : List Filled) → map bare run ≡ map bare log → (i h : ℕ) → IsCallAt run i h → IsCallAt log i h
 same_call [] log same i h called = absurd (let none = called.4 in cc)
 same_call (e ∷ run) [] same i h called = absurd (cc)
 same_call (e ∷ run) (x ∷ log) same zero h called =

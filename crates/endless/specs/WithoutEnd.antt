@@ -1,5 +1,5 @@
 -- What hosts of all epochs do over shared disks is one log without an end.
-use Rattle.std.specs.Prelude.{◌≡◌, ◌<◌, ◌≤◌, ℕ, suc, List, ◌++◌, length, take, slice_get, Some}
+use Rattle.std.specs.Prelude.{◌≡◌, ◌<◌, ◌≤◌, ℕ, suc, List, ◌++◌, length, map, take, slice_get, Some}
 use Rattle.lock_command.specs.declared.command.Command.{Command}
 use Rattle.lock_table.specs.Apply.{table_after}
 use Rattle.lock_table.specs.Carrying.{carried_over}
@@ -7,9 +7,14 @@ use Rattle.lock_table.specs.Picture.{Shown, IsPictureOf}
 use Rattle.paxos_block.specs.Shape.{Shape}
 use Rattle.host.specs.Host.{Submitting, Attempt, Attempts, Memory, Host, Stopped, Running, learned_of}
 use Rattle.world.specs.Entry.{Filled, of_host, host_after}
+use Rattle.world.specs.World.{IsRun}
+use Rattle.world.specs.Chosen.{at}
+use Rattle.at_once.specs.AtOnce.{bare}
 use Rattle.epochs.specs.Acts.{Act}
 use Rattle.epochs.specs.OneLog.{IsShared}
 use Rattle.endless.specs.Epochs.{IsCallAt, carried_by, HasGoneOn}
+use Rattle.endless.specs.Headline.{KeepsToEpochs, HasOneLogWithoutEnd}
+use Rattle.endless.specs.Lived.{Lived, part, now}
 
 -- what a host is by place i of what is done in an epoch, by its own deeds
 abbrev pub host_by : Shape → List Filled → ℕ → ℕ → Host
@@ -39,3 +44,18 @@ OneLogWithoutEnd =
     (later : ℕ → List Command)
     × ((e : ℕ) → e < last → learned_by c (logs e) (is.place e) (is.host e) ≡ carried_by shown e ++ later e)
     × ((e i h : ℕ) → e ≤ last → length (carried_by shown e) ≤ length (learned_by c (logs e) i h) → HasGoneOn later shown e (learned_by c (logs e) i h))
+
+-- With some bytes in the place of those that faults left, what is done in each epoch is a run of the world, at each place of which each host is what its own deeds before that
+-- make of it; and all of it has one log.
+pub record IsRunWithoutEnd (c : Shape) (lived : List Lived) (last : ℕ) : Type 0 where
+  pub run : List Lived
+  pub same : (e : ℕ) → map bare (part e run) ≡ map bare (part e lived)
+  pub places : (e i : ℕ) → now e i run ≡ now e i lived
+  pub is : (e : ℕ) → IsRun c (part e run)
+  pub hosts : (e i h : ℕ) → (at c (part e run) i).host h ≡ host_by c (part e lived) i h
+  pub one : HasOneLogWithoutEnd c run last
+
+-- So it is over shared disks, where hosts keep to the epochs. What they keep to is said of their own deeds.
+abbrev pub SharedHaveOneLog : Type 0
+SharedHaveOneLog =
+    (c : Shape) (size : ℕ) (acts : ℕ → List Act) (lived : List Lived) (last : ℕ) → IsShared c size acts (λ e. part e lived) → KeepsToEpochs c lived last → IsRunWithoutEnd c lived last

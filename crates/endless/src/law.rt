@@ -2,7 +2,7 @@
 ghost use Rattle.endless.specs.Epochs.{CarriedComesFirst, TablesGoOn, EpochsGoOn};
 ghost use Rattle.endless.specs.Headline.{EndlessHeadline};
 ghost use Rattle.endless.specs.Lived.{RecoveriesAreOfTheLast};
-ghost use Rattle.endless.specs.WithoutEnd.{OneLogWithoutEnd};
+ghost use Rattle.endless.specs.WithoutEnd.{OneLogWithoutEnd, SharedHaveOneLog};
 
 /// One log without an end. Where nobody tries one of the first slots of an epoch but with the command that carries the last table over there, the epoch's log
 /// begins with these commands. So each table shows what all that was submitted up to then leaves, in whatever epochs, and each reply is
@@ -27,5 +27,7 @@ pub fn one_log_without_end()
 /// One log without an end, and nothing that was acknowledged is lost: so it is with all that is done in all epochs, where hosts keep to
 /// them.
 pub fn endless_headline()
-    ensures { EndlessHeadline }
+    ensures headline { EndlessHeadline }
+    // So it is over shared disks, with the bytes that faults left overlooked.
+    ensures shared { SharedHaveOneLog }
 {}
