@@ -1,3 +1,4 @@
+pub mod Example
 pub mod First
 pub mod Going
 pub mod Headline
