@@ -1,3 +1,5 @@
+pub mod Beats
+pub mod Bytes
 pub mod Numbers
 pub mod OneLog
 pub mod Readings

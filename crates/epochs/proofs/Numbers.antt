@@ -1,25 +1,25 @@
 -- A number through calls, syncs, crashes and its own write.
-use Rattle.std.specs.Prelude.{◌⊎◌, Option, Some, None}
+use Rattle.std.specs.Prelude.{◌⊎◌, Some, None}
 use Rattle.std.proofs.Common.{ℕ, ◌≡◌, ◌+◌, ◌≤◌, Bool, true, false, List, length, refl, sym, ◌∙◌, ap, subst, inl, inr, arith}
 use Rattle.disk.specs.declared.fault.DiskFault.TheVariants.{Reset, Failed, Gone}
-use Rattle.disk.specs.Disk.{DiskState, Call, Attach, Read, Write, Sync, Answer, Booted, Told, Done, Fault, Step, Crashes, written, synced}
+use Rattle.disk.specs.Disk.{DiskState, Call, Write, Answer, Booted, Told, Done, Fault, Step, written, synced}
 use Rattle.disk.specs.Crash.{IsWhole, MayLeave}
 use Rattle.disk.specs.Simulated.{fresh_disk}
 use Rattle.disk.specs.Steps.{WritesOn}
 use Rattle.disk.proofs.CrashLemmas.{length-put, put-below, put-above, may_leave_now, may_leave_synced, may_leave_crashed, may_leave_written}
 use Rattle.disk.proofs.StepLemmas.{step_keeps}
-use Rattle.torn_block.specs.Layout.{cluster_version, block_length}
+use Rattle.torn_block.specs.Layout.{cluster_version}
 use Rattle.torn_block.specs.declared.write_steps.WriteCall.{WriteCall}
 use Rattle.torn_block.specs.declared.write_steps.WriteCall.TheVariants.{CloseGate, SyncClosed, PutBody, SyncBody, OpenGate, SyncOpened}
 use Rattle.torn_block.specs.Block.{value_of, number_in, next_number}
 use Rattle.torn_block.specs.Place.{block_in}
 use Rattle.torn_block.specs.Register.{Value, IsOutside, LiesOn, LeavesBlock, Reads, at_rest}
-use Rattle.torn_block.specs.Stage.{Write128, call_of, next_call, in_writing, old_value, new_value, IsPlaced, IsDue, IsDone, Stands}
+use Rattle.torn_block.specs.Stage.{Write128, call_of, next_call, in_writing, new_value, IsPlaced, IsDue, Stands}
 use Rattle.torn_block.proofs.PlaceLaws.{block_elsewhere}
 use Rattle.torn_block.proofs.RegisterLaws.{fresh_rests}
 use Rattle.torn_block.proofs.StageLaws.{due_reads, done_reads, done_leads_on, failure_reads}
 use Rattle.heartbeat.specs.Beat.{counter_at, counter_of}
-use Rattle.epochs.specs.Numbers.{number_at, IsNumber, IsTried, write_over, ZerosAreNone, OthersLeaveNumbers, SyncsMakeSure, CrashesLeaveOne, WritesAreNext}
+use Rattle.epochs.specs.Numbers.{number_at, IsNumber, IsTried, write_over, ZerosAreNone, OthersLeaveNumbers, SyncsMakeSure, CrashesLeaveOne, WritesAreNext, WritesRaise}
 
 -- ZEROS
 
@@ -157,7 +157,7 @@ module _ (place : ℕ) (block body : List ℕ) (new : DiskState) where
     stands_either OpenGate due = due_either SyncOpened due
     stands_either SyncOpened done = λ bytes may. inr (ap counter_at (done_reads w new placed_new done bytes may) ∙ next_is (value_of cluster_version block))
 
-    tried : (call : WriteCall) (boot : ℕ) (answer : Answer) → IsDue call w disk → IsTried answer → Step disk (call_of call w boot) answer new → IsEither
+    pub tried : (call : WriteCall) (boot : ℕ) (answer : Answer) → IsDue call w disk → IsTried answer → Step disk (call_of call w boot) answer new → IsEither
     tried call boot Done due is step = stands_either call (done_leads_on w disk placed call boot new due step)
     tried call boot (Fault Failed) due is step = λ bytes may. either_by bytes (failure_reads w disk placed call boot new due step.2 bytes may)
     tried call boot (Fault Reset) due is step = absurd is
@@ -167,3 +167,8 @@ module _ (place : ℕ) (block body : List ℕ) (new : DiskState) where
 
 pub writes_are_next : WritesAreNext
 writes_are_next place block body call boot disk new answer placed placed_new due is step = found place block body new (tried place block body new disk placed placed_new call boot answer due is step)
+
+pub writes_raise : WritesRaise
+writes_raise place block body boot disk new placed placed_new due step bytes may =
+    let w = write_over place block body in
+    ap counter_at (done_reads w new placed_new (done_leads_on w disk placed SyncOpened boot new due step) bytes may) ∙ next_is (value_of cluster_version block)

@@ -1,18 +1,15 @@
 -- Of each epoch what is done is a run.
-use Rattle.std.proofs.Common.{◌≡◌, ℕ, List, sym, subst}
+use Rattle.std.proofs.Common.{sym, subst}
 use Rattle.disk.specs.Simulated.{fresh_disk}
 use Rattle.torn_block.specs.Layout.{cluster_version}
 use Rattle.paxos_block.specs.Places.{image_length}
-use Rattle.paxos_block.specs.Shape.{Shape}
-use Rattle.world.specs.Entry.{Filled}
 use Rattle.world.specs.World.{opening_disk}
-use Rattle.at_once.specs.AtOnce.{Serves, IsAtOnce}
+use Rattle.at_once.specs.AtOnce.{Serves}
 use Rattle.at_once.specs.Power.{IsOverLosses, ServesOn, renumbered}
 use Rattle.at_once.proofs.Losses.{losses_are_crashes}
 use Rattle.at_once.proofs.Filling.{at_once_makes_a_run}
 use Rattle.at_once.proofs.Headless.{zeros_hold_nothing}
-use Rattle.epochs.specs.Acts.{Act}
-use Rattle.epochs.specs.OneLog.{IsShared, IsSharedOverLosses, EpochsAreAtOnce, EpochsAreRuns, EpochsAreOverLosses}
+use Rattle.epochs.specs.OneLog.{EpochsAreAtOnce, EpochsAreRuns, EpochsAreOverLosses}
 use Rattle.epochs.proofs.Serving.{areas_serve, areas_serve_on}
 
 pub epochs_are_at_once : EpochsAreAtOnce

@@ -1,12 +1,12 @@
 -- Numbers only rise while a disk does not crash, so two readings tell what was seen in between.
-use Rattle.std.specs.Prelude.{◌⊎◌, ◌&&◌}
-use Rattle.std.proofs.Common.{ℕ, zero, suc, ◌≡◌, ◌+◌, ◌≤◌, ◌<◌, ◌==◌, Bool, true, false, List, [], ◌∷◌, refl, sym, ◌∙◌, ap, subst, inl, inr, arith}
+use Rattle.std.specs.Prelude.{◌&&◌}
+use Rattle.std.proofs.Common.{ℕ, ◌≡◌, ◌+◌, ◌≤◌, ◌==◌, Bool, true, false, List, [], ◌∷◌, refl, sym, ◌∙◌, ap, inl, inr, arith}
 use Rattle.std.proofs.lemmas.Bool.{cases_order, cases_Bool, eqb-true, eq-eqb, ne_eqb, and_parts}
 use Rattle.paxos_block.specs.Shape.{Shape}
 use Rattle.world.specs.Entry.{Filled, Start, Stop, Begin, Called, Crashed, Lost, Migrated}
 use Rattle.world.specs.Entry as entries
 use Rattle.disk.specs.Disk.{DiskState, Attach, Read, Write, Sync}
-use Rattle.epochs.specs.Acts.{Epoch, Shared, Act, In, Beside, Turns, Ends, GoesIn, IsTurned, GoesBy, GoesThrough, HasNoCrash, IsShown, shown_by, AreClear, ReadingsShow}
+use Rattle.epochs.specs.Acts.{Epoch, Shared, Act, In, Beside, Turns, Ends, GoesIn, IsTurned, GoesBy, GoesThrough, HasNoCrash, shown_by, ReadingsShow}
 
 -- it is not less
 Rises : Shared → Shared → Type 0
@@ -83,13 +83,13 @@ module _ (IsCrash : DiskState → DiskState → Type 0) (c : Shape) (k n : ℕ) 
 
 pub readings_show : (IsCrash : DiskState → DiskState → Type 0) → ReadingsShow IsCrash
 unfolding Rises
-readings_show IsCrash c k n e first row second before behind to none back none_behind clear host =
+readings_show IsCrash c k n e first row second before behind to none back none_behind clear host few =
     let early = through_rises IsCrash c k n before first row to none e.area host in
     let late = through_rises IsCrash c k n behind row second back none_behind e.area host in
-    let most = (clear host).0 in
+    let most = (clear host few).0 in
     elim (cases_order (second.seen e.area host) e.number) [
       | inl own ↦
-          (let was = (clear host).1 own in
+          (let was = (clear host few).1 own in
           let both : shown_by e (first.seen e.area) (second.seen e.area) host ≡ true = (λ i. eq-eqb (first.seen e.area host) e.number was i && eq-eqb (second.seen e.area host) e.number own i) in
           inl (both, omega (arith, early, late, was, own)))
       | inr (inl below) ↦

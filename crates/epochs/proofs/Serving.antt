@@ -1,6 +1,6 @@
 -- Whatever hosts of all epochs do to a disk, the image of each epoch serves what is done to it.
-use Rattle.std.specs.Prelude.{◌⊎◌, ◌%◌, ◌-◌, ◌^◌, ◌&&◌, nat_lt, if◌then◌else◌, slice_index_or}
-use Rattle.std.proofs.Common.{ℕ, zero, suc, ◌≡◌, ◌≢◌, ◌+◌, ◌≤◌, ◌<◌, ◌==◌, Bool, true, false, true≢false, cond, List, [], ◌∷◌, length, get_or, refl, sym, ◌∙◌, ap, subst, inl, inr, arith}
+use Rattle.std.specs.Prelude.{◌⊎◌, ◌%◌, ◌^◌, ◌&&◌}
+use Rattle.std.proofs.Common.{ℕ, ◌≡◌, ◌+◌, ◌≤◌, ◌<◌, ◌==◌, Bool, true, false, true≢false, cond, List, [], ◌∷◌, length, refl, sym, ◌∙◌, ap, subst, inl, inr, arith}
 use Rattle.std.proofs.lemmas.Bool.{cases_lt, cases_eq, cases_Bool, eqb-true, eq-eqb, and_parts}
 use Rattle.std.proofs.lemmas.List.{length-replicate}
 use Rattle.disk.specs.declared.fault.DiskFault.TheVariants.{Failed}
@@ -8,16 +8,16 @@ use Rattle.disk.specs.Disk.{DiskState, Call, Attach, Read, Write, Sync, Answer, 
 use Rattle.disk.specs.Crash.{IsWhole}
 use Rattle.disk.specs.Simulated.{fresh_disk}
 use Rattle.disk.specs.Steps.{HasShape, WritesOn}
-use Rattle.disk.proofs.StepLemmas.{shape_keeps, shape_fresh}
+use Rattle.disk.proofs.StepLemmas.{shape_keeps}
 use Rattle.paxos_block.specs.Shape.{Shape}
 use Rattle.world.specs.Entry.{Filled, Start, Stop, Begin, Called, Crashed, Lost, Migrated}
 use Rattle.world.specs.Entry as entries
 use Rattle.world.specs.World.{Tears}
 use Rattle.at_once.specs.AtOnce.{Goes, Serves}
 use Rattle.at_once.specs.Power.{LosesPower, GoesOn, ServesOn}
-use Rattle.epochs.specs.Showing.{host_at, Standing, Before, Inside, After, ShowsEpoch, moved, masked_in, IsOf, IsElsewhere, IsRight, Restands, IsCleared}
+use Rattle.epochs.specs.Showing.{host_at, Standing, ShowsEpoch, moved, IsOf, IsElsewhere, IsRight, Restands, IsCleared}
 use Rattle.epochs.proofs.Steps.{own_calls_are_steps, own_tears_are_tears, others_leave_it, crashes_are_crashes, losses_are_losses, standings_change_nothing, fresh_disks_show_nothing}
-use Rattle.epochs.specs.Acts.{Epoch, epoch_of, is_same, base_of, standing_by, Shared, fresh_shared, Act, In, Beside, Turns, Ends, part, sure_by, IsShown, IsInside, MayMake, IsMade, IsRefused, IsCut, GoesIn, WritesBeside, IsBeside, IsTurned, IsTurning, HasCrashed, IsModelCrash, IsLost, GoesBy, ServesAll, AreasServe, AreasServeOn}
+use Rattle.epochs.specs.Acts.{Epoch, epoch_of, is_same, base_of, standing_by, Shared, fresh_shared, Act, In, Beside, Turns, Ends, part, sure_by, IsShown, IsInside, MayMake, IsMade, IsRefused, IsCut, GoesIn, WritesBeside, IsBeside, IsTurned, IsTurning, HasCrashed, IsModelCrash, IsLost, ServesAll, AreasServe, AreasServeOn}
 use Rattle.epochs.proofs.Standings.{by_is, by_below, inside_is, IsNext, restands, areas_apart, area_fits, LeavesCleared, cleared_steps, cleared_crashed, cleared_lost}
 
 -- how hosts stand in an epoch, and the image that the disk shows of it
@@ -176,34 +176,42 @@ module _ (n : ℕ) (old new : Shared) (is : Ordered n old) where
     -- who is shown is shown rightly
     right_shown : (image : DiskState) (shown : ℕ → Bool) (at len : ℕ) → 4096 ≤ at → at + len ≤ n → IsShown e shown old → Shows n e old image → IsRight base at len shown old.whole image
     right_shown image shown at len high ends given shows host =
-        elim (given host) [
-          | inl is_shown ↦
-              inl (
-                is_shown.0,
-                λ p from_there within own.
-                    let here : old.sure e.area (host_at p) ≡ old.sure e.area host = ap (old.sure e.area) own in
-                    elim (is.next e.area host e_area) [
-                      | inl same ↦ shows.bytes p (omega (arith, high, from_there)) (omega (arith, within, ends)) (by_is e.number (old.sure e.area (host_at p)) (here ∙ sym same ∙ is_shown.1))
-                      | inr more ↦
-                          (let sum = more.0 in
-                          let now = is_shown.1 in
-                          let below : old.sure e.area (host_at p) < e.number = omega (arith, here, sum, now) in
-                          shows.blank p (omega (arith, within, ends)) (inr (by_below e.number (old.sure e.area (host_at p)) below))
-                          ∙ sym ((more.1 (omega (arith, sum, now, e_even))).bytes p (omega (arith, high, from_there)) (omega (arith, within, ends)) own))
-                    ],
-              )
-          | inr hidden ↦
-              inr (
-                hidden.0,
-                λ p from_there within own.
-                    let here : old.sure e.area (host_at p) ≡ old.sure e.area host = ap (old.sure e.area) own in
-                    let less = hidden.1 in
-                    let below : old.sure e.area (host_at p) < e.number = (elim (is.next e.area host e_area) [
-                      | inl same ↦ omega (arith, here, same, less)
-                      | inr more ↦ (let sum = more.0 in omega (arith, here, sum, less))
-                    ]) in
-                    shows.blank p (omega (arith, within, ends)) (inr (by_below e.number (old.sure e.area (host_at p)) below)),
-              )
+        elim (cases_lt host 16) [
+          | inl few ↦
+              elim (given host few) [
+                | inl is_shown ↦
+                    inl (
+                      is_shown.0,
+                      λ p from_there within own.
+                          let here : old.sure e.area (host_at p) ≡ old.sure e.area host = ap (old.sure e.area) own in
+                          elim (is.next e.area host e_area) [
+                            | inl same ↦ shows.bytes p (omega (arith, high, from_there)) (omega (arith, within, ends)) (by_is e.number (old.sure e.area (host_at p)) (here ∙ sym same ∙ is_shown.1))
+                            | inr more ↦
+                                (let sum = more.0 in
+                                let now = is_shown.1 in
+                                let below : old.sure e.area (host_at p) < e.number = omega (arith, here, sum, now) in
+                                shows.blank p (omega (arith, within, ends)) (inr (by_below e.number (old.sure e.area (host_at p)) below))
+                                ∙ sym ((more.1 (omega (arith, sum, now, e_even))).bytes p (omega (arith, high, from_there)) (omega (arith, within, ends)) own))
+                          ],
+                    )
+                | inr hidden ↦
+                    inr (
+                      hidden.0,
+                      λ p from_there within own.
+                          let here : old.sure e.area (host_at p) ≡ old.sure e.area host = ap (old.sure e.area) own in
+                          let less = hidden.1 in
+                          let below : old.sure e.area (host_at p) < e.number = (elim (is.next e.area host e_area) [
+                            | inl same ↦ omega (arith, here, same, less)
+                            | inr more ↦ (let sum = more.0 in omega (arith, here, sum, less))
+                          ]) in
+                          shows.blank p (omega (arith, within, ends)) (inr (by_below e.number (old.sure e.area (host_at p)) below)),
+                    )
+              ]
+          | inr none ↦
+              elim (cases_Bool (shown host)) [
+                | inl with_it ↦ inl (with_it, λ p from_there within own. absurd (omega (arith, own, none)))
+                | inr without ↦ inr (without, λ p from_there within own. absurd (omega (arith, own, none)))
+              ]
         ]
 
     own_is : (image : DiskState) (shown : ℕ → Bool) (call : Call) → MayMake n e shown old call → Shows n e old image → IsOf n base (standings e old) shown old.whole image call

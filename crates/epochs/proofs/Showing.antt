@@ -1,28 +1,25 @@
 -- What an area shows, byte by byte, and what calls leave of it.
-use Rattle.std.specs.Prelude.{◌⊎◌, ◌-◌, ◌/◌, ◌%◌, if◌then◌else◌, map, replicate, slice_range, slice_index_or}
+use Rattle.std.specs.Prelude.{◌⊎◌, ◌-◌, ◌%◌, map, replicate, slice_range}
 use Rattle.std.specs.List.{range_with_len}
-use Rattle.std.proofs.Common.{ℕ, ◌≡◌, ◌+◌, ◌≤◌, ◌<◌, ◌==◌, Bool, true, false, true≢false, cond, List, length, take, drop, get_or, refl, sym, ◌∙◌, ap, subst, inl, inr, arith, length-drop}
-use Rattle.std.proofs.lemmas.Bool.{cases_lt, cases_Bool, eqb-true}
+use Rattle.std.proofs.Common.{ℕ, ◌≡◌, ◌+◌, ◌≤◌, ◌<◌, Bool, true, false, true≢false, cond, List, length, take, drop, get_or, refl, sym, ◌∙◌, ap, inl, inr, arith, length-drop}
+use Rattle.std.proofs.lemmas.Bool.{cases_lt}
 use Rattle.std.proofs.lemmas.List.{ext_get_or, get_or-take, get_or-drop, get_or-replicate, get_or_past, length-replicate, length-take-le}
 use Rattle.std.proofs.lemmas.List.FromFn.{length-map-range_with_len, get_or-map-range_with_len}
-use Rattle.disk.specs.declared.fault.DiskFault.TheVariants.{Reset, Failed, Gone}
-use Rattle.disk.specs.Disk.{DiskState, Call, Attach, Read, Write, Sync, Answer, Booted, Told, Done, Fault, IsUnder, Step, Succeeds, FailureLeaves, Crashes, Torn, put_at, written, synced, lost}
-use Rattle.disk.specs.Simulated.{fresh_disk}
+use Rattle.disk.specs.Disk.{DiskState, Crashes, put_at, written, synced}
 use Rattle.disk.specs.Steps.{HasShape}
-use Rattle.disk.proofs.CrashLemmas.{length-put, put-below, put-inside, put-above}
+use Rattle.disk.proofs.CrashLemmas.{put-below, put-inside, put-above}
 use Rattle.disk.proofs.StepLemmas.{shape_written}
-use Rattle.epochs.specs.Showing.{host_at, Standing, Before, Inside, After, ShowsEpoch, moved, masked, masked_in, Agrees, AreZeros, IsRight, IsOf, IsElsewhere, IsCleared}
-use Rattle.epochs.specs.Laws.{ShowsNext, OwnCallsAreSteps, OwnTearsAreTears, OthersLeaveIt, CrashesAreCrashes, LossesAreLosses, StandingsChangeNothing, FreshDisksShowNothing, NobodyShowsNothing}
+use Rattle.epochs.specs.Showing.{host_at, Standing, Before, Inside, After, ShowsEpoch, masked, IsRight}
 
 -- LISTS
 
 abbrev part : ℕ → ℕ → List ℕ → List ℕ
 part place n items = take n (drop place items)
 
-part_is : (place n : ℕ) (items : List ℕ) → slice_range items place (place + n) ≡ part place n items
+pub part_is : (place n : ℕ) (items : List ℕ) → slice_range items place (place + n) ≡ part place n items
 part_is place n items = let e : (place + n) - place ≡ n = omega arith in ap (λ (k : ℕ). take k (drop place items)) e
 
-length-part : (place n : ℕ) (items : List ℕ) → place + n ≤ length items → length (part place n items) ≡ n
+pub length-part : (place n : ℕ) (items : List ℕ) → place + n ≤ length items → length (part place n items) ≡ n
 length-part place n items fits = length-take-le n (drop place items) (omega (arith, length-drop place items))
 
 get_or-part : (place n : ℕ) (items : List ℕ) (k : ℕ) → k < n → get_or (part place n items) k 0 ≡ get_or items (place + k) 0

@@ -1,15 +1,14 @@
 -- What the numbers of hosts say, and what stays cleared.
-use Rattle.std.specs.Prelude.{◌⊎◌, ◌%◌, ◌-◌, ◌&&◌, nat_lt, if◌then◌else◌, slice_index_or, replicate}
-use Rattle.std.proofs.Common.{ℕ, zero, suc, ◌≡◌, ◌≢◌, ◌+◌, ◌≤◌, ◌<◌, ◌==◌, Bool, true, false, true≢false, cond, List, length, get_or, refl, sym, ◌∙◌, ap, subst, inl, inr, arith}
-use Rattle.std.proofs.lemmas.Bool.{cases_lt, cases_order, cases_eq, cases_Bool, eqb-true, eq-eqb, ne_eqb, lt-ltb, false_from_ne_true}
+use Rattle.std.specs.Prelude.{◌⊎◌, ◌%◌, nat_lt, if◌then◌else◌, replicate}
+use Rattle.std.proofs.Common.{ℕ, zero, suc, ◌≡◌, ◌≢◌, ◌+◌, ◌≤◌, ◌<◌, Bool, true, false, List, length, get_or, refl, sym, ◌∙◌, ap, subst, inl, inr, arith}
+use Rattle.std.proofs.lemmas.Bool.{cases_order, cases_eq, eq-eqb, ne_eqb, lt-ltb}
 use Rattle.std.proofs.lemmas.Bool.Decides.{nat_tests}
 use Rattle.std.proofs.lemmas.List.{get_or-replicate, length-replicate}
-use Rattle.disk.specs.Disk.{DiskState, Call, Attach, Read, Write, Sync, Answer, Step, Crashes, written, synced, lost, put_at}
+use Rattle.disk.specs.Disk.{DiskState, Call, Attach, Read, Write, Sync, Answer, Step, Crashes, written, synced, lost}
 use Rattle.disk.specs.Crash.{IsWhole}
-use Rattle.disk.specs.Steps.{HasShape}
-use Rattle.disk.proofs.CrashLemmas.{length-put, put-below, put-above}
-use Rattle.disk.proofs.StepLemmas.{Keeps, step_keeps, shape_written}
-use Rattle.epochs.specs.Showing.{host_at, Standing, Before, Inside, After, Restands, IsCleared}
+use Rattle.disk.proofs.CrashLemmas.{put-below, put-above}
+use Rattle.disk.proofs.StepLemmas.{step_keeps}
+use Rattle.epochs.specs.Showing.{host_at, Before, Inside, After, Restands, IsCleared}
 use Rattle.epochs.specs.Acts.{base_of, standing_by}
 
 -- STANDINGS

@@ -1,12 +1,11 @@
 -- Each thing that is done to a disk, as a step of the image that an area of it shows.
-use Rattle.std.specs.Prelude.{◌⊎◌, ◌-◌, ◌/◌, ◌%◌, if◌then◌else◌, map, replicate, slice_range, slice_index_or}
-use Rattle.std.proofs.Common.{ℕ, ◌≡◌, ◌+◌, ◌≤◌, ◌<◌, ◌==◌, Bool, true, false, true≢false, cond, List, length, get_or, refl, sym, ◌∙◌, ap, subst, inl, inr, arith}
-use Rattle.std.proofs.lemmas.Bool.{cases_lt, cases_Bool, eqb-true}
+use Rattle.std.specs.Prelude.{◌⊎◌, replicate}
+use Rattle.std.proofs.Common.{ℕ, ◌≡◌, ◌+◌, ◌≤◌, ◌<◌, Bool, false, List, length, get_or, refl, sym, ◌∙◌, ap, subst, inl, inr, arith}
 use Rattle.std.proofs.lemmas.List.{get_or-replicate, length-replicate}
 use Rattle.disk.specs.declared.fault.DiskFault.TheVariants.{Reset, Failed, Gone}
-use Rattle.disk.specs.Disk.{DiskState, Call, Attach, Read, Write, Sync, Answer, Booted, Told, Done, Fault, IsUnder, Step, Succeeds, FailureLeaves, Crashes, Torn, success_of, done_by, written, synced, lost}
+use Rattle.disk.specs.Disk.{DiskState, Call, Attach, Read, Write, Sync, Answer, Booted, Told, Done, Fault, IsUnder, Step, Succeeds, FailureLeaves, Crashes, Torn, written, synced}
 use Rattle.disk.specs.Simulated.{fresh_disk}
-use Rattle.epochs.specs.Showing.{host_at, Standing, Before, Inside, After, ShowsEpoch, moved, masked, masked_in, IsRight, IsOf, IsElsewhere, IsCleared, Restands}
+use Rattle.epochs.specs.Showing.{host_at, Standing, Before, Inside, After, ShowsEpoch, moved, masked_in, IsOf, IsElsewhere, Restands}
 use Rattle.epochs.specs.Laws.{ShowsNext, OwnCallsAreSteps, OwnTearsAreTears, OthersLeaveIt, CrashesAreCrashes, LossesAreLosses, StandingsChangeNothing, FreshDisksShowNothing, NobodyShowsNothing}
 use Rattle.epochs.proofs.Showing.{own_written, others_written, all_synced, synced_beside, image_left, image_crashes, shows_left, masked_is}
 

@@ -2,9 +2,8 @@
 use Rattle.std.specs.Prelude.{◌≡◌, ◌⊎◌, ◌+◌, ◌≤◌, ◌<◌, ◌%◌, ◌^◌, ◌==◌, ◌&&◌, ℕ, zero, suc, Bool, true, false, nat_lt, List, [], ◌∷◌, length, if◌then◌else◌}
 use Rattle.disk.specs.declared.fault.DiskFault.TheVariants.{Failed}
 use Rattle.disk.specs.Disk.{DiskState, Call, Attach, Read, Write, Sync, Answer, Done, Fault, Step, Crashes, lost}
-use Rattle.disk.specs.Crash.{IsWhole}
 use Rattle.disk.specs.Simulated.{fresh_disk}
-use Rattle.torn_block.specs.declared.layout.TheConstants.{ROW_LENGTH}
+use Rattle.torn_block.specs.declared.layout.TheConstants.{HOSTS, ROW_LENGTH}
 use Rattle.paxos_block.specs.Shape.{Shape}
 use Rattle.world.specs.Entry.{Filled, Called, Torn, Crashed, Lost}
 use Rattle.world.specs.World.{Tears}
@@ -74,7 +73,7 @@ sure_by call answer s = s.sure
 -- who is shown has the epoch's number, and who is not has a smaller one: so it is seen
 abbrev pub IsShown : Epoch → (ℕ → Bool) → Shared → Type 0
 IsShown e shown s =
-    (host : ℕ) → ((shown host ≡ true) × (s.seen e.area host ≡ e.number)) ⊎ ((shown host ≡ false) × (s.seen e.area host < e.number))
+    (host : ℕ) → host < HOSTS → ((shown host ≡ true) × (s.seen e.area host ≡ e.number)) ⊎ ((shown host ≡ false) × (s.seen e.area host < e.number))
 
 -- these bytes of the image are of hosts that are surely inside
 abbrev pub IsInside : ℕ → Epoch → (at len : ℕ) → Shared → Type 0
@@ -205,7 +204,7 @@ shown_by e first second host = (first host == e.number) && (second host == e.num
 
 -- No host has left by the second reading, and who is inside by then was inside in the first.
 abbrev pub AreClear : Epoch → (ℕ → ℕ) → (ℕ → ℕ) → Type 0
-AreClear e first second = (host : ℕ) → (second host ≤ e.number) × (second host ≡ e.number → first host ≡ e.number)
+AreClear e first second = (host : ℕ) → host < HOSTS → (second host ≤ e.number) × (second host ≡ e.number → first host ≡ e.number)
 
 -- The standings are read before a row and after it, and in between the disk does not crash. If the readings are clear, who has the epoch's number in both is to be shown.
 abbrev pub ReadingsShow : (DiskState → DiskState → Type 0) → Type 0

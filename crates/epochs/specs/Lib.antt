@@ -1,4 +1,6 @@
 pub mod Acts
+pub mod Beats
+pub mod Bytes
 pub mod Laws
 pub mod Numbers
 pub mod OneLog

@@ -7,6 +7,7 @@ use Rattle.disk.specs.Simulated.{fresh_disk}
 use Rattle.disk.specs.Steps.{WritesOn}
 use Rattle.torn_block.specs.Layout.{cluster_version}
 use Rattle.torn_block.specs.declared.write_steps.WriteCall.{WriteCall}
+use Rattle.torn_block.specs.declared.write_steps.WriteCall.TheVariants.{SyncOpened}
 use Rattle.torn_block.specs.Place.{block_in}
 use Rattle.torn_block.specs.Register.{LiesOn, LeavesBlock}
 use Rattle.torn_block.specs.Stage.{Write128, call_of, IsPlaced, IsDue}
@@ -57,3 +58,9 @@ WritesAreNext =
     (place : ℕ) (block body : List ℕ) (call : WriteCall) (boot : ℕ) (disk new : DiskState) (answer : Answer) → IsPlaced (write_over place block body) disk → IsPlaced (write_over place block body) new →
     IsDue call (write_over place block body) disk → IsTried answer → Step disk (call_of call (write_over place block body) boot) answer new →
     (seen : ℕ) × ((seen ≡ counter_of block) ⊎ (seen ≡ counter_of block + 1)) × IsNumber place new (counter_of block) seen true
+
+-- Once the sixth call succeeded it is the next one, whatever a crash leaves.
+abbrev pub WritesRaise : Type 0
+WritesRaise =
+    (place : ℕ) (block body : List ℕ) (boot : ℕ) (disk new : DiskState) → IsPlaced (write_over place block body) disk → IsPlaced (write_over place block body) new → IsDue SyncOpened (write_over place block body) disk →
+    Step disk (call_of SyncOpened (write_over place block body) boot) Done new → (bytes : List ℕ) → MayLeave new bytes → number_at place bytes ≡ counter_of block + 1

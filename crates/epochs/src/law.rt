@@ -1,8 +1,10 @@
 // Areas of disks that are used again for each epoch: what an area shows, the numbers of hosts, and what hosts of all epochs do.
 ghost use Rattle.at_once.specs.Power.{LosesPower};
 ghost use Rattle.epochs.specs.Acts.{AreasServe, AreasServeOn, IsModelCrash, ReadingsShow};
+ghost use Rattle.epochs.specs.Beats.{BeatsServe, BeatsServeOn};
+ghost use Rattle.epochs.specs.Bytes.{CallsServe, CallsServeOn, ReadBytesShow};
 ghost use Rattle.epochs.specs.Laws.{OwnCallsAreSteps, OwnTearsAreTears, OthersLeaveIt, CrashesAreCrashes, LossesAreLosses, StandingsChangeNothing, FreshDisksShowNothing, NobodyShowsNothing};
-ghost use Rattle.epochs.specs.Numbers.{ZerosAreNone, OthersLeaveNumbers, SyncsMakeSure, CrashesLeaveOne, WritesAreNext};
+ghost use Rattle.epochs.specs.Numbers.{ZerosAreNone, OthersLeaveNumbers, SyncsMakeSure, CrashesLeaveOne, WritesAreNext, WritesRaise};
 ghost use Rattle.epochs.specs.OneLog.{EpochsAreAtOnce, EpochsAreOverLosses, EpochsAreRuns};
 
 /// For each epoch an area of a disk shows an image. What hosts of the epoch do is done to that image; what is done for other epochs
@@ -26,6 +28,7 @@ pub fn numbers_are_bytes()
     ensures syncs { SyncsMakeSure }
     ensures crashes { CrashesLeaveOne }
     ensures writes { WritesAreNext }
+    ensures raises { WritesRaise }
 {}
 
 /// Hosts of all epochs make their calls on a disk in any order; some come to an epoch, others have left it, and others died in
@@ -37,6 +40,25 @@ pub fn areas_serve()
     // To whom a row may be shown so follows from a reading of the standings before it and one behind it.
     ensures readings { ReadingsShow IsModelCrash }
     ensures readings_on { ReadingsShow LosesPower }
+{}
+
+/// The same of what the bytes of a disk alone tell: a number turns only as one of the six calls of a beat makes it turn, it is sure where a
+/// crash cannot change it, and nobody has to say so.
+pub fn calls_serve()
+    ensures serves { CallsServe }
+    // So it is with a file, over losses of power.
+    ensures power { CallsServeOn }
+    // To whom a row may be shown follows from what two readings of the standings give.
+    ensures readings { ReadBytesShow IsModelCrash }
+    ensures readings_on { ReadBytesShow LosesPower }
+{}
+
+/// The same of hosts whose calls in rows of standings are those that their beats have due, each by what its host heard alone: an attach, a
+/// sync, a read of the row, and six calls that write the host's block.
+pub fn beats_serve()
+    ensures serves { BeatsServe }
+    // So it is with a file, over losses of power.
+    ensures power { BeatsServeOn }
 {}
 
 /// So what is done in an epoch is a run of the world that begins on zeros, and has one log.

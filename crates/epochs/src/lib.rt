@@ -3,4 +3,6 @@
 
 mod law;
 
-pub use law::{areas_serve, areas_show_images, epochs_are_runs, numbers_are_bytes};
+pub use law::{
+    areas_serve, areas_show_images, beats_serve, calls_serve, epochs_are_runs, numbers_are_bytes,
+};
