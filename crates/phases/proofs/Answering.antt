@@ -25,13 +25,11 @@ use Rattle.phases.specs.declared.phase.Stage.TheVariants as stage
 use Rattle.attempt.specs.declared.heard.Heard.TheVariants as answer
 use Rattle.phases.specs.declared.visit.Visit.{Visit}
 use Rattle.phases.specs.Calls.{phase_in}
-use Rattle.torn_block.specs.Layout.{Version}
 use Rattle.phases.specs.Notes.{Notes, no_visit, visit_at}
 use Rattle.attempt.specs.WriteCalls.{made}
 use Rattle.phases.specs.Steps.{answered, Suits, FitsStage, write_then, stage_then}
 use Rattle.phases.specs.Kept.{Remembers, KeepsRows, IsVisiting, IsWriting, Writes, Stands, Follows}
 use Rattle.phases.specs.Moves.{IsInOrder, IsPassed, ArePassed, Takes}
-use Rattle.attempt.specs.ReadRows.{ReadsGist}
 use Rattle.phases.proofs.Visiting.{no_answers}
 use Rattle.phases.proofs.Hearing.{IsDue, Stays, Ending, Dropped, Read, left_now, same_not_outrun, same_rows_kept, follows, opened_stays, remembers_more, due_there, remembers_now, boot_stays, stays_there, passes}
 

@@ -4,6 +4,7 @@ use Rattle.torn_block.specs.declared.write_steps.WriteCall.{WriteCall}
 use Rattle.torn_block.specs.Plan.{Plan, next_after}
 use Rattle.torn_block.specs.Layout.{Version, copy_length}
 use Rattle.attempt.specs.Calls.{Phase, start, goal}
+use Rattle.attempt.specs.WriteCalls.{made}
 use Rattle.attempt.specs.declared.heard.Heard as code_heard
 use Rattle.attempt.specs.declared.heard.Heard.TheVariants as answer
 use Rattle.phases.specs.declared.phase.Phase as code_phase

@@ -1,10 +1,11 @@
 -- How many orders an operation may still give, once it is to end soon.
-use Rattle.std.specs.Prelude.{◌≡◌, ◌+◌, ◌<◌, ◌⊎◌, ℕ, Bool, true, false, is_some}
+use Rattle.std.specs.Prelude.{◌≡◌, ◌+◌, ◌<◌, ◌≤◌, ◌⊎◌, ℕ, Bool, true, false, is_some, length}
 use Rattle.session.specs.declared.claim.Claim.{Claim}
 use Rattle.session.specs.declared.claim.Standing.{Standing}
 use Rattle.session.specs.declared.claim.Standing.TheVariants.{Leaving}
 use Rattle.session.specs.declared.claim.Step.{Step}
 use Rattle.session.specs.declared.claim.Step.TheVariants.{Opening, OpeningToLook, Learning, Looking, Tidying, Submitting, Dropping, Resting, Yielding, Ended}
+use Rattle.session.specs.declared.learned.Learned.{Learned}
 
 abbrev pub is_leaving : Standing → Bool
 is_leaving Leaving = true
@@ -35,6 +36,10 @@ IsOpening step = (step ≡ Opening) ⊎ (step ≡ OpeningToLook)
 -- nothing is done for a time
 abbrev pub IsPause : Step → Type 0
 IsPause step = ((milliseconds : ℕ) × (step ≡ Resting milliseconds)) ⊎ (step ≡ Yielding)
+
+-- A wait may pause: no process that is gone holds the name, or the log is full, so that nothing can be done about it.
+abbrev pub MayPause : Learned → Type 0
+MayPause l = (l.left_over ≡ false) ⊎ (l.slots ≤ length l.log.now)
 
 -- what it leads to depends on a log that is read
 abbrev pub IsReading : Step → Type 0

@@ -1,6 +1,6 @@
 ghost use Rattle.std.specs.Prelude.{◌≡◌, ◌+◌, ◌≢◌, ◌≤◌, ◌^◌, ◌⊎◌, ◌↔◌, IfSome, IsTrue, None, Some, is_some, false, true};
 ghost use Rattle.lock_table.specs.declared.known_client.KnownClient.{KnownClient};
-ghost use Rattle.session.specs.Bounds.{ComesNearer, IsOpening, is_leaving, orders_left};
+ghost use Rattle.session.specs.Bounds.{ComesNearer, IsOpening, IsPause, MayPause, is_leaving, orders_left};
 ghost use Rattle.session.specs.Choosing.{IsFree};
 ghost use Rattle.session.specs.Moves.{Asks, AsksOn, BreaksOff, GoesOn, KeepsGoal, KeepsValue, MovesOn, TellsSlot};
 ghost use Rattle.session.specs.Evidence.{Knows};
@@ -22,6 +22,7 @@ impl Claim {
     pub(crate) fn ask(&mut self, learned: &Learned<'_>)
         requires unasked { self.old.standing ≡ Standing.Unasked }
         ensures unheard { IsUnheard self.new }
+        ensures no_pause { IsPause self.new.step → ⊥ }
         ensures moves { AsksOn learned.now self.old self.new }
         ensures goal { KeepsGoal self.old self.new }
         ensures value { KeepsValue self.old self.new }
@@ -92,6 +93,7 @@ impl Claim {
         ensures unheard { IsUnheard self.new }
         ensures free { (choice : Choice) → self.new.step ≡ Step.Signing choice → IsFree learned.now self.old.host self.old.shares self.old.request choice }
         ensures last { (choice : Choice) → self.new.step ≡ Step.Signing choice → self.new.request ≡ choice.request }
+        ensures no_pause { IsPause self.new.step → ⊥ }
         ensures moves { AsksOn learned.now self.old self.new }
         ensures goal { KeepsGoal self.old self.new }
         ensures value { KeepsValue self.old self.new }
@@ -251,6 +253,7 @@ impl Claim {
         ensures follows { learned.now.set ≢ self.old.newest → IsUnheard self.new }
         ensures nearer { ComesNearer self.old self.new }
         ensures slot { self.new.slot ≡ self.old.slot ⊎ IfSome self.new.slot (IsSlotOf learned.now self.old) }
+        ensures pauses { IsPause self.new.step → MayPause learned.now }
         ensures moves { MovesOn learned.now self.old self.new ⊎ TellsSlot self.old self.new }
         ensures goal { KeepsGoal self.old self.new }
         ensures value { KeepsValue self.old self.new }
@@ -274,6 +277,7 @@ impl Claim {
         ensures borne_out { IsBorneOut learned.now self.new }
         ensures soon { is_some self.old.over ≡ true → orders_left self.new ≤ 12 }
         ensures slot { self.new.slot ≡ self.old.slot ⊎ IfSome self.new.slot (AsksAt learned.now self.old command.now) }
+        ensures pauses { IsPause self.new.step → MayPause learned.now }
         ensures moves { MovesOn learned.now self.old self.new ⊎ TellsSlot self.old self.new }
         ensures goal { KeepsGoal self.old self.new }
         ensures value { KeepsValue self.old self.new }
@@ -306,6 +310,7 @@ impl Claim {
         requires newest { learned.now.set ≡ self.old.newest }
         ensures borne_out { IsBorneOut learned.now self.new }
         ensures soon { is_some self.old.over ≡ true → orders_left self.new ≤ 12 }
+        ensures no_pause { IsPause self.new.step → ⊥ }
         ensures moves { MovesOn learned.now self.old self.new }
         ensures goal { KeepsGoal self.old self.new }
         ensures value { KeepsValue self.old self.new }

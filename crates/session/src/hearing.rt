@@ -1,5 +1,5 @@
 ghost use Rattle.std.specs.Prelude.{◌≡◌, ◌+◌, ◌≢◌, ◌≤◌, ◌⊎◌, ◌↔◌, ℕ, IsTrue, None, Some, is_some, true};
-ghost use Rattle.session.specs.Bounds.{ComesNearer, IsOpening, IsReading, is_leaving, orders_left};
+ghost use Rattle.session.specs.Bounds.{ComesNearer, IsOpening, IsPause, IsReading, MayPause, is_leaving, orders_left};
 ghost use Rattle.session.specs.Keeping.{IsOnSame, Keeps, KeepsRelease, KeepsReleaseUntilOut};
 ghost use Rattle.session.specs.Moves.{AsksOn, BreaksOff, Chooses, GoesOn, KeepsGoal, KeepsValue, MovesOn};
 ghost use Rattle.session.specs.Outcomes.{IsBorneOut, IsGivenUp, IsOut, IsUnheard, TellsWhy, then_of};
@@ -84,6 +84,7 @@ impl Claim {
         ensures borne_out { IsBorneOut learned.now self.new }
         ensures follows { learned.now.set ≢ self.old.newest → IsUnheard self.new }
         ensures nearer { ComesNearer self.old self.new }
+        ensures pauses { IsPause self.new.step → MayPause learned.now }
         ensures moves { MovesOn learned.now self.old self.new ⊎ Chooses learned.now self.old self.new }
         ensures goal { KeepsGoal self.old self.new }
         ensures value { KeepsValue self.old self.new }
@@ -102,6 +103,7 @@ impl Claim {
         ensures borne_out { IsBorneOut learned.now self.new }
         ensures follows { learned.now.set ≢ self.old.newest → IsUnheard self.new }
         ensures nearer { ComesNearer self.old self.new }
+        ensures pauses { IsPause self.new.step → MayPause learned.now }
         ensures moves { MovesOn learned.now self.old self.new ⊎ Chooses learned.now self.old self.new }
         ensures goal { KeepsGoal self.old self.new }
         ensures value { KeepsValue self.old self.new }
@@ -127,6 +129,7 @@ impl Claim {
         ensures unheard { IsUnheard self.new }
         ensures soon { is_some self.old.over ≡ true → orders_left self.new ≤ 12 }
         ensures leaves { is_some self.old.over ≡ true → is_leaving self.old.standing ≡ true → orders_left self.new ≡ 0 }
+        ensures no_pause { IsPause self.new.step → ⊥ }
         ensures moves { GoesOn self.old self.new }
         ensures goal { KeepsGoal self.old self.new }
         ensures value { KeepsValue self.old self.new }
@@ -144,6 +147,7 @@ impl Claim {
         requires unasked { self.old.standing ≡ Standing.Unasked }
         ensures unheard { IsUnheard self.new }
         ensures soon { is_some self.old.over ≡ true → orders_left self.new ≡ 0 }
+        ensures no_pause { IsPause self.new.step → ⊥ }
         ensures moves { AsksOn learned.now self.old self.new }
         ensures goal { KeepsGoal self.old self.new }
         ensures value { KeepsValue self.old self.new }
@@ -166,6 +170,7 @@ impl Claim {
         requires newest { learned.now.set ≡ self.old.newest }
         ensures borne_out { IsBorneOut learned.now self.new }
         ensures soon { is_some self.old.over ≡ true → orders_left self.new ≤ 12 }
+        ensures pauses { IsPause self.new.step → MayPause learned.now }
         ensures moves { GoesOn self.old self.new }
         ensures goal { KeepsGoal self.old self.new }
         ensures value { KeepsValue self.old self.new }
@@ -229,6 +234,7 @@ impl Claim {
     pub(crate) fn wait(&mut self, learned: &Learned<'_>)
         ensures unheard { IsUnheard self.new }
         ensures soon { is_some self.old.over ≡ true → orders_left self.new ≤ 12 }
+        ensures pauses { IsPause self.new.step → MayPause learned.now }
         ensures moves { GoesOn self.old self.new }
         ensures goal { KeepsGoal self.old self.new }
         ensures value { KeepsValue self.old self.new }
@@ -258,6 +264,7 @@ impl Claim {
     /// Pauses before the next look, or learns all where a look may not see all.
     fn rest(&mut self, learned: &Learned<'_>)
         ensures unheard { IsUnheard self.new }
+        ensures pauses { IsPause self.new.step → MayPause learned.now }
         ensures moves { GoesOn self.old self.new }
         ensures goal { KeepsGoal self.old self.new }
         ensures value { KeepsValue self.old self.new }

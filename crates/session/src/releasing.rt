@@ -1,9 +1,9 @@
-ghost use Rattle.std.specs.Prelude.{◌≡◌, ◌+◌, ◌≤◌, ◌⊎◌, ℕ, IfSome, IsTrue, Some, false, true};
-ghost use Rattle.session.specs.Bounds.{is_leaving, orders_left};
+ghost use Rattle.std.specs.Prelude.{◌≡◌, ◌+◌, ◌≤◌, ◌⊎◌, IfSome, IsTrue, Some, false, true};
+ghost use Rattle.session.specs.Bounds.{IsPause, is_leaving, orders_left};
 ghost use Rattle.session.specs.Choosing.{IsNext};
 ghost use Rattle.session.specs.Keeping.{Keeps, KeepsRelease, KeepsReleaseUntilOut};
 ghost use Rattle.session.specs.Moves.{Forgets, GoesOn, IsSpent, KeepsGoal, KeepsValue, MovesOn, ReleasesAnew, passed, slot_in};
-ghost use Rattle.session.specs.Outcomes.{GivesBack, IsBorneOut, IsGone, IsOut, IsUnheard, IsWithout, IsWithoutOrGiven};
+ghost use Rattle.session.specs.Outcomes.{GivesBack, IsBorneOut, IsGone, IsUnheard, IsWithout, IsWithoutOrGiven};
 
 use crate::claim::{Claim, Goal, Standing, Step, Then};
 use crate::evidence::{Seen, find, first_of, is_spared, releases};
@@ -20,6 +20,7 @@ impl Claim {
         requires leaving { self.old.standing ≡ Standing.Leaving }
         ensures borne_out { IsBorneOut learned.now self.new }
         ensures soon { orders_left self.new ≤ 2 + self.old.tries }
+        ensures no_pause { IsPause self.new.step → ⊥ }
         ensures moves { MovesOn learned.now self.old self.new }
         ensures goal { KeepsGoal self.old self.new }
         ensures value { KeepsValue self.old self.new }
@@ -48,6 +49,7 @@ impl Claim {
         requires leaving { self.old.standing ≡ Standing.Leaving }
         ensures unheard { IsUnheard self.new }
         ensures soon { orders_left self.new ≤ 2 + self.old.tries }
+        ensures no_pause { IsPause self.new.step → ⊥ }
         ensures moves { Forgets learned.now self.old self.new ⊎ ReleasesAnew learned.now self.old self.new }
         ensures goal { KeepsGoal self.old self.new }
         ensures value { KeepsValue self.old self.new }
@@ -86,6 +88,7 @@ impl Claim {
         ensures unheard { IsUnheard self.new }
         ensures soon { orders_left self.new ≡ 2 + self.old.tries }
         ensures keeps { Keeps self.old self.new }
+        ensures no_pause { IsPause self.new.step → ⊥ }
         ensures rest { self.new ≡ record self.old { release = Some request; standing = Standing.Leaving; step = self.new.step } }
     {
         self.release = Some(request);
@@ -107,6 +110,7 @@ impl Claim {
         requires leaving { self.old.standing ≡ Standing.Leaving }
         ensures borne_out { IsBorneOut learned.now self.new }
         ensures soon { orders_left self.new ≤ 1 + self.old.tries }
+        ensures no_pause { IsPause self.new.step → ⊥ }
         ensures moves { MovesOn learned.now self.old self.new }
         ensures goal { KeepsGoal self.old self.new }
         ensures value { KeepsValue self.old self.new }
