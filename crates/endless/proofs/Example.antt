@@ -231,11 +231,6 @@ in_turn : (i e h : ℕ) (memory : Memory) → RunsIn one_disk two_epochs i (suc 
 in_turn i zero h memory running = first_whole i (second_behind i h memory running)
 in_turn i (suc e) h memory running = absurd (none_runs (suc (suc e)) i h memory (omega arith) running)
 
-none : (i e h : ℕ) (memory : Memory) → RunsIn one_disk two_epochs i e h memory → e ≤ 1
-none i zero h memory running = omega arith
-none i (suc zero) h memory running = omega arith
-none i (suc (suc e)) h memory running = absurd (none_runs (suc (suc e)) i h memory (omega arith) running)
-
 -- WHAT CARRIES TABLES OVER
 
 -- whoever has learned both commands of an epoch carries over what they left
@@ -356,15 +351,9 @@ carries zero over is = subst (λ (l : List Filled). SubmitsWhatIsDue one_disk l 
 carries (suc zero) over is = subst (λ (l : List Filled). SubmitsWhatIsDue one_disk l over) (sym second_is) (subst (SubmitsWhatIsDue one_disk second_epoch) (sym (over_one over is)) due_second)
 carries (suc (suc e)) over is = subst (λ (l : List Filled). SubmitsWhatIsDue one_disk l over) (sym (none_is (suc (suc e)) (omega arith))) (due_none over)
 
-pub keeps : KeepsToEpochs one_disk two_epochs 1
+pub keeps : KeepsToEpochs one_disk two_epochs
 keeps =
     record {
-      place = λ e. 37;
-      host = λ e. 0;
-      whole = λ e less.
-          let zero_is : 0 ≡ e = omega (arith, less) in
-          subst (λ (d : ℕ). length (learned_in one_disk two_epochs 37 d 0) ≡ 2) zero_is (ap (λ (l : List Command). length l) (learned_there 37 0 (omega arith) ∙ learned_first));
-      none = none;
       in_turn = in_turn;
       carries = carries;
       fits = fits;

@@ -21,6 +21,7 @@ use Rattle.world_safety.proofs.Runs.Commands.{one_command, map_item, map_there}
 use Rattle.endless.specs.Epochs.{IsAsAfter}
 use Rattle.endless.specs.Headline.{IsIn, learned_in, SaysIn, IsAcknowledgedIn, IsAcknowledgedEarlier, IsRecoveryIn, IsDue, KeepsToEpochs, Stretch, place_of, log_of, GoesByLog, ComesFrom, StandsIn, HasOneLogWithoutEnd, EndlessHeadline}
 use Rattle.endless.specs.Lived.{Lived, part, now, RunsIn, IsLived}
+use Rattle.endless.proofs.Last.{IsLast, last_epoch}
 use Rattle.endless.proofs.Lists.{prefix_short, prefix_trans, prefix_get, item_below}
 use Rattle.endless.proofs.Lived.{recoveries_are_of_the_last}
 use Rattle.endless.proofs.Logs.{Logs, IsOwn, logs_of}
@@ -32,7 +33,7 @@ runs_who_says : (host : Host) (said : HostAnswer) → said_of host ≡ Some said
 runs_who_says Stopped said is = absurd (cc)
 runs_who_says (Running m) said is = (m, refl)
 
-module _ (c : Shape) (lived : List Lived) (last : ℕ) (run : (e : ℕ) → IsRun c (part e lived)) (fresh : (e : ℕ) → migrated (part e lived) ≡ []) (keeps : KeepsToEpochs c lived last) (l : Logs c lived last) where
+module _ (c : Shape) (lived : List Lived) (last : ℕ) (run : (e : ℕ) → IsRun c (part e lived)) (fresh : (e : ℕ) → migrated (part e lived) ≡ []) (keeps : KeepsToEpochs c lived) (is_last : IsLast c lived run keeps.in_turn last) (l : Logs c lived last) where
   abbrev stretch : ℕ → Stretch
   stretch e = record { over = l.over e; behind = l.behind e }
 
@@ -42,7 +43,7 @@ module _ (c : Shape) (lived : List Lived) (last : ℕ) (run : (e : ℕ) → IsRu
   reached_at : (e i h : ℕ) (memory : Memory) → i ≤ length (part e lived) → (at c (part e lived) i).host h ≡ Running memory → e ≤ last
   reached_at e i h memory within running =
       let k = place_for e lived i within in
-      keeps.none k.0 e h memory (ap (λ (n : ℕ). (at c (part e lived) n).host h) k.1 ∙ running)
+      is_last.none k.0 e h memory (ap (λ (n : ℕ). (at c (part e lived) n).host h) k.1 ∙ running)
 
   reached_chosen : (e slot : ℕ) (value : List ℕ) → IsChosen c (part e lived) slot value → e ≤ last
   reached_chosen e slot value (inl is) =
@@ -122,7 +123,7 @@ module _ (c : Shape) (lived : List Lived) (last : ℕ) (run : (e : ℕ) → IsRu
 
   module _ (i e h slot : ℕ) (command : Command) (reply : Reply) (acked : IsAcknowledgedIn c lived i e h slot command reply) (client : is_submittable command ≡ true) where
     reached_acked : e ≤ last
-    reached_acked = keeps.none i e h acked.is.memory acked.is.running
+    reached_acked = is_last.none i e h acked.is.memory acked.is.running
 
     in_log : slice_get (l.logs e) slot ≡ Some command
     in_log = (l.safe e).acknowledged (now e i lived) h slot command reply acked.is
@@ -157,7 +158,7 @@ module _ (c : Shape) (lived : List Lived) (last : ℕ) (run : (e : ℕ) → IsRu
     reached_said : e ≤ last
     reached_said =
         let who = runs_who_says ((at c (part e lived) (now e i lived + 1)).host h) said says.is.says in
-        keeps.none (suc i) e h who.0 (ap (λ (p : ℕ). (at c (part e lived) p).host h) same_place ∙ who.1)
+        is_last.none (suc i) e h who.0 (ap (λ (p : ℕ). (at c (part e lived) p).host h) same_place ∙ who.1)
 
     counted : (n : ℕ) → (n ≤ length (l.logs e)) × (prefix_at c (part e lived) (now e i lived + 1) h ≡ take n (l.logs e)) → (length (learned_in c lived (suc i) e h) ≡ n) × GoesByLog l.all (stretch e) (learned_in c lived (suc i) e h)
     counted n is = (
@@ -220,11 +221,13 @@ module _ (c : Shape) (lived : List Lived) (last : ℕ) (run : (e : ℕ) → IsRu
               ]
         ]
 
-  has_one_log : HasOneLogWithoutEnd c lived last
+  has_one_log : HasOneLogWithoutEnd c lived
   has_one_log =
       record {
         commands = l.all;
         stretch = stretch;
+        last = last;
+        none = is_last.none;
         first = ap₂ (λ (o : List Command) (n : ℕ). record { over = o; behind = n }) l.first_over l.first_behind;
         over = λ e below. l.into (suc e) (omega (arith, below));
         next = λ e below. l.next_behind e;
@@ -241,4 +244,6 @@ module _ (c : Shape) (lived : List Lived) (last : ℕ) (run : (e : ℕ) → IsRu
       }
 
 pub endless_headline : EndlessHeadline
-endless_headline c lived last run fresh keeps = has_one_log c lived last run fresh keeps (logs_of c lived last run fresh keeps)
+endless_headline c lived run fresh keeps =
+    let found = last_epoch c lived run keeps.in_turn in
+    has_one_log c lived found.0 run fresh keeps found.1 (logs_of c lived found.0 run fresh keeps found.1)

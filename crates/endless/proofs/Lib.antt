@@ -2,6 +2,7 @@ pub mod Example
 pub mod First
 pub mod Going
 pub mod Headline
+pub mod Last
 pub mod Lists
 pub mod Lived
 pub mod Logs

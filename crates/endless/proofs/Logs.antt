@@ -14,6 +14,7 @@ use Rattle.lock_table.specs.Apply.{table_after}
 use Rattle.lock_table.specs.Carrying.{carried_lock, carried_client, carried_locks, carried_over}
 use Rattle.lock_table.specs.Picture.{Shown, IsPictureOf, pictured}
 use Rattle.paxos_block.specs.Shape.{Shape}
+use Rattle.host.specs.Host.{Host, learned_of}
 use Rattle.world.specs.World.{IsRun, ReadsBack}
 use Rattle.world.specs.Chosen.{migrated, IsChosen}
 use Rattle.world.specs.Headline.{IsPrefix, IsSafe}
@@ -21,9 +22,10 @@ use Rattle.world_safety.proofs.Claims.Safety.{commands as chosen_commands, spell
 use Rattle.world_safety.proofs.Runs.Commands.{begins_by, map_there}
 use Rattle.endless.specs.Epochs.{CarriesFirst, IsChain, all_later, all_before, carried_by, IsAsAfter}
 use Rattle.endless.specs.Headline.{learned_in, CarriesInto, IsDue, SubmitsWhatIsDue, KeepsToEpochs}
-use Rattle.endless.specs.Lived.{Lived, part, now}
+use Rattle.endless.specs.Lived.{Lived, part, now, IsWholeBy}
 use Rattle.endless.proofs.First.{begins, chosen_first}
 use Rattle.endless.proofs.Going.{has_picture, one_more, same_list, tables_go_on}
+use Rattle.endless.proofs.Last.{IsLast}
 use Rattle.endless.proofs.Lists.{prefix_more, prefix_own, prefix_get, get_at, get_before, get_from, item_below}
 use Rattle.endless.proofs.Puts.{chosen_fits}
 
@@ -74,7 +76,7 @@ pub record Logs (c : Shape) (lived : List Lived) (last : ℕ) : Type 0 where
   pub whose : (n : ℕ) (command : Command) → slice_get all n ≡ Some command → IsOwn last logs over behind n command
   pub after : (e m : ℕ) → e ≤ last → length (over e) ≤ m → m ≤ length (logs e) → IsAsAfter (take m (logs e)) (take (behind e + (m - length (over e))) all)
 
-module _ (c : Shape) (lived : List Lived) (last : ℕ) (run : (e : ℕ) → IsRun c (part e lived)) (fresh : (e : ℕ) → migrated (part e lived) ≡ []) (keeps : KeepsToEpochs c lived last) where
+module _ (c : Shape) (lived : List Lived) (last : ℕ) (run : (e : ℕ) → IsRun c (part e lived)) (fresh : (e : ℕ) → migrated (part e lived) ≡ []) (keeps : KeepsToEpochs c lived) (is_last : IsLast c lived run keeps.in_turn last) where
   -- THE LOG OF AN EPOCH
 
   abbrev logs : ℕ → List Command
@@ -98,18 +100,26 @@ module _ (c : Shape) (lived : List Lived) (last : ℕ) (run : (e : ℕ) → IsRu
         absurd (omega (arith, within)))
   ]
 
-  abbrev full : ℕ → List Command
-  full e = learned_in c lived (keeps.place e) e (keeps.host e)
+  -- somebody has learned each epoch but the last whole
+  module _ (e : ℕ) (less : e < last) where
+    whole : IsWholeBy c lived e (is_last.whole e less).0
+    whole = (is_last.whole e less).1
 
-  -- whoever has learned an epoch whole has learned its log
-  full_is : (e : ℕ) → e < last → full e ≡ logs e
-  full_is e less =
-      let many : length (full e) ≡ c.slots = keeps.whole e less in
-      let few = bounded e in
-      (safe e).prefix (now e (keeps.place e) lived) (keeps.host e) ∙ take_all (length (full e)) (logs e) (omega (arith, many, few))
+    abbrev full : List Command
+    full = learned_in c lived whole.place e whole.host
 
-  log_full : (e : ℕ) → e < last → length (logs e) ≡ c.slots
-  log_full e less = ap (λ (l : List Command). length l) (sym (full_is e less)) ∙ keeps.whole e less
+    full_many : length full ≡ c.slots
+    full_many = ap (λ (h : Host). length (learned_of h)) whole.runs ∙ whole.whole
+
+    -- so it has learned its log
+    full_is : full ≡ logs e
+    full_is =
+        let many = full_many in
+        let few = bounded e in
+        (safe e).prefix (now e whole.place lived) whole.host ∙ take_all (length (learned_in c lived whole.place e whole.host)) (logs e) (omega (arith, many, few))
+
+    log_full : length (logs e) ≡ c.slots
+    log_full = ap (λ (l : List Command). length l) (sym full_is) ∙ full_many
 
   -- WHAT CARRIES TABLES OVER
 
@@ -123,7 +133,7 @@ module _ (c : Shape) (lived : List Lived) (last : ℕ) (run : (e : ℕ) → IsRu
   into zero reached = refl
   into (suc e) reached =
       let less : e < last = omega (arith, reached) in
-      (keeps.place e, keeps.host e, shown e, keeps.whole e less, subst (λ (l : List Command). IsPictureOf (shown e) (table_after l)) (sym (full_is e less)) (has_picture (logs e)), refl)
+      ((whole e less).place, (whole e less).host, shown e, full_many e less, subst (λ (l : List Command). IsPictureOf (shown e) (table_after l)) (sym (full_is e less)) (has_picture (logs e)), refl)
 
   fits : (e : ℕ) → e ≤ last → length (over e) ≤ c.slots
   fits e reached = keeps.fits e (over e) (into e reached)

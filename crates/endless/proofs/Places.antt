@@ -53,3 +53,15 @@ place_for e (In epoch entry ∷ lived) (suc i) fits = either (epoch == e) refl f
     either false is long =
         let rest = place_for e lived (suc i) long in
         (suc rest.0, ap (λ (b : Bool). cond b (suc (now e rest.0 lived)) (now e rest.0 lived)) is ∙ rest.1)
+
+-- no more is done of an epoch than there is
+pub now_within : (e i : ℕ) (lived : List Lived) → now e i lived ≤ length (part e lived)
+now_within e zero lived = omega arith
+now_within e (suc i) [] = omega arith
+now_within e (suc i) (Crash disk left ∷ lived) = let rest = now_within e i lived in omega (arith, rest)
+now_within e (suc i) (Loss disk ∷ lived) = let rest = now_within e i lived in omega (arith, rest)
+now_within e (suc i) (In epoch entry ∷ lived) = either (epoch == e) (now_within e i lived)
+  where
+    either : (b : Bool) → now e i lived ≤ length (part e lived) → cond b (suc (now e i lived)) (now e i lived) ≤ length (cond b (entry ∷ part e lived) (part e lived))
+    either true rest = omega (arith, rest)
+    either false rest = rest

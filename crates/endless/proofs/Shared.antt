@@ -120,8 +120,8 @@ places_same e (suc i) (In epoch entry ∷ lived) runs =
 
 -- WHAT HOSTS KEEP TO
 
-module _ (c : Shape) (lived filled : List Lived) (last : ℕ) (same : (e : ℕ) → map bare (part e filled) ≡ map bare (part e lived)) (places : (e i : ℕ) → now e i filled ≡ now e i lived)
-    (hosts : (e i h : ℕ) → (at c (part e filled) i).host h ≡ host_by c (part e lived) i h) (keeps : KeepsToEpochs c lived last) where
+module _ (c : Shape) (lived filled : List Lived) (same : (e : ℕ) → map bare (part e filled) ≡ map bare (part e lived)) (places : (e i : ℕ) → now e i filled ≡ now e i lived)
+    (hosts : (e i h : ℕ) → (at c (part e filled) i).host h ≡ host_by c (part e lived) i h) (keeps : KeepsToEpochs c lived) where
   same_host : (i e h : ℕ) → (at c (part e filled) (now e i filled)).host h ≡ (at c (part e lived) (now e i lived)).host h
   same_host i e h = hosts e (now e i filled) h ∙ ap (λ (n : ℕ). host_by c (part e lived) n h) (places e i)
 
@@ -137,20 +137,16 @@ module _ (c : Shape) (lived filled : List Lived) (last : ℕ) (same : (e : ℕ) 
   whole_too : (e i : ℕ) → IsWholeBy c lived e i → IsWholeBy c filled e i
   whole_too e i is = record { place = is.place; by = is.by; host = is.host; memory = is.memory; runs = same_host is.place e is.host ∙ is.runs; whole = is.whole }
 
-  keeps_too : KeepsToEpochs c filled last
+  keeps_too : KeepsToEpochs c filled
   keeps_too =
       record {
-        place = keeps.place;
-        host = keeps.host;
-        whole = λ e less. ap (λ (l : List Command). length l) (same_learned (keeps.place e) e (keeps.host e)) ∙ keeps.whole e less;
-        none = λ i e h memory runs. keeps.none i e h memory (sym (same_host i e h) ∙ runs);
         in_turn = λ i e h memory runs. whole_too e i (keeps.in_turn i e h memory (sym (same_host i (suc e) h) ∙ runs));
         carries = λ e over into i h memory doing command called running does submits.
             keeps.carries e over (carries_back e over into) i h memory doing command (same_call (part e filled) (part e lived) (same e) i h called) (sym (hosts e i h) ∙ running) does submits;
         fits = λ e over into. keeps.fits e over (carries_back e over into);
       }
 
-module _ (c : Shape) (size : ℕ) (acts : ℕ → List Act) (lived : List Lived) (last : ℕ) (shared : IsShared c size acts (λ e. part e lived)) (keeps : KeepsToEpochs c lived last) where
+module _ (c : Shape) (size : ℕ) (acts : ℕ → List Act) (lived : List Lived) (shared : IsShared c size acts (λ e. part e lived)) (keeps : KeepsToEpochs c lived) where
   of : (e : ℕ) → IsRunOf c (part e lived)
   of e = epochs_are_runs c size acts (λ d. part d lived) shared e
 
@@ -175,7 +171,7 @@ module _ (c : Shape) (size : ℕ) (acts : ℕ → List Act) (lived : List Lived)
   fresh : (e : ℕ) → migrated (part e filled) ≡ []
   fresh e = none_migrated (part e filled) (part e lived) (same e) (shared.deeds e)
 
-  is_run_without_end : IsRunWithoutEnd c lived last
+  is_run_without_end : IsRunWithoutEnd c lived
   is_run_without_end =
       record {
         run = filled;
@@ -183,8 +179,8 @@ module _ (c : Shape) (size : ℕ) (acts : ℕ → List Act) (lived : List Lived)
         places = places;
         is = runs;
         hosts = hosts;
-        one = endless_headline c filled last runs fresh (keeps_too c lived filled last same places hosts keeps);
+        one = endless_headline c filled runs fresh (keeps_too c lived filled same places hosts keeps);
       }
 
 pub shared_have_one_log : SharedHaveOneLog
-shared_have_one_log c size acts lived last shared keeps = is_run_without_end c size acts lived last shared keeps
+shared_have_one_log c size acts lived shared keeps = is_run_without_end c size acts lived shared keeps

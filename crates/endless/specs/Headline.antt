@@ -71,13 +71,8 @@ SubmitsWhatIsDue c log over =
     (i h : ℕ) (memory : Memory) (doing : Attempt) (command : Command) → IsCallAt log i h → (at c log i).host h ≡ Running memory → memory.doing ≡ Some (Attempts doing) → doing.operation ≡ Submitting command →
     IsDue (slice_get over (length memory.learned)) command
 
--- Up to the last epoch hosts came to each when the one before was whole, and carried its table over first.
-pub record KeepsToEpochs (c : Shape) (lived : List Lived) (last : ℕ) : Type 0 where
-  -- each epoch but the last was learned whole by some host before some place, and nobody is in a later one than the last
-  pub place : ℕ → ℕ
-  pub host : ℕ → ℕ
-  pub whole : (e : ℕ) → e < last → length (learned_in c lived (place e) e (host e)) ≡ c.slots
-  pub none : (i e h : ℕ) (memory : Memory) → RunsIn c lived i e h memory → e ≤ last
+-- Hosts come to each epoch when the one before is whole, and carry its table over first.
+pub record KeepsToEpochs (c : Shape) (lived : List Lived) : Type 0 where
   -- nobody is in an epoch before somebody has learned the one before it whole
   pub in_turn : (i e h : ℕ) (memory : Memory) → RunsIn c lived i (suc e) h memory → IsWholeBy c lived e i
   -- what carries a table over is submitted first, and has room
@@ -126,9 +121,12 @@ pub record StandsIn (commands : List Command) (s : Stretch) (slot : ℕ) (comman
   pub replied : reply ≡ reply_after (take (place_of s slot) commands) command
 
 -- What is done in all epochs has one log of clients' commands, by which all goes that hosts choose, learn and say, in whatever epoch.
-pub record HasOneLogWithoutEnd (c : Shape) (lived : List Lived) (last : ℕ) : Type 0 where
+pub record HasOneLogWithoutEnd (c : Shape) (lived : List Lived) : Type 0 where
   pub commands : List Command
   pub stretch : ℕ → Stretch
+  -- there is a last epoch, and nobody is in a later one
+  pub last : ℕ
+  pub none : (i e h : ℕ) (memory : Memory) → RunsIn c lived i e h memory → e ≤ last
   -- the first epoch begins it; each other one begins with what carries over the table that the one before left, and goes on where that one ended
   pub first : stretch zero ≡ record { over = []; behind = 0 }
   pub over : (e : ℕ) → e < last → CarriesInto c lived (suc e) (stretch (suc e)).over
@@ -157,4 +155,4 @@ pub record HasOneLogWithoutEnd (c : Shape) (lived : List Lived) (last : ℕ) : T
 -- So it is where each epoch is a run that begins on zeros, and hosts keep to the epochs.
 abbrev pub EndlessHeadline : Type 0
 EndlessHeadline =
-    (c : Shape) (lived : List Lived) (last : ℕ) → ((e : ℕ) → IsRun c (part e lived)) → ((e : ℕ) → migrated (part e lived) ≡ []) → KeepsToEpochs c lived last → HasOneLogWithoutEnd c lived last
+    (c : Shape) (lived : List Lived) → ((e : ℕ) → IsRun c (part e lived)) → ((e : ℕ) → migrated (part e lived) ≡ []) → KeepsToEpochs c lived → HasOneLogWithoutEnd c lived

@@ -47,15 +47,15 @@ OneLogWithoutEnd =
 
 -- With some bytes in the place of those that faults left, what is done in each epoch is a run of the world, at each place of which each host is what its own deeds before that
 -- make of it; and all of it has one log.
-pub record IsRunWithoutEnd (c : Shape) (lived : List Lived) (last : ℕ) : Type 0 where
+pub record IsRunWithoutEnd (c : Shape) (lived : List Lived) : Type 0 where
   pub run : List Lived
   pub same : (e : ℕ) → map bare (part e run) ≡ map bare (part e lived)
   pub places : (e i : ℕ) → now e i run ≡ now e i lived
   pub is : (e : ℕ) → IsRun c (part e run)
   pub hosts : (e i h : ℕ) → (at c (part e run) i).host h ≡ host_by c (part e lived) i h
-  pub one : HasOneLogWithoutEnd c run last
+  pub one : HasOneLogWithoutEnd c run
 
 -- So it is over shared disks, where hosts keep to the epochs. What they keep to is said of their own deeds.
 abbrev pub SharedHaveOneLog : Type 0
 SharedHaveOneLog =
-    (c : Shape) (size : ℕ) (acts : ℕ → List Act) (lived : List Lived) (last : ℕ) → IsShared c size acts (λ e. part e lived) → KeepsToEpochs c lived last → IsRunWithoutEnd c lived last
+    (c : Shape) (size : ℕ) (acts : ℕ → List Act) (lived : List Lived) → IsShared c size acts (λ e. part e lived) → KeepsToEpochs c lived → IsRunWithoutEnd c lived
