@@ -236,27 +236,27 @@ in_turn i (suc e) h memory running = absurd (none_runs (suc (suc e)) i h memory 
 -- whoever has learned both commands of an epoch carries over what they left
 over_is : (log : List Filled) (commands over : List Command) (i h : ℕ) (shown : Shown) → IsRun one_disk log → prefix_at one_disk log 37 0 ≡ commands → length commands ≡ 2 → length (prefix_at one_disk log i h) ≡ 2
     → IsPictureOf shown (table_after (prefix_at one_disk log i h)) → over ≡ carried_over shown → over ≡ carried_over (pictured (table_after commands))
-over_is log commands over i h shown is_run learned many full is over_is =
+over_is log commands over i h shown is_run learned many full is carried_is =
     let same : prefix_at one_disk log i h ≡ commands = full_logs_are_final one_disk log is_run i 37 h 0 full (ap (λ (l : List Command). length l) learned ∙ many) ∙ learned in
     let there : IsPictureOf shown (table_after commands) = subst (λ (l : List Command). IsPictureOf shown (table_after l)) same is in
-    over_is ∙ ap carried_over (one_shown (table_after commands) shown (pictured (table_after commands)) there (has_picture commands))
+    carried_is ∙ ap carried_over (one_shown (table_after commands) shown (pictured (table_after commands)) there (has_picture commands))
 
 over_one : (over : List Command) → CarriesInto one_disk two_epochs 1 over → over ≡ carries_client ∷ []
-over_one over (i, h, shown, full, is, over_is_) =
+over_one over (i, h, shown, full, is, carried_is) =
     let there = ap (λ (l : List Filled). prefix_at one_disk l (now 0 i two_epochs) h) first_is in
     over_is first_epoch (takes_db ∷ releases_db ∷ []) over (now 0 i two_epochs) h shown first_made.is learned_first refl
-    (ap (λ (l : List Command). length l) (sym there) ∙ full) (subst (λ (l : List Command). IsPictureOf shown (table_after l)) there is) over_is_ ∙ over_first
+    (ap (λ (l : List Command). length l) (sym there) ∙ full) (subst (λ (l : List Command). IsPictureOf shown (table_after l)) there is) carried_is ∙ over_first
 
 over_two : (over : List Command) → CarriesInto one_disk two_epochs 2 over → length over ≡ 2
-over_two over (i, h, shown, full, is, over_is_) =
+over_two over (i, h, shown, full, is, carried_is) =
     let there = ap (λ (l : List Filled). prefix_at one_disk l (now 1 i two_epochs) h) second_is in
     ap (λ (l : List Command). length l)
     (over_is second_epoch (carries_client ∷ takes_db_again ∷ []) over (now 1 i two_epochs) h shown second_made.is learned_second refl
-    (ap (λ (l : List Command). length l) (sym there) ∙ full) (subst (λ (l : List Command). IsPictureOf shown (table_after l)) there is) over_is_) ∙ over_second
+    (ap (λ (l : List Command). length l) (sym there) ∙ full) (subst (λ (l : List Command). IsPictureOf shown (table_after l)) there is) carried_is) ∙ over_second
 
 -- nobody has learned a later epoch whole
 over_none : (e : ℕ) (over : List Command) → CarriesInto one_disk two_epochs (suc (suc (suc e))) over → ⊥
-over_none e over (i, h, shown, full, is, over_is_) =
+over_none e over (i, h, shown, full, is, carried_is) =
     let d = suc (suc e) in
     let nothing : learned_in one_disk two_epochs i d h ≡ [] =
     ap (λ (l : List Filled). prefix_at one_disk l (now d i two_epochs) h) (none_is d (omega arith)) ∙ ap learned_of (nobody_in_none (now d i two_epochs) h) in
@@ -322,15 +322,20 @@ order_at : (host : Host) (log : List Filled) (i : ℕ) → all_in_order host log
 order_at host [] zero is = is
 order_at host [] (suc i) is = is
 order_at host (x ∷ log) zero is = (both_true (in_order host) (all_in_order (if is_of 0 x then host_step one_disk 0 host x else host) log) is).0
-order_at host (x ∷ log) (suc i) is = either (is_of 0 x) (both_true (in_order host) (all_in_order (if is_of 0 x then host_step one_disk 0 host x else host) log) is).1
+order_at host (x ∷ log) (suc i) is =
+    either (is_of 0 x) (λ next. order_at next log i) (both_true (in_order host) (all_in_order (if is_of 0 x then host_step one_disk 0 host x else host) log) is).1
   where
-    either : (t : Bool) → all_in_order (cond t (host_step one_disk 0 host x) host) log ≡ true → in_order (host_after one_disk 0 host (cond t (x ∷ of_host 0 (take i log)) (of_host 0 (take i log)))) ≡ true
-    either true rest = order_at (host_step one_disk 0 host x) log i rest
-    either false rest = order_at host log i rest
+    either : (t : Bool) → ((next : Host) → all_in_order next log ≡ true → in_order (host_after one_disk 0 next (of_host 0 (take i log))) ≡ true) → all_in_order (cond t (host_step one_disk 0 host x) host) log ≡ true
+        → in_order (host_after one_disk 0 host (cond t (x ∷ of_host 0 (take i log)) (of_host 0 (take i log)))) ≡ true
+    either true rest same = rest (host_step one_disk 0 host x) same
+    either false rest same = rest host same
 
 due_by : (n : ℕ) (command : Command) → (carries_client ≡ command) ⊎ (takes_db_again ≡ command) → operation_in_order n (Submitting command) ≡ true → IsDue (slice_get (carries_client ∷ []) n) command
 due_by zero command (inl same) order = sym same
-due_by (suc n) command (inl same) order = absurd (let other : operation_in_order (suc n) (Submitting carries_client) ≡ true = subst (λ (x : Command). operation_in_order (suc n) (Submitting x) ≡ true) (sym same) order in cc)
+due_by (suc n) command (inl same) order =
+    let other : (suc n == 0) ≡ true = subst (λ (x : Command). operation_in_order (suc n) (Submitting x) ≡ true) (sym same) order in
+    let none = eqb-true (suc n) 0 other in
+    absurd (omega (arith, none))
 due_by zero command (inr same) order = absurd (let other : operation_in_order 0 (Submitting takes_db_again) ≡ true = subst (λ (x : Command). operation_in_order 0 (Submitting x) ≡ true) (sym same) order in cc)
 due_by (suc n) command (inr same) order = subst (λ (x : Command). is_submittable x ≡ true) same refl
 

@@ -68,6 +68,7 @@ module _ (c : Shape) (lived : List Lived) (last : ℕ) (run : (e : ℕ) → IsRu
     put = put_in own.epoch own.slot command own.is
 
     asked : is_submittable command ≡ true
+    unfolding put put_in
     asked =
         let due = l.due own.epoch own.upto put.place put.host put.memory put.doing put.command put.call put.running put.does put.submits in
         let past : slice_get (l.over own.epoch) (length put.memory.learned) ≡ None = slice_get_past (l.over own.epoch) (length put.memory.learned) (let o = put.on_slot in let p = own.past in omega (arith, o, p)) in
@@ -75,6 +76,7 @@ module _ (c : Shape) (lived : List Lived) (last : ℕ) (run : (e : ℕ) → IsRu
         ap is_submittable (sym (put_is own.epoch own.slot command own.is)) ∙ clear
 
     comes_from : ComesFrom c lived last stretch n command
+    unfolding put put_in
     comes_from =
         record {
           epoch = own.epoch;

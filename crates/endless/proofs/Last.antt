@@ -14,7 +14,7 @@ use Rattle.endless.specs.Lived.{Lived, In, Crash, Loss, part, now, RunsIn, IsWho
 use Rattle.endless.proofs.Places.{now_within, place_for}
 
 -- in later epochs nothing is done by hosts
-bound : List Lived → ℕ
+abbrev bound : List Lived → ℕ
 bound [] = 0
 bound (In epoch entry ∷ lived) = suc epoch + bound lived
 bound (Crash disk left ∷ lived) = bound lived

@@ -44,15 +44,16 @@ place_for e lived zero fits = (0, refl)
 place_for e [] (suc i) fits = absurd (omega (arith, fits))
 place_for e (Crash disk left ∷ lived) (suc i) fits = let rest = place_for e lived i (omega (arith, fits)) in (suc rest.0, ap suc rest.1)
 place_for e (Loss disk ∷ lived) (suc i) fits = let rest = place_for e lived i (omega (arith, fits)) in (suc rest.0, ap suc rest.1)
-place_for e (In epoch entry ∷ lived) (suc i) fits = either (epoch == e) refl fits
+place_for e (In epoch entry ∷ lived) (suc i) fits = either (epoch == e) refl (λ j. place_for e lived j) fits
   where
-    either : (b : Bool) → (epoch == e) ≡ b → suc i ≤ length (cond b (entry ∷ part e lived) (part e lived)) → (k : ℕ) × (now e k (In epoch entry ∷ lived) ≡ suc i)
-    either true is long =
-        let rest = place_for e lived i (omega (arith, long)) in
-        (suc rest.0, ap (λ (b : Bool). cond b (suc (now e rest.0 lived)) (now e rest.0 lived)) is ∙ ap suc rest.1)
-    either false is long =
-        let rest = place_for e lived (suc i) long in
-        (suc rest.0, ap (λ (b : Bool). cond b (suc (now e rest.0 lived)) (now e rest.0 lived)) is ∙ rest.1)
+    either : (b : Bool) → (epoch == e) ≡ b → ((j : ℕ) → j ≤ length (part e lived) → (k : ℕ) × (now e k lived ≡ j)) → suc i ≤ length (cond b (entry ∷ part e lived) (part e lived))
+        → (k : ℕ) × (now e k (In epoch entry ∷ lived) ≡ suc i)
+    either true is rest long =
+        let found = rest i (omega (arith, long)) in
+        (suc found.0, ap (λ (b : Bool). cond b (suc (now e found.0 lived)) (now e found.0 lived)) is ∙ ap suc found.1)
+    either false is rest long =
+        let found = rest (suc i) long in
+        (suc found.0, ap (λ (b : Bool). cond b (suc (now e found.0 lived)) (now e found.0 lived)) is ∙ found.1)
 
 -- no more is done of an epoch than there is
 pub now_within : (e i : ℕ) (lived : List Lived) → now e i lived ≤ length (part e lived)
