@@ -102,6 +102,16 @@ tried "format, built" cc -std=c99 $common -x c - $flags -o "$work/format" << 'EN
 #include <stdlib.h>
 int main(int argc, char **argv) { return argc == 3 && mg_format(argv[1], 3, (unsigned)atoi(argv[2]), 7, NULL) == MG_OK ? 0 : 1; }
 END
+# The images are those of dlm format, and a loss of power within it leaves no set of fewer.
+tried "as_dlm, built" cc -std=c99 $common "$here/tests/as_dlm.c" $flags -o "$work/as_dlm"
+if [[ -x $dlm ]]; then
+    folder
+    mkdir -- "$work/images/"{dlm,mg}
+    tried "the images of dlm format" bash -c '"$1" format "$3/dlm" 3 64 7 && DLM=/nowhere "$2" format "$3/mg" 3 64 7 && diff -r "$3/dlm" "$3/mg"' _ "$dlm" "$work/as_dlm" "$work/images"
+    if command -v python3 > /dev/null; then
+        tried "losses of power within mg_format" env DLM="$dlm" PYTHONDONTWRITEBYTECODE=1 "$top/tests/power_loss.py" --program "$work/as_dlm" --format --steps 0 --states 2
+    fi
+fi
 headers() { for disk in 0 1 2; do head -c 4096 -- "$work/images/disk$disk.img"; done | sha256sum; }
 folder
 tried "format" "$work/format" "$work/images" 64
@@ -112,7 +122,9 @@ for set in 1 2 3 4 5 6 7; do
 done
 
 # Devices that several machines use: bytes, calls that fail, host numbers; and the same tests over such images, in files. tests/machines.sh has devices.
-tried "formats, built" cc -std=c99 $common -Wl,--wrap=open,--wrap=pread,--wrap=pwrite,--wrap=fdatasync "$here/tests/formats.c" "$PREFIX/lib/libmidgegalena.a" -o "$work/formats"
+tried "formats, built" cc -std=c99 $common -Wl,--wrap=open,--wrap=pread,--wrap=pwrite,--wrap=fdatasync,--wrap=fsync "$here/tests/formats.c" "$PREFIX/lib/libmidgegalena.a" -o "$work/formats"
+folder
+tried "formats for one machine" "$work/formats" alone "$work/images"
 device_calls=(-std=c99 $common -Wl,--wrap=pread,--wrap=pwrite,--wrap=fdatasync "$here/tests/devices.c")
 tried "devices, built" cc "${device_calls[@]}" "$here/out/devices.o" -o "$work/devices"
 tried "shared, built" cc -std=c99 $common "$here/tests/shared.c" $flags -o "$work/shared"
@@ -128,7 +140,7 @@ if [[ $is_direct -eq 3 ]]; then
 else
     tried "shared" bash -c 'cat -- "$1"; exit "$2"' _ "$work/said.txt" "$is_direct"
     folder
-    tried "formats" "$work/formats" "$work/images"
+    tried "formats for several machines" "$work/formats" shared "$work/images"
     folder
     for k in 0 1 2; do truncate -s 128K -- "$work/images/$k"; done
     truncate -s 40K -- "$work/images/3"
@@ -168,7 +180,7 @@ $ format images 3 12 7 4 512 files
 dlm: 29 AlreadyThere disk0 (disk0.img is formatted)
 status 1
 $ format images 2 12 7 4 512 files
-dlm: 29 AlreadyThere disk2 (something has the name disk2.img, and 2 disks are asked for)
+dlm: 29 AlreadyThere disk0 (disk0.img is a file that is there)
 status 1
 $ submit images 0 enqueue 1 1 1 EX db
 ack 0 Granted

@@ -25,7 +25,7 @@ flags=(-Wall -Wextra -Werror -O2 -I "$top/capi/include")
 cc -std=c99 -pedantic "${flags[@]}" "$top/capi/tests/contend_machines.c" "$built/libmidgegalena.a" -o "$work/contend_machines" || fail "contend_machines.c"
 cc -std=c99 -pedantic -D_DEFAULT_SOURCE "${flags[@]}" -Wl,--wrap=pread,--wrap=pwrite,--wrap=fdatasync "$top/capi/tests/devices.c" \
     "$top/capi/out/devices.o" -o "$work/devices" || fail "devices.c"
-cc -std=c99 -pedantic -D_DEFAULT_SOURCE "${flags[@]}" -Wl,--wrap=open,--wrap=pread,--wrap=pwrite,--wrap=fdatasync "$top/capi/tests/formats.c" \
+cc -std=c99 -pedantic -D_DEFAULT_SOURCE "${flags[@]}" -Wl,--wrap=open,--wrap=pread,--wrap=pwrite,--wrap=fdatasync,--wrap=fsync "$top/capi/tests/formats.c" \
     "$built/libmidgegalena.a" -o "$work/formats" || fail "formats.c"
 mount_of=(-std=gnu11 "${flags[@]}" -I "$top/capi/src" "$top/capi/examples/dlm-mount/dlm-mount.c" "$top/capi/out/devices.o")
 cc "${mount_of[@]}" -o "$work/dlm-mount" || fail "dlm-mount.c"
@@ -185,7 +185,10 @@ fi
 leads "${places[0]}" "${places[1]}"
 expect "a file where it is asked for" 0 "formatted 3 disks, 4 slots" "$shared" format "$work/set" 3 4 71 4 4096 files
 # Each call of a format fails in turn.
-expect "formats.c" 0 "formats: as it should be" "$work/formats" "$work/calls" "${places[@]}"
+for how in alone shared; do
+    expect "formats.c $how" 0 "formats: as it should be" "$work/formats" "$how" "$work/calls" "${places[@]}"
+    rm -f -- "$work/calls"/*
+done
 
 # Disks that may only be read.
 leads "${places[@]}"

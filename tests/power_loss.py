@@ -12,7 +12,7 @@ states, so that losses come upon losses.
 
 In each step so many hosts submit at once (none given: one to four), some of which end in the midst. `--format` begins with losses
 within `dlm format`: no state shows a log before all images are whole, and the same words finish it, or make the images once these are
-removed. `--migrate` begins with losses within `dlm migrate` over three disks. There a run may also be ended, and another one follows, as
+removed. With the program of capi/tests/as_dlm.c that is `mg_format`. `--migrate` begins with losses within `dlm migrate` over three disks. There a run may also be ended, and another one follows, as
 after a loss; power is lost within that one too. In each state no command opens less than the whole log; a further run finishes, or moves
 the log anew, at the latest once the new images are removed; and once a run has told that it moved the log or finished, all images are
 complete and open.

@@ -83,8 +83,8 @@ struct mg_held {
  *
  * MG_TIMED_OUT: it was not granted in time, as where others have it. MG_NO_SUCH_LOCK: it was purged while it waited. MG_STOPPED: mg_set_rest.
  * MG_HOST_IN_USE: somebody has the host number for so long, a minute or little more at most; at once where it is another machine's, and errno is
- * EREMOTE. MG_NO_LOCK: see errno, of its sign of life. MG_LOG_FULL, MG_NO_MAJORITY, MG_TABLE_FULL and others as of mg_enqueue. If the
- * log gets full while it waits it goes on waiting, and once that is renewed it waits in the new folder.
+ * EREMOTE. MG_NO_LOCK: see errno, of its sign of life; EBUSY where that is removed as often as it is made. MG_LOG_FULL, MG_NO_MAJORITY,
+ * MG_TABLE_FULL and others as of mg_enqueue. If the log gets full while it waits it goes on waiting, and once that is renewed it waits in the new folder.
  *
  * First it releases what processes that are gone have left: on this name all, on others as much as it can in 200 milliseconds, or in
  * half of its time if that is shorter.

@@ -115,8 +115,12 @@ enum mg_mode {
 
 struct mg_host;
 
-/* Makes the images of a new folder, which is there and has none: 1 to 7 disks, 1 to 4,096 slots. Where `disk` is not NULL it
- * becomes the image that is at fault, -1 where none is. */
+/* Makes the images of a new folder, which is there and has none: 1 to 7 disks, 1 to 4,096 slots. `diskK.img` may be a link to a block device, which is written over;
+ * else it becomes a file. Where `disk` is not NULL it becomes the image that is at fault, -1 where none is. mg_cause says more.
+ *
+ * Refused, and nothing is changed: MG_ALREADY_THERE where anything else has the name of an image, or a device is formatted; MG_UNREADABLE where a device is too
+ * short, read only, or in use on this machine, as by a mount; MG_BAD_ARGUMENT, and `*disk` names it, where it is one device with another disk. Where a later call
+ * fails, MG_UNREADABLE, what was made is undone. No gate is opened before all images are whole; a format that ends within that is finished by the same words. */
 int mg_format(const char *folder, unsigned disks, unsigned slots, uint64_t cluster, int *disk);
 
 /* The same of devices that several machines use at once (docs/OPERATIONS.md). `diskK.img` in the folder is a link to a block device. Each block has a
@@ -127,15 +131,13 @@ int mg_format(const char *folder, unsigned disks, unsigned slots, uint64_t clust
  * 4096 bytes, 0 for 4096. Each write is made to last by itself (O_DSYNC), but with the flag MG_NO_DSYNC by the next sync alone. With the flag MG_FILES a file is
  * made where there is no `diskK.img`.
  *
- * Refused, and nothing is changed: MG_ALREADY_THERE where a file is there, or a device that is formatted; MG_UNREADABLE where a device is too short, read only, in use
- * on this machine, as by a mount, or is none; MG_BAD_ARGUMENT, and `*disk` names it, where its physical sectors are longer than `sector`, where it does not
- * begin at a multiple of that, or where it is one device with another disk. Where a later call fails, MG_UNREADABLE, what was made is undone. No gate is opened
- * before all devices are whole; a format that ends within that is finished by the same words. mg_cause says more. */
+ * Also refused: MG_UNREADABLE where `diskK.img` is no block device and no file, or is missing without that flag; MG_BAD_ARGUMENT, and `*disk` names it, where a
+ * device's physical sectors are longer than `sector`, or where it does not begin at a multiple of that. */
 #define MG_NO_DSYNC 1u
 #define MG_FILES 2u
 int mg_format_shared(const char *folder, unsigned disks, unsigned slots, uint64_t cluster, unsigned hosts, unsigned sector, unsigned flags, int *disk);
 
-/* What there is to add to the number that this thread's last call of mg_open, mg_open_to_look, mg_take_number or mg_format_shared returned, as a session's
+/* What there is to add to the number that this thread's last call of mg_open, mg_open_to_look, mg_take_number, mg_format or mg_format_shared returned, as a session's
  * calls do by these: which disk, why, and what is wanted; "" where there is nothing. It is not to be freed, and stays until the next such call. */
 const char *mg_cause(void);
 

@@ -107,29 +107,49 @@ bool device_is_read_only(int file) {
     return fstatvfs(file, &facts) == 0 && (facts.f_flag & ST_RDONLY) != 0;
 }
 
-bool device_lay_out(int file, const struct device *device, unsigned disks, uint64_t cluster, unsigned disk, enum step step, uint8_t *room) {
-    uint64_t size = 0;
-    uint8_t *first = room + ROOM;
-    bool done = dlm_c_device_header(device, disks, cluster, disk, (struct first_bytes *)first, &size) == 0;
+/* A write that is cut off goes on, so that a full disk is told as one. */
+static bool put_zeros(int file, uint64_t size, const uint8_t *zeros) {
+    for (uint64_t at = 0; at < size;) {
+        ssize_t n = pwrite(file, zeros, size - at < ROOM ? (size_t)(size - at) : ROOM, (off_t)at);
+        if (n < 0 && errno == EINTR)
+            continue;
+        if (n <= 0)
+            return false;
+        at += (uint64_t)n;
+    }
+    return true;
+}
+
+bool device_lay_out(int file, const struct first_bytes *first, size_t length, uint64_t size, enum step step, uint8_t *room) {
+    uint8_t *header = room + ROOM;
+    bool done;
     memset(room, 0, ROOM);
+    memcpy(header, first->bytes, sizeof first->bytes);
     if (step == HEADER)
-        first[0] = 0;
-    if (step == UNDONE)
-        first = room;
-    for (uint64_t at = 0; step == ZEROS && at < size && done; at += ROOM)
-        done = move(file, room, size - at < ROOM ? size - at : ROOM, at, true);
-    if (step != ZEROS)
-        done = done && move(file, first, DEVICE_FIRST, 0, true);
+        header[0] = 0;
+    if (step == ZEROS)
+        done = put_zeros(file, size, room);
+    else
+        done = move(file, step == UNDONE ? room : header, length, 0, true);
     return done && sync_data(file);
 }
 
-enum state device_state(const struct device *device, unsigned disks, uint64_t cluster, unsigned disk, uint8_t *room) {
-    uint64_t size = 0;
-    uint8_t *wanted = room + ROOM;
-    if (dlm_c_device_header(device, disks, cluster, disk, (struct first_bytes *)wanted, &size) != 0 ||
-        memcmp(room + 1, wanted + 1, DEVICE_FIRST - 1) != 0)
+/* Whether all is zeros after the first bytes. */
+static bool holds_nothing(int file, uint64_t size, uint8_t *room) {
+    for (uint64_t at = DEVICE_FIRST; at < size; at += ROOM) {
+        uint64_t length = size - at < ROOM ? size - at : ROOM;
+        if (!move(file, room, length, at, false) || room[0] != 0 || memcmp(room, room + 1, (size_t)length - 1) != 0)
+            return false;
+    }
+    return true;
+}
+
+enum state device_state(int file, const struct first_bytes *first, uint64_t size, uint8_t *room) {
+    if (memcmp(room + 1, first->bytes + 1, DEVICE_FIRST - 1) != 0)
         return OTHER_BYTES;
-    return room[0] == wanted[0] ? GATE_OPEN : room[0] == 0 ? GATE_CLOSED : OTHER_BYTES;
+    if (room[0] == first->bytes[0])
+        return GATE_OPEN;
+    return holds_nothing(file, size, room + ROOM) ? GATE_CLOSED : OTHER_BYTES;
 }
 
 bool device_read(int file, const struct device *device, uint8_t *room, uint64_t at, struct row *row) {

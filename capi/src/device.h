@@ -104,14 +104,16 @@ bool device_identity(int file, struct identity *into);
 /* Whether nobody may write to it: the device is read only, or the file system of the file is. */
 bool device_is_read_only(int file);
 
-/* The steps of a format: zeros throughout; the header with a closed gate; the gate. Each ends with a sync. All devices of a set make a step before any makes the
- * next, so none is open before all are whole. Or the first bytes become zeros again. */
+/* The steps of a format: zeros throughout; the header with a closed gate; the gate. Each ends with a sync. All images of a set make a step before any makes the
+ * next, so no gate is open before all are whole. Or the first bytes become zeros again. Of these, `first` with an open gate, so many are written at once. It serves
+ * images for one machine, too. */
 enum step { ZEROS, HEADER, GATE, UNDONE };
-bool device_lay_out(int file, const struct device *device, unsigned disks, uint64_t cluster, unsigned disk, enum step step, uint8_t *room);
+bool device_lay_out(int file, const struct first_bytes *first, size_t length, uint64_t size, enum step step, uint8_t *room);
 
-/* How far such a format came, by the first bytes of a device, which are in the room: they are all of the header, or all but its gate, or neither. */
+/* How far such a format came, by the first bytes of the file, which are in the room: they are all of the header; or all but its gate, and zeros are after them; or
+ * neither. */
 enum state { OTHER_BYTES, GATE_CLOSED, GATE_OPEN };
-enum state device_state(const struct device *device, unsigned disks, uint64_t cluster, unsigned disk, uint8_t *room);
+enum state device_state(int file, const struct first_bytes *first, uint64_t size, uint8_t *room);
 
 /* A row is read until two reads in a row agree in all blocks and stamps, nine times at most. A write is of bytes of one block; of none it is no call. It fails
  * where fewer bytes than those of the sector were written. */

@@ -297,18 +297,6 @@ static int take(const char *folder, const char *word) {
     return ended();
 }
 
-/* The first name of a further image that anything has, below MG_DISKS. */
-static unsigned find_more(const char *folder, unsigned disks) {
-    char path[PATH_LENGTH];
-    struct stat facts;
-    for (; disks < MG_DISKS; disks++) {
-        snprintf(path, sizeof path, "%s/disk%u.img", folder, disks);
-        if (lstat(path, &facts) == 0)
-            break;
-    }
-    return disks;
-}
-
 /* Takes a word off the end, if it stands there. */
 static bool takes(int *count, char **words, const char *word) {
     bool is_there = *count > 0 && strcmp(words[*count - 1], word) == 0;
@@ -318,19 +306,13 @@ static bool takes(int *count, char **words, const char *word) {
 
 static int format(int count, char **words) {
     uint64_t disks, slots, cluster, hosts = MG_HOSTS, sector = 0;
-    unsigned flags = 0, more;
+    unsigned flags = 0;
     int disk = -1, status;
     flags |= takes(&count, words, "files") ? MG_FILES : 0;
     flags |= takes(&count, words, "nodsync") ? MG_NO_DSYNC : 0;
     if (count < 4 || count > 6 || !number(words[1], MG_DISKS, &disks) || !number(words[2], MG_SLOTS, &slots) || !number(words[3], UINT64_MAX, &cluster) ||
         (count > 4 && !number(words[4], MG_HOSTS, &hosts)) || (count > 5 && !number(words[5], DEVICE_LONGEST_SECTOR, &sector)) || disks == 0)
         return usage();
-    more = find_more(words[0], (unsigned)disks);
-    if (more < MG_DISKS) {
-        fprintf(stderr, "dlm: %d %s disk%u (something has the name disk%u.img, and %u disks are asked for)\n", MG_ALREADY_THERE, mg_name(MG_ALREADY_THERE), more, more,
-                (unsigned)disks);
-        return REFUSED;
-    }
     status = mg_format_shared(words[0], (unsigned)disks, (unsigned)slots, cluster, (unsigned)hosts, (unsigned)sector, flags, &disk);
     if (status == MG_BAD_ARGUMENT)
         return disk >= 0 ? decline("format", mg_cause()) : usage();

@@ -39,7 +39,7 @@
 #include <time.h>
 #include <unistd.h>
 
-enum { FIRST_CLIENT = 240, FIRST_LOCK = 1536, LOCKS_OF_A_HOST = 4000, NO_SIGN = -1, LEAST_FILE = 3 };
+enum { FIRST_CLIENT = 240, FIRST_LOCK = 1536, LOCKS_OF_A_HOST = 4000, NO_SIGN = -1, LEAST_FILE = 3, MOST_REMOVALS = 9 };
 enum { PATIENCE = 60000, LITTLE_PATIENCE = 5000, GRACE = 100, FIRST_INTERVAL = 5, SHORT_PAUSE = 20, LONGEST_PAUSE = 200, TIDY_TIME = 200 }; /* milliseconds */
 
 static const struct claim_value NO_VALUE = {{0}};
@@ -355,14 +355,17 @@ static enum owner take_once(const char *path, bool makes, int *sign) {
     return cause == EWOULDBLOCK ? OTHERS : UNKNOWN;
 }
 
-/* Locks a file, which is made where `makes`, and tells whose it is. Where it is not this session's, `*sign` is NO_SIGN. */
+/* Locks a file, which is made where `makes`, and tells whose it is. Where it is not this session's, `*sign` is NO_SIGN. UNKNOWN with EBUSY: somebody removed it
+ * each time before it was locked. */
 static enum owner take_file(const char *path, bool makes, int *sign) {
-    enum owner owner;
     *sign = NO_SIGN;
-    do
-        owner = take_once(path, makes, sign);
-    while (owner == NOBODYS && makes);
-    return owner;
+    for (int tries = 0; tries < MOST_REMOVALS; tries++) {
+        enum owner owner = take_once(path, makes, sign);
+        if (owner != NOBODYS || !makes)
+            return owner;
+    }
+    errno = EBUSY;
+    return UNKNOWN;
 }
 
 /* The same of a lock's sign. UNKNOWN with ENOMEM: there is no memory for its path. */

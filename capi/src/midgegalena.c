@@ -1146,15 +1146,20 @@ int mg_value(struct mg_host *host, unsigned lock, struct mg_value *into) {
     return status_of(dlm_c_value(&host->handle, lock, into));
 }
 
+/* Whether there is a host, and a place for so much as there is room for; nothing is counted so far. */
+static bool may_show(const struct mg_host *host, const void *into, size_t room, size_t *count) {
+    if (count)
+        *count = 0;
+    return host && (into || room == 0);
+}
+
 /* A slice of no elements still has a place, and each element is initialized before it is handed on. */
 
 int mg_locks(struct mg_host *host, struct mg_lock_view *into, size_t room, size_t *count) {
     struct mg_lock_view none;
     size_t there = 0;
     int status;
-    if (count)
-        *count = 0;
-    if (!host || (!into && room > 0))
+    if (!may_show(host, into, room, count))
         return MG_BAD_ARGUMENT;
     if (room > MG_LOCKS)
         room = MG_LOCKS;
@@ -1170,9 +1175,7 @@ int mg_clients(struct mg_host *host, struct mg_client_view *into, size_t room, s
     struct mg_client_view none;
     size_t there = 0;
     int status;
-    if (count)
-        *count = 0;
-    if (!host || (!into && room > 0))
+    if (!may_show(host, into, room, count))
         return MG_BAD_ARGUMENT;
     if (room > MG_CLIENTS)
         room = MG_CLIENTS;
@@ -1189,9 +1192,7 @@ int mg_text(struct mg_host *host, char *into, size_t size, size_t *length) {
     size_t there = 0;
     size_t room;
     int status;
-    if (length)
-        *length = 0;
-    if (!host || (!into && size > 0))
+    if (!may_show(host, into, size, length))
         return MG_BAD_ARGUMENT;
     room = size > 0 ? size - 1 : 0;
     if (room > MG_TEXT_SIZE)
@@ -1206,34 +1207,38 @@ int mg_text(struct mg_host *host, char *into, size_t size, size_t *length) {
 
 /* ---- the images ---- */
 
-int mg_disks(struct mg_host *host, struct mg_disk_view *into, size_t room, size_t *count) {
+/* Counts the disks, and tells of how many there is room to show something. */
+static int count_disks(struct mg_host *host, const void *into, size_t room, size_t *count, unsigned *shown) {
     struct mg_host_view facts;
     int status;
-    if (count)
-        *count = 0;
-    if (!host || (!into && room > 0))
+    *shown = 0;
+    if (!may_show(host, into, room, count))
         return MG_BAD_ARGUMENT;
     status = mg_host_facts(host, &facts);
-    for (unsigned k = 0; status == MG_OK && k < facts.disks && k < room && k < MG_DISKS; k++) {
+    if (status != MG_OK)
+        return status;
+    if (count)
+        *count = facts.disks;
+    if (room > MG_DISKS)
+        room = MG_DISKS;
+    *shown = facts.disks < room ? facts.disks : (unsigned)room;
+    return MG_OK;
+}
+
+int mg_disks(struct mg_host *host, struct mg_disk_view *into, size_t room, size_t *count) {
+    unsigned shown;
+    int status = count_disks(host, into, room, count, &shown);
+    for (unsigned k = 0; k < shown; k++) {
         into[k].disk = k;
         into[k].status = host->faults[k];
     }
-    if (count)
-        *count = facts.disks;
     return status;
 }
 
 int mg_images(struct mg_host *host, struct mg_image_view *into, size_t room, size_t *count) {
-    struct mg_host_view facts;
-    int status;
-    if (count)
-        *count = 0;
-    if (!host || (!into && room > 0))
-        return MG_BAD_ARGUMENT;
-    status = mg_host_facts(host, &facts);
-    for (unsigned k = 0; status == MG_OK && k < facts.disks && k < room && k < MG_DISKS; k++)
+    unsigned shown;
+    int status = count_disks(host, into, room, count, &shown);
+    for (unsigned k = 0; k < shown; k++)
         into[k] = host->images[k];
-    if (count)
-        *count = facts.disks;
     return status;
 }

@@ -195,10 +195,34 @@ static void owners(void) {
     }
 }
 
-static bool makes(int file, enum step step) { return device_lay_out(file, &HOW, DISKS, CLUSTER, DISK, step, room); }
+static struct first_bytes first_of(uint64_t cluster, unsigned disk, uint64_t *size) {
+    struct first_bytes first;
+    memset(&first, 0, sizeof first);
+    IS(dlm_c_device_header(&HOW, DISKS, cluster, disk, &first, size), 0);
+    return first;
+}
+
+static bool makes(int file, enum step step) {
+    uint64_t size = 0;
+    struct first_bytes first = first_of(CLUSTER, DISK, &size);
+    return device_lay_out(file, &first, sizeof first, size, step, room);
+}
+
 static bool is_laid_out(int file) { return makes(file, ZEROS) && makes(file, HEADER) && makes(file, GATE); }
-static enum state state_of(int file, uint64_t cluster, unsigned disk) { return device_first(file, room) ? device_state(&HOW, DISKS, cluster, disk, room) : OTHER_BYTES; }
+
+static enum state state_of(int file, uint64_t cluster, unsigned disk) {
+    uint64_t size = 0;
+    struct first_bytes first = first_of(cluster, disk, &size);
+    return device_first(file, room) ? device_state(file, &first, size, room) : OTHER_BYTES;
+}
+
 static enum state state(int file) { return state_of(file, CLUSTER, DISK); }
+
+static void puts_byte(int file, int at, uint8_t byte) {
+    IS(__real_pread(file, room, 4096, at / 4096 * 4096), 4096);
+    room[at % 4096] = byte;
+    IS(__real_pwrite(file, room, 4096, at / 4096 * 4096), 4096);
+}
 
 static void lays_out(int file) {
     struct device how;
@@ -224,6 +248,12 @@ static void lays_out(int file) {
     IS(state(file), GATE_OPEN);
     IS(state_of(file, CLUSTER + 1, DISK) == OTHER_BYTES && state_of(file, CLUSTER, 0) == OTHER_BYTES, true);
     IS(makes(file, HEADER) && state(file) == GATE_CLOSED && gate(file) == 0 && !device_find(file, DISK, room, &how, &image), true);
+    puts_byte(file, 0, 0x77);
+    IS(state(file), GATE_CLOSED);
+    puts_byte(file, 4096 * 21 - 1, 1);
+    IS(state(file), OTHER_BYTES);
+    puts_byte(file, 4096 * 21 - 1, 0);
+    IS(state(file), GATE_CLOSED);
     IS(makes(file, UNDONE) && state(file) == OTHER_BYTES, true);
     IS(__real_pread(file, room, 4096, 0), 4096);
     for (int i = 0; i < 4096; i++)

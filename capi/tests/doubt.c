@@ -18,27 +18,13 @@
 
 #include "device_faults.h"
 #include "expect.h"
+#include "tried.h"
 
 enum { IN_DOUBT = -6, TRIES_OF_A_FOLDER = 8, SLOTS = 128, LEAST_CALLS = 10 };
 
 static const char *work;
 static const unsigned char ONE[MG_VALUE_LENGTH] = "the first value";
 static const unsigned char TWO[MG_VALUE_LENGTH] = "the second one";
-
-/* What was tried, for the line that tells what went wrong with it. */
-static char tried[80];
-
-__attribute__((format(printf, 2, 3))) static void expect(bool well, const char *format, ...) {
-    va_list rest;
-    if (well)
-        return;
-    failures++;
-    va_start(rest, format);
-    printf("%s: ", tried);
-    vprintf(format, rest);
-    putchar('\n');
-    va_end(rest);
-}
 
 static void remove_images(const char *path) {
     char image[500];

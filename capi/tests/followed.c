@@ -13,27 +13,13 @@
 #include <unistd.h>
 
 #include "expect.h"
+#include "tried.h"
 
 enum { OLD = 7, NEW = 8 };                                  /* cluster numbers */
 enum { OPERATOR = 13, ANOTHER = 5, DEAD = 6, CLIENT = 9 }; /* hosts, and the client of those two */
 
 static const char *work, *dlm;
 static char at_old[400], at_new[400], at_link[400];
-
-/* How the session is, and how the log was filled. */
-static char tried[100];
-
-__attribute__((format(printf, 2, 3))) static void expect(bool well, const char *format, ...) {
-    va_list rest;
-    if (well)
-        return;
-    failures++;
-    va_start(rest, format);
-    printf("%s: ", tried);
-    vprintf(format, rest);
-    putchar('\n');
-    va_end(rest);
-}
 
 __attribute__((format(printf, 1, 2))) static void run(const char *format, ...) {
     char words[2000], command[4000];

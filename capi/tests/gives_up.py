@@ -14,6 +14,7 @@ import sys
 import time
 
 import heard  # noqa: F401
+from checks import expect, finish, until
 
 mg_lock, dlm, library, work = map(os.path.abspath, sys.argv[1:])
 sys.path.insert(0, os.path.join(os.path.dirname(os.path.dirname(os.path.realpath(__file__))), "python"))
@@ -21,16 +22,6 @@ from midgegalena import Refused, Session  # noqa: E402
 
 LOG_FULL = 9
 OPERATOR, HOLDER = "13", "5"  # hosts
-checks = failed = 0
-
-
-def expect(well, what):
-    global checks, failed
-    checks += 1
-    if not well:
-        failed += 1
-        print("failed:", what, flush=True)
-    return well
 
 
 def told(process):
@@ -55,16 +46,6 @@ def begin(*words):
 
 def run(*words):
     return told(begin(*words))
-
-
-def until(what, seconds=20):
-    """Whether it came true in time."""
-    end = time.monotonic() + seconds
-    while time.monotonic() < end:
-        if what():
-            return True
-        time.sleep(0.01)
-    return False
 
 
 class Folder:
@@ -230,5 +211,4 @@ def purged_after_renewal():
 
 for test in (waits_give_up, holder_ends, program_ends, purged_after_renewal):
     test()
-print(f"gives_up: {checks} checks, {failed} failed")
-sys.exit(failed > 0)
+finish("gives_up")

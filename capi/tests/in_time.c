@@ -8,52 +8,17 @@
 
 #include <errno.h>
 #include <signal.h>
-#include <sys/stat.h>
 #include <sys/wait.h>
-#include <time.h>
 #include <unistd.h>
 
 #include "device_faults.h"
 #include "expect.h"
+#include "folders.h"
 
 enum { SLOW_SYNC = 10000 };                       /* microseconds */
 enum { AT_ONCE = 2000 };                          /* milliseconds, also where the machine has other work */
 enum { MINUTE = 60000, LONGER_THAN_THAT = 66000 }; /* milliseconds */
 enum { LEFT = 100, UNMARKED = 8 };
-
-static const char *work;
-
-static int64_t milliseconds(void) {
-    struct timespec now;
-    clock_gettime(CLOCK_MONOTONIC, &now);
-    return (int64_t)now.tv_sec * 1000 + now.tv_nsec / 1000000;
-}
-
-static const char *folder(const char *name) {
-    static char paths[16][300];
-    static int count = 0;
-    char *path = paths[count++ % 16];
-    snprintf(path, sizeof paths[0], "%s/%s", work, name);
-    IS(mkdir(path, 0777), 0);
-    IS(mg_format(path, 3, 1024, 7, NULL), MG_OK);
-    return path;
-}
-
-static struct mg_session *begun(const char *path, unsigned host, unsigned flags) {
-    struct mg_session *session = NULL;
-    IS(mg_begin(path, host, flags, &session, NULL), MG_OK);
-    return session;
-}
-
-static size_t locks_of(const char *path) {
-    struct mg_host *eye;
-    size_t count = 0;
-    IS(mg_open_to_look(path, &eye, NULL), MG_OK);
-    IS(mg_look(eye, NULL), MG_OK);
-    IS(mg_locks(eye, NULL, 0, &count), MG_OK);
-    mg_close(eye);
-    return count;
-}
 
 /* A process of host 0 that takes many locks, and is killed. */
 static void leave(const char *path, int many, const char *name) {
@@ -81,7 +46,7 @@ static void took(int line, int64_t began, int64_t least, int64_t most) {
 
 /* A name that is free is taken at once, whatever processes that are gone have left. Later talks release that, by and by, and a recovery releases all. */
 static void left_locks(void) {
-    const char *path = folder("left");
+    const char *path = folder("left", 1024, 7);
     struct mg_session *session;
     struct mg_held held;
     unsigned released;
@@ -108,7 +73,7 @@ static void left_locks(void) {
 
 /* Somebody who waits for a name gets it at once where its holder was killed. */
 static void killed_holder(void) {
-    const char *path = folder("killed");
+    const char *path = folder("killed", 1024, 7);
     struct mg_session *session = begun(path, 0, MG_SHARE);
     struct mg_held held;
     int64_t began;
@@ -158,7 +123,7 @@ static int goes_on(void *with, int length) {
 static void waits_on(void) {
     struct mg_session *session;
     struct mg_held held;
-    meanwhile.path = folder("on");
+    meanwhile.path = folder("on", 1024, 7);
     meanwhile.holder = begun(meanwhile.path, 1, 0);
     IS(mg_take(meanwhile.holder, "db", MG_EX, 0, &held), MG_OK);
     meanwhile.lock = held.lock;
@@ -176,7 +141,7 @@ static void waits_on(void) {
 
 /* A session has the number for itself. */
 static void number_in_use(void) {
-    const char *path = folder("number");
+    const char *path = folder("number", 1024, 7);
     struct mg_session *alone = begun(path, 0, 0), *shares = begun(path, 0, MG_SHARE);
     struct mg_held held;
     int64_t began;
@@ -264,7 +229,7 @@ static void leave_unmarked(const char *path) {
 
 /* Whoever learns commands without a mark marks some, also where to learn them takes long. */
 static void slow_disks(void) {
-    const char *path = folder("slow");
+    const char *path = folder("slow", 1024, 7);
     struct mg_session *session;
     uint64_t before = 0, now;
     leave_unmarked(path);
@@ -282,7 +247,7 @@ static void slow_disks(void) {
 
 /* A purge of the host, and slots without a mark before it: what the host takes after that is held, and given back with its value. */
 static void purged_before(void) {
-    const char *path = folder("before");
+    const char *path = folder("before", 1024, 7);
     static const unsigned char stored[MG_VALUE_LENGTH] = "what is stored";
     struct mg_session *session, *other;
     struct mg_host *host;

@@ -20,6 +20,7 @@ import sys
 import time
 
 import heard  # noqa: F401
+from checks import expect, finish, until
 
 mg_lock, dlm, work = map(os.path.abspath, sys.argv[1:4])
 rounds = int(sys.argv[4]) if len(sys.argv) > 4 else 4
@@ -31,15 +32,6 @@ package = os.path.join(os.path.dirname(os.path.abspath(__file__)), "..", "python
 sys.path.insert(0, package)
 from midgegalena import Session  # noqa: E402
 
-checks = failed = 0
-
-
-def expect(well, what):
-    global checks, failed
-    checks += 1
-    if not well:
-        failed += 1
-        print("failed:", what, flush=True)
 
 
 def folder(slots=512, disks=3):
@@ -66,16 +58,6 @@ def commands():
 
 def signs():
     return [name for name in os.listdir(images) if name.startswith("mg-lock.")]
-
-
-def until(what, seconds=20):
-    """Whether it came true in time."""
-    end = time.monotonic() + seconds
-    while time.monotonic() < end:
-        if what():
-            return True
-        time.sleep(0.01)
-    return False
 
 
 def left_nothing(what):
@@ -679,5 +661,4 @@ for test in (statuses, pages, environment, waits, modes, signals, before_the_com
              of_another_machine, numbers, lost_disks, unmarked,
              lambda: counted(1), lambda: counted(8), lambda: counted(2, kills=4 * rounds)):
     test()
-print(f"mg_lock: {checks} checks, {failed} failed")
-sys.exit(failed > 0)
+finish("mg_lock")

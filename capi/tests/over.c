@@ -20,6 +20,7 @@
 
 #include "device_faults.h"
 #include "expect.h"
+#include "folders.h"
 
 #define SYNC 2000   /* microseconds */
 
@@ -32,13 +33,6 @@ enum { HOSTS = 5, FIRST_HOST = 2, TAKES = 20, SECONDS = 6, SLOTS = 2048, FEW_SLO
 
 /* Slots that are left in the log, as the busy hosts know it. */
 static volatile uint32_t *slots_left;
-static const char *work;
-
-static int64_t milliseconds(void) {
-    struct timespec now;
-    clock_gettime(CLOCK_MONOTONIC, &now);
-    return (int64_t)now.tv_sec * 1000 + now.tv_nsec / MILLION;
-}
 
 static void works(const char *folder, unsigned host) {
     struct mg_session *session;

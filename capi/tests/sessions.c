@@ -16,31 +16,7 @@
 #include <unistd.h>
 
 #include "expect.h"
-
-static const char *work;
-
-/* A new folder of images, below the one that is given. */
-static const char *folder(const char *name, unsigned slots, uint64_t cluster) {
-    static char paths[32][300];
-    static int count = 0;
-    char *path = paths[count++ % 32];
-    snprintf(path, sizeof paths[0], "%s/%s", work, name);
-    IS(mkdir(path, 0777), 0);
-    IS(mg_format(path, 3, slots, cluster, NULL), MG_OK);
-    return path;
-}
-
-static int64_t milliseconds(void) {
-    struct timespec now;
-    clock_gettime(CLOCK_MONOTONIC, &now);
-    return (int64_t)now.tv_sec * 1000 + now.tv_nsec / 1000000;
-}
-
-static struct mg_session *begun(const char *path, unsigned host, unsigned flags) {
-    struct mg_session *session;
-    IS(mg_begin(path, host, flags, &session, NULL), MG_OK);
-    return session;
-}
+#include "folders.h"
 
 /* What the log has, by a look of its own. */
 static uint64_t length_of(const char *path) {
@@ -50,16 +26,6 @@ static uint64_t length_of(const char *path) {
     IS(mg_look(eye, &learned), MG_OK);
     mg_close(eye);
     return learned;
-}
-
-static size_t locks_of(const char *path) {
-    struct mg_host *eye;
-    size_t count = 0;
-    IS(mg_open_to_look(path, &eye, NULL), MG_OK);
-    IS(mg_look(eye, NULL), MG_OK);
-    IS(mg_locks(eye, NULL, 0, &count), MG_OK);
-    mg_close(eye);
-    return count;
 }
 
 static int told_to;

@@ -49,6 +49,23 @@ static void removed(const char *folder, struct mg_session *session) {
     }
 }
 
+/* A sign that is removed each time: eight times it is made anew, and then the call says so, and nothing is held. */
+static void removed_each_time(const char *folder, struct mg_session *session) {
+    struct mg_held held;
+    removals = 8;
+    IS(mg_take(session, "db", MG_EX, 0, &held), MG_OK);
+    IS(has_sign(folder, session, held.lock), true);
+    IS(mg_give(session, held.lock, NULL), MG_OK);
+    removals = 1000;
+    errno = 0;
+    IS(mg_take(session, "db", MG_EX, 0, &held), MG_NO_LOCK);
+    IS(errno, EBUSY);
+    IS(removals, 1000 - 9);
+    removals = 0;
+    IS(mg_take(session, "db", MG_EX, 0, &held), MG_OK);
+    IS(mg_give(session, held.lock, NULL), MG_OK);
+}
+
 /* Where each number that comes next has a link in the place of a sign. */
 static void linked(const char *folder, struct mg_session *session) {
     char path[500], made[500];
@@ -79,6 +96,7 @@ int main(int argc, char **argv) {
     for (unsigned flags = 0; flags <= MG_SHARE; flags += MG_SHARE) {
         IS(mg_begin(argv[1], 0, flags, &session, NULL), MG_OK);
         removed(argv[1], session);
+        removed_each_time(argv[1], session);
         linked(argv[1], session);
         mg_end(session);
     }

@@ -15,28 +15,10 @@ import time
 from concurrent.futures import ThreadPoolExecutor
 
 import heard  # noqa: F401
+from checks import expect, finish, until
 
 mg_lock, dlm, work, with_answers = map(os.path.abspath, sys.argv[1:])
 images, held = os.path.join(work, "images"), os.path.join(work, "held")
-checks = failed = 0
-
-
-def expect(well, what):
-    global checks, failed
-    checks += 1
-    if not well:
-        failed += 1
-        print("failed:", what, flush=True)
-
-
-def until(what, seconds=20):
-    """Whether it came true in time."""
-    end = time.monotonic() + seconds
-    while time.monotonic() < end:
-        if what():
-            return True
-        time.sleep(0.01)
-    return False
 
 
 def run(*words, by=mg_lock, **more):
@@ -233,5 +215,4 @@ os.mkdir(images)
 subprocess.run([dlm, "format", images, "3", "2048", "7"], check=True, stdout=subprocess.DEVNULL)
 for test in (of_the_group, witnesses, job_control, looks_on, by_the_shell, causes, late):
     test()
-print(f"signals: {checks} checks, {failed} failed")
-sys.exit(failed > 0)
+finish("signals")

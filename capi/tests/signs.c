@@ -15,11 +15,11 @@
 #include <unistd.h>
 
 #include "expect.h"
+#include "folders.h"
 
 int __real_open(const char *path, int flags, ...);
 int __real_stat(const char *path, struct stat *facts);
 
-static const char *work;
 static int refusal = 0; /* why signs cannot be opened and looked at; 0: they can */
 
 static int is_refused(const char *path) {
@@ -40,16 +40,6 @@ int __wrap_open(const char *path, int flags, ...) {
 }
 
 int __wrap_stat(const char *path, struct stat *facts) { return is_refused(path) ? -1 : __real_stat(path, facts); }
-
-static const char *folder(const char *name, uint64_t cluster) {
-    static char paths[8][300];
-    static int count = 0;
-    char *path = paths[count++ % 8];
-    snprintf(path, sizeof paths[0], "%s/%s", work, name);
-    IS(mkdir(path, 0777), 0);
-    IS(mg_format(path, 3, 64, cluster, NULL), MG_OK);
-    return path;
-}
 
 /* A process of host 0 takes db, and is killed. */
 static void leave(const char *path, unsigned flags) {
@@ -75,7 +65,7 @@ static void leave(const char *path, unsigned flags) {
     } while (0)
 
 static void left_over(const char *name, int cause, unsigned flags) {
-    const char *path = folder(name, 7);
+    const char *path = folder(name, 64, 7);
     struct mg_session *session, *other;
     struct mg_held held;
     unsigned released = 9;
@@ -103,7 +93,7 @@ static void left_over(const char *name, int cause, unsigned flags) {
 
 /* The lock is carried into a later set, and its sign is linked there, as a renewal does it; then that cannot be looked at. (No renewal here.) */
 static void carried(void) {
-    const char *old = folder("old", 7), *next = folder("next", 8);
+    const char *old = folder("old", 64, 7), *next = folder("next", 64, 8);
     char link_to[300], moved[300], sign[400], linked[400];
     struct mg_session *session;
     struct mg_host *host;
@@ -131,7 +121,7 @@ static void carried(void) {
 
 /* A sign that is a link is nobody's: what it leads to is neither made nor locked. */
 static void linked(void) {
-    const char *path = folder("linked", 7);
+    const char *path = folder("linked", 64, 7);
     char sign[400], target[400];
     struct mg_session *session;
     struct mg_held held;

@@ -12,21 +12,12 @@ import shutil
 import signal
 import subprocess
 import sys
-import time
 
 import heard  # noqa: F401
+from checks import expect, finish, until
 
 mg_lock, dlm, work = map(os.path.abspath, sys.argv[1:])
 images = os.path.join(work, "images")
-checks = failed = 0
-
-
-def expect(well, what):
-    global checks, failed
-    checks += 1
-    if not well:
-        failed += 1
-        print("failed:", what, flush=True)
 
 
 def folder(slots=64, disks=3):
@@ -57,15 +48,6 @@ def told(status=0):
     for lock in told["locks"] or []:
         expect(list(lock) == ["name", "lock", "client", "host", "held", "wanted", "sign"], f"keys {list(lock)}")
     return told
-
-
-def until(what, seconds=20):
-    end = time.monotonic() + seconds
-    while time.monotonic() < end:
-        if what():
-            return True
-        time.sleep(0.01)
-    return False
 
 
 def begin(host, name, command="exec sleep 1000", *options):
@@ -322,5 +304,4 @@ def wrong_use():
 
 for test in (empty, names, queues, hosts, killed, without_proc, only_looks, damaged, read_only, full, wrong_use):
     test()
-print(f"status.py: {checks} checks, {failed} failed")
-sys.exit(failed > 0)
+finish("status.py")

@@ -13,24 +13,17 @@ import subprocess
 import sys
 import time
 
+from checks import expect, finish, until
+
 mg_lock, library, *works = map(os.path.abspath, sys.argv[1:])
 sys.path.insert(0, os.path.join(os.path.dirname(os.path.dirname(os.path.realpath(__file__))), "python"))
 from midgegalena import Refused, Session, format_images  # noqa: E402
 
 TIMED_OUT, HOST_IN_USE = 75, 36
 LATE = 10  # seconds, also where the machine has other work
-checks = failed = 0
 latest = 0.0
 # Where this runs in the background it may be ignored, and what is ignored stays so.
 signal.signal(signal.SIGINT, signal.default_int_handler)
-
-
-def expect(well, what):
-    global checks, failed
-    checks += 1
-    if not well:
-        failed += 1
-        print("failed:", what, flush=True)
 
 
 def begin(*words):
@@ -47,13 +40,6 @@ def waiting(folder):
     return locks(folder, False)
 
 
-def until(what, seconds=60):
-    end = time.monotonic() + seconds
-    while not what() and time.monotonic() < end:
-        time.sleep(0.02)
-    return what()
-
-
 def new_folder(work, name):
     folder = os.path.join(work, name)
     os.mkdir(folder)
@@ -64,7 +50,7 @@ def new_folder(work, name):
 def held(folder):
     """A process of host 1 that has db until it is told to end."""
     holder = begin(folder, 1, "db", "--", "sleep", 1000)
-    expect(until(lambda: locks(folder, True) == 1), "it holds")
+    expect(until(lambda: locks(folder, True) == 1, 60), "it holds")
     return holder
 
 
@@ -96,7 +82,7 @@ def interrupted(work, many):
     what, folder = f"{many} are interrupted in {work}", new_folder(work, f"interrupted{many}")
     holder = held(folder)
     processes = [begin(folder, 0, "db", "--", "true") for _ in range(many)]
-    expect(until(lambda: waiting(folder) == many), f"{what}: they wait")
+    expect(until(lambda: waiting(folder) == many, 60), f"{what}: they wait")
     for process in processes:
         process.send_signal(signal.SIGINT)
     end(processes, -signal.SIGINT, what)
@@ -128,7 +114,7 @@ def number_is_away(work):
     what, folder = "the number is somebody's", new_folder(work, "away")
     holder = held(folder)
     process = begin(folder, 0, "db", "--", "true")
-    expect(until(lambda: waiting(folder) == 1), f"{what}: it waits")
+    expect(until(lambda: waiting(folder) == 1, 60), f"{what}: it waits")
     with alone(folder):
         process.send_signal(signal.SIGTERM)
         time.sleep(6)
@@ -142,5 +128,4 @@ for work in works:
         interrupted(work, many)
         out_of_time(work, many)
 number_is_away(works[0])
-print(f"turns: {checks} checks, {failed} failed, the latest end {latest:.2f} s after it was wanted")
-sys.exit(failed > 0)
+finish("turns", f", the latest end {latest:.2f} s after it was wanted")

@@ -27,6 +27,7 @@
 #include <unistd.h>
 
 #define MOST_FILES 1024
+#define PART 4096 /* a longer write is several records */
 #define OLD 10
 #define RENEWED 20
 #define DRAFT 21
@@ -192,8 +193,8 @@ ssize_t pwrite(int fd, const void *from, size_t length, off_t at) {
     if (ends)
         length = next_random() % (length + 1);
     one_at_a_time(1);
-    if (log_fd >= 0)
-        note('W', image - 1, (uint64_t)at, from, (uint32_t)length);
+    for (size_t n = 0; log_fd >= 0 && n < length; n += PART)
+        note('W', image - 1, (uint64_t)at + n, (const char *)from + n, (uint32_t)(length - n < PART ? length - n : PART));
     ssize_t done = pieces(fd, (char *)from, length, at, write_piece, 1);
     if (ends)
         _exit(137);

@@ -8,6 +8,7 @@ use Rattle.attempt.specs.Answers.{heard_as}
 use Rattle.attempt.specs.History.{Fits}
 use Rattle.attempt.specs.Looking.{OnlyReads}
 use Rattle.paxos_block.specs.Shape.{Shape}
+use Rattle.folders.specs.Folders.{IsSmall}
 use Rattle.lock_command.specs.declared.command.Command.{Command}
 use Rattle.lock_command.specs.declared.reply.Reply.{Reply}
 use Rattle.host.specs.Host.{Memory, Doing, Attempts, Operation, Submitting, Recovering, goes_on, starts_marking, looks_on, hears_from, next_in, reply_after}

@@ -30,10 +30,10 @@ use Rattle.at_once.specs.Power.{LosesPower}
 use Rattle.epochs.specs.Showing.{moved}
 use Rattle.epochs.specs.Numbers.{write_over}
 use Rattle.epochs.specs.Acts.{Epoch, base_of, Act, In, Beside, Turns, Ends, IsModelCrash}
-use Rattle.epochs.specs.Bytes.{number_place, MayCall, HappensIn, IsBeat, IsApart, GoesTo, ServesCalls}
-use Rattle.epochs.specs.Beats.{Beat, Idle, Attached, Rested, Writing, due_in, writes_on, hears, Beats, none_beats, with_beat, HasCleared, IsBeating, beats_after, GoesBeating, ServesBeats, BeatsServe, BeatsServeOn}
+use Rattle.epochs.specs.Bytes.{number_place, MayCall, HappensIn, IsBeat, IsApart, GoesTo, ServesCalls, GoesAlong, ReadBytesShow}
+use Rattle.epochs.specs.Beats.{Beat, Idle, Attached, Rested, Writing, due_in, writes_on, hears, Beats, none_beats, with_beat, HasCleared, IsBeating, beats_after, GoesBeating, ServesBeats, BeatsServe, BeatsServeOn, GoesAlongBeats, ReadBeatsShow}
 use Rattle.epochs.proofs.Showing.{part_is, length-part}
-use Rattle.epochs.proofs.Bytes.{body_fits, blocks_apart, lies_on, off_area, calls_serve, calls_serve_on}
+use Rattle.epochs.proofs.Bytes.{body_fits, blocks_apart, lies_on, off_area, calls_serve, calls_serve_on, read_model_bytes_show, read_file_bytes_show}
 
 -- the write of a host's block in a row of standings
 abbrev written_over : (n area host : ℕ) → List ℕ → Write128
@@ -442,6 +442,22 @@ module _ (IsCrash : DiskState → DiskState → Type 0)
   beats_are_calls (act ∷ acts) whole beats known all =
       let by = one act whole all.0 beats all.1 known all.2 in (all.0, by.goes, beats_are_calls acts all.0 all.1 by.known_then all.3)
 
+  record Along (acts : List Act) (whole last : DiskState) (last_beats : Beats) : Type 0 where
+    goes : GoesAlong IsCrash c k n whole acts last
+    known_last : Known n last last_beats
+
+  beats_along : (acts : List Act) (whole last : DiskState) (beats last_beats : Beats) → Known n whole beats → GoesAlongBeats IsCrash c k n whole beats acts last last_beats → Along acts whole last last_beats
+  beats_along [] whole last beats last_beats known all = record { goes = all.0; known_last = subst (Known n last) (sym all.1) (subst (λ (d : DiskState). Known n d beats) (sym all.0) known) }
+  beats_along (act ∷ acts) whole last beats last_beats known all =
+      let by = one act whole all.0 beats all.1 known all.2 in
+      let rest = beats_along acts all.0 last all.1 last_beats by.known_then all.3 in record { goes = (all.0, by.goes, rest.goes); known_last = rest.known_last }
+
+model_leaves : (old new : DiskState) → IsModelCrash old new → KeepsSynced old.unsynced old.bytes new.bytes × (new.unsynced ≡ replicate (length old.bytes) false) × ((new.boot ≡ old.boot + 1) ⊎ (new.boot ≡ old.boot))
+model_leaves old new crash = (crash.1.bytes, crash.1.unsynced, inl crash.1.boot)
+
+power_leaves : (old new : DiskState) → LosesPower old new → KeepsSynced old.unsynced old.bytes new.bytes × (new.unsynced ≡ replicate (length old.bytes) false) × ((new.boot ≡ old.boot + 1) ⊎ (new.boot ≡ old.boot))
+power_leaves old new crash = (crash.bytes, crash.unsynced, inr (crash.after ∙ sym crash.before))
+
 known_first : (n size : ℕ) → 4096 ≤ n → 4096 + n + n ≤ size → Known n (fresh_disk size) none_beats
 unfolding fresh_disk Knows
 known_first n size row fits =
@@ -451,9 +467,26 @@ known_first n size row fits =
 pub beats_serve : BeatsServe
 beats_serve c k n size e acts row fits all =
     calls_serve c k n size e acts row fits
-    (beats_are_calls IsModelCrash (λ old new crash. (crash.1.bytes, crash.1.unsynced, inl crash.1.boot)) c k n acts (fresh_disk size) none_beats (known_first n size row fits) all)
+    (beats_are_calls IsModelCrash model_leaves c k n acts (fresh_disk size) none_beats (known_first n size row fits) all)
 
 pub beats_serve_on : BeatsServeOn
 beats_serve_on c k n size e acts row fits all =
     calls_serve_on c k n size e acts row fits
-    (beats_are_calls LosesPower (λ old new crash. (crash.bytes, crash.unsynced, inr (crash.after ∙ sym crash.before))) c k n acts (fresh_disk size) none_beats (known_first n size row fits) all)
+    (beats_are_calls LosesPower power_leaves c k n acts (fresh_disk size) none_beats (known_first n size row fits) all)
+
+-- READINGS
+
+read_beats_show : (IsCrash : DiskState → DiskState → Type 0)
+    → ((old new : DiskState) → IsCrash old new → KeepsSynced old.unsynced old.bytes new.bytes × (new.unsynced ≡ replicate (length old.bytes) false) × ((new.boot ≡ old.boot + 1) ⊎ (new.boot ≡ old.boot)))
+    → ReadBytesShow IsCrash → ReadBeatsShow IsCrash
+read_beats_show IsCrash leaves shows c k n size e first row second first_beats row_beats second_beats early before behind is_area row_fits fits from_first to_row none_before to_second none_behind clear =
+    let start = beats_along IsCrash leaves c k n early (fresh_disk size) first none_beats first_beats (known_first n size row_fits fits) from_first in
+    let there = beats_along IsCrash leaves c k n before first row first_beats row_beats start.known_last to_row in
+    let end = beats_along IsCrash leaves c k n behind row second row_beats second_beats there.known_last to_second in
+    shows c k n size e first row second early before behind is_area row_fits fits start.goes there.goes none_before end.goes none_behind clear
+
+pub read_model_beats_show : ReadBeatsShow IsModelCrash
+read_model_beats_show = read_beats_show IsModelCrash model_leaves read_model_bytes_show
+
+pub read_file_beats_show : ReadBeatsShow LosesPower
+read_file_beats_show = read_beats_show LosesPower power_leaves read_file_bytes_show

@@ -3,6 +3,7 @@ pub mod Bytes
 pub mod Numbers
 pub mod OneLog
 pub mod Readings
+pub mod Rounds
 pub mod Serving
 pub mod Showing
 pub mod Standings

@@ -16,8 +16,8 @@ use Rattle.at_once.specs.AtOnce.{Serves}
 use Rattle.at_once.specs.Power.{LosesPower, ServesOn}
 use Rattle.epochs.specs.Showing.{IsCleared}
 use Rattle.epochs.specs.Numbers.{write_over}
-use Rattle.epochs.specs.Acts.{epoch_of, base_of, Act, In, Beside, Turns, Ends, part, IsModelCrash}
-use Rattle.epochs.specs.Bytes.{number_place, IsApart, GoesTo}
+use Rattle.epochs.specs.Acts.{Epoch, epoch_of, base_of, Act, In, Beside, Turns, Ends, part, IsModelCrash, HasNoCrash, shown_by, AreClear}
+use Rattle.epochs.specs.Bytes.{number_place, AreShown, IsApart, GoesTo, read_on}
 
 -- ONE BEAT
 
@@ -113,3 +113,19 @@ abbrev pub BeatsServeOn : Type 0
 BeatsServeOn =
     (c : Shape) (k n size e : ℕ) (acts : List Act) → ROW_LENGTH ≤ n → ROW_LENGTH + n + n ≤ size → ServesBeats LosesPower c k n (fresh_disk size) none_beats acts →
     ServesOn c k (fresh_disk n) (part (epoch_of e) acts)
+
+-- READINGS
+
+-- each leads from one to the next, the first from here and the last there
+abbrev pub GoesAlongBeats : (DiskState → DiskState → Type 0) → Shape → ℕ → ℕ → DiskState → Beats → List Act → DiskState → Beats → Type 0
+GoesAlongBeats IsCrash c k n old beats [] last last_beats = (last ≡ old) × (last_beats ≡ beats)
+GoesAlongBeats IsCrash c k n old beats (act ∷ acts) last last_beats =
+    (new : DiskState) × (then_beats : Beats) × GoesBeating IsCrash c k n old beats act new then_beats × GoesAlongBeats IsCrash c k n new then_beats acts last last_beats
+
+-- What two readings of the standings show of bytes they show of what hosts do by what they heard.
+abbrev pub ReadBeatsShow : (DiskState → DiskState → Type 0) → Type 0
+ReadBeatsShow IsCrash =
+    (c : Shape) (k n size : ℕ) (e : Epoch) (first row second : DiskState) (first_beats row_beats second_beats : Beats) (early before behind : List Act) → e.area < 2 → ROW_LENGTH ≤ n → ROW_LENGTH + n + n ≤ size →
+    GoesAlongBeats IsCrash c k n (fresh_disk size) none_beats early first first_beats → GoesAlongBeats IsCrash c k n first first_beats before row row_beats → HasNoCrash before →
+    GoesAlongBeats IsCrash c k n row row_beats behind second second_beats → HasNoCrash behind → AreClear e (read_on n e first) (read_on n e second) →
+    AreShown n e (shown_by e (read_on n e first) (read_on n e second)) row.bytes

@@ -4,4 +4,5 @@ pub mod Bytes
 pub mod Laws
 pub mod Numbers
 pub mod OneLog
+pub mod Rounds
 pub mod Showing

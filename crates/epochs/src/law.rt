@@ -1,11 +1,12 @@
 // Areas of disks that are used again for each epoch: what an area shows, the numbers of hosts, and what hosts of all epochs do.
 ghost use Rattle.at_once.specs.Power.{LosesPower};
 ghost use Rattle.epochs.specs.Acts.{AreasServe, AreasServeOn, IsModelCrash, ReadingsShow};
-ghost use Rattle.epochs.specs.Beats.{BeatsServe, BeatsServeOn};
+ghost use Rattle.epochs.specs.Beats.{BeatsServe, BeatsServeOn, ReadBeatsShow};
 ghost use Rattle.epochs.specs.Bytes.{CallsServe, CallsServeOn, ReadBytesShow};
 ghost use Rattle.epochs.specs.Laws.{OwnCallsAreSteps, OwnTearsAreTears, OthersLeaveIt, CrashesAreCrashes, LossesAreLosses, StandingsChangeNothing, FreshDisksShowNothing, NobodyShowsNothing};
 ghost use Rattle.epochs.specs.Numbers.{ZerosAreNone, OthersLeaveNumbers, SyncsMakeSure, CrashesLeaveOne, WritesAreNext, WritesRaise};
 ghost use Rattle.epochs.specs.OneLog.{EpochsAreAtOnce, EpochsAreOverLosses, EpochsAreRuns};
+ghost use Rattle.epochs.specs.Rounds.{RoundsMakeTheseCalls};
 
 /// For each epoch an area of a disk shows an image. What hosts of the epoch do is done to that image; what is done for other epochs
 /// is not; and it is no matter when a host comes or leaves.
@@ -59,6 +60,11 @@ pub fn beats_serve()
     ensures serves { BeatsServe }
     // So it is with a file, over losses of power.
     ensures power { BeatsServeOn }
+    // Two readings of the standings show the same.
+    ensures readings { ReadBeatsShow IsModelCrash }
+    ensures readings_on { ReadBeatsShow LosesPower }
+    // A round that beats there makes these calls.
+    ensures rounds { RoundsMakeTheseCalls }
 {}
 
 /// So what is done in an epoch is a run of the world that begins on zeros, and has one log.

@@ -1,5 +1,5 @@
 use cluster::HostFault;
-use lock_table::Reply;
+use lock_command::Reply;
 
 /// What a host's bid came to: its slot and the lock table's reply, or why it was refused.
 #[derive(Clone, Copy, Debug, PartialEq, Eq)]

@@ -4,8 +4,7 @@ ghost use Rattle.cluster.specs.declared.fault.HostFault.TheVariants.{NoMemory};
 use crate::answer::Answer;
 use cluster::HostFault;
 use crossbeam_channel::Receiver;
-use lock_command::HostNumber;
-use lock_table::is_same_reply;
+use lock_command::{HostNumber, is_same_reply};
 use std::alloc::{AllocError, Global};
 use std::sync::Wait;
 

@@ -9,9 +9,8 @@ use cluster::{
 };
 use disk::{Disk, SimDisk};
 use lock_command::{
-    Action, ClientNumber, Command, HostNumber, LockName, LockNumber, Mode, RequestNumber,
+    Action, Answer, ClientNumber, Command, HostNumber, LockName, LockNumber, Mode, RequestNumber,
 };
-use lock_table::Answer;
 use std::alloc::Global;
 use std::marker::Brand;
 use std::sync::Wait;
