@@ -33,24 +33,30 @@ runs_who_says : (host : Host) (said : HostAnswer) → said_of host ≡ Some said
 runs_who_says Stopped said is = absurd (cc)
 runs_who_says (Running m) said is = (m, refl)
 
+-- where something is chosen in an epoch, somebody is running there
+pub record IsSomebody (c : Shape) (lived : List Lived) (e : ℕ) : Type 0 where
+  pub place : ℕ
+  pub host : ℕ
+  pub memory : Memory
+  pub runs : RunsIn c lived place e host memory
+
+pub runs_who_chose : (c : Shape) (lived : List Lived) (run : (e : ℕ) → IsRun c (part e lived)) (fresh : (e : ℕ) → migrated (part e lived) ≡ []) (e slot : ℕ) (value : List ℕ) → IsChosen c (part e lived) slot value → IsSomebody c lived e
+runs_who_chose c lived run fresh e slot value (inl is) =
+    let hears = is.1.hears in
+    let within = slice_get_within (part e lived) is.0 _ hears.entry in
+    let k = place_for e lived is.0 (omega (arith, within)) in
+    record { place = k.0; host = hears.host; memory = hears.memory; runs = ap (λ (n : ℕ). (at c (part e lived) n).host hears.host) k.1 ∙ hears.running }
+runs_who_chose c lived run fresh e slot value (inr is) = absurd (none_migrated c (part e lived) (run e) (fresh e) slot value is)
+
 module _ (c : Shape) (lived : List Lived) (last : ℕ) (run : (e : ℕ) → IsRun c (part e lived)) (fresh : (e : ℕ) → migrated (part e lived) ≡ []) (keeps : KeepsToEpochs c lived) (is_last : IsLast c lived run keeps.in_turn last) (l : Logs c lived last) where
   abbrev stretch : ℕ → Stretch
   stretch e = record { over = l.over e; behind = l.behind e }
 
   -- WHERE COMMANDS COME FROM
 
-  -- where a host is running at a place of an epoch, the epoch is not behind the last
-  reached_at : (e i h : ℕ) (memory : Memory) → i ≤ length (part e lived) → (at c (part e lived) i).host h ≡ Running memory → e ≤ last
-  reached_at e i h memory within running =
-      let k = place_for e lived i within in
-      is_last.none k.0 e h memory (ap (λ (n : ℕ). (at c (part e lived) n).host h) k.1 ∙ running)
-
+  -- something is chosen in no later epoch than the last
   reached_chosen : (e slot : ℕ) (value : List ℕ) → IsChosen c (part e lived) slot value → e ≤ last
-  reached_chosen e slot value (inl is) =
-      let hears = is.1.hears in
-      let within = slice_get_within (part e lived) is.0 _ hears.entry in
-      reached_at e is.0 hears.host hears.memory (omega (arith, within)) hears.running
-  reached_chosen e slot value (inr is) = absurd (none_migrated c (part e lived) (run e) (fresh e) slot value is)
+  reached_chosen e slot value is = let who = runs_who_chose c lived run fresh e slot value is in is_last.none who.place e who.host who.memory who.runs
 
   put_in : (e slot : ℕ) (command : Command) → slice_get (l.logs e) slot ≡ Some command → IsPutBy c (part e lived) slot (spelling command)
   put_in e slot command found = put_chosen c (part e lived) (run e) (fresh e) slot (spelling command) ((l.safe e).is_log.chosen slot (spelling command) (map_there (l.logs e) slot command found))

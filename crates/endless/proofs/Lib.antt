@@ -6,6 +6,7 @@ pub mod Last
 pub mod Lists
 pub mod Lived
 pub mod Logs
+pub mod Other
 pub mod Places
 pub mod Puts
 pub mod Shared

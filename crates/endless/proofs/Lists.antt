@@ -1,7 +1,7 @@
 -- Beginnings of lists, and what stands behind a beginning.
 use Rattle.std.specs.Prelude.{◌-◌, take, drop, slice_get}
 use Rattle.std.proofs.Common.{ℕ, zero, suc, ◌+◌, ◌<◌, ◌≤◌, ◌≡◌, Some, List, [], ◌∷◌, ◌++◌, length, refl, sym, subst, ap, ◌∙◌, arith}
-use Rattle.std.proofs.lemmas.List.{length-take, length-take-le, take-take, take-append-le, take_at}
+use Rattle.std.proofs.lemmas.List.{length-take, length-take-le, take-take, take-append-le, take_all, take_at}
 use Rattle.world.specs.Headline.{IsPrefix}
 
 pub prefix_short : {A : Type 0} (a b : List A) → IsPrefix a b → length a ≤ length b
@@ -49,3 +49,13 @@ pub item_below : {A : Type 0} (l : List A) (n : ℕ) → n < length l → (x : A
 item_below [] n less = absurd (omega (arith, less))
 item_below (x ∷ l) zero less = (x, refl)
 item_below (x ∷ l) (suc n) less = item_below l n (omega (arith, less))
+
+pub drop_get : {A : Type 0} (n : ℕ) (l : List A) (k : ℕ) (x : A) (j : ℕ) → slice_get (drop n l) k ≡ Some x → j ≡ n + k → slice_get l j ≡ Some x
+drop_get zero l k x j found at = let same : k ≡ j = omega (arith, at) in subst (λ (m : ℕ). slice_get l m ≡ Some x) same found
+drop_get (suc n) [] k x j found at = absurd (cc)
+drop_get (suc n) (y ∷ l) k x zero found at = absurd (omega (arith, at))
+drop_get (suc n) (y ∷ l) k x (suc j) found at = drop_get n l k x j found (omega (arith, at))
+
+-- lists that begin one another are the same
+pub prefix_both : {A : Type 0} (a b : List A) → IsPrefix a b → IsPrefix b a → a ≡ b
+prefix_both a b ab ba = let one = prefix_short a b ab in let two = prefix_short b a ba in ab ∙ take_all (length a) b (omega (arith, one, two))

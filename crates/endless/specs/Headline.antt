@@ -3,6 +3,8 @@ use Rattle.std.specs.Prelude.{◌≡◌, ◌⊎◌, ◌+◌, ◌-◌, ◌<◌, �
 use Rattle.lock_command.specs.declared.command.Command.{Command}
 use Rattle.lock_command.specs.Command.{spelling, is_submittable}
 use Rattle.lock_command.specs.declared.reply.Reply.{Reply}
+use Rattle.lock_command.specs.declared.record.TheConstants.{LOCKS}
+use Rattle.lock_table.specs.declared.clients.TheConstants.{CLIENTS}
 use Rattle.lock_table.specs.Apply.{table_after}
 use Rattle.lock_table.specs.Carrying.{carried_over}
 use Rattle.lock_table.specs.Picture.{Shown, IsPictureOf}
@@ -156,3 +158,12 @@ pub record HasOneLogWithoutEnd (c : Shape) (lived : List Lived) : Type 0 where
 abbrev pub EndlessHeadline : Type 0
 EndlessHeadline =
     (c : Shape) (lived : List Lived) → ((e : ℕ) → IsRun c (part e lived)) → ((e : ℕ) → migrated (part e lived) ≡ []) → KeepsToEpochs c lived → HasOneLogWithoutEnd c lived
+
+-- There is no second such log.
+abbrev pub EndlessLogsAreOne : Type 0
+EndlessLogsAreOne =
+    (c : Shape) (lived : List Lived) → ((e : ℕ) → IsRun c (part e lived)) → ((e : ℕ) → migrated (part e lived) ≡ []) → (one other : HasOneLogWithoutEnd c lived) → one.commands ≡ other.commands
+
+-- What carries a table over has room where there is a slot for each lock and each client.
+abbrev pub LongEpochsHaveRoom : Type 0
+LongEpochsHaveRoom = (c : Shape) (lived : List Lived) (e : ℕ) (over : List Command) → LOCKS + CLIENTS ≤ c.slots → CarriesInto c lived e over → length over ≤ c.slots

@@ -1,6 +1,6 @@
 // What the logs of epochs, one after another, are together.
 ghost use Rattle.endless.specs.Epochs.{CarriedComesFirst, TablesGoOn, EpochsGoOn};
-ghost use Rattle.endless.specs.Headline.{EndlessHeadline};
+ghost use Rattle.endless.specs.Headline.{EndlessHeadline, EndlessLogsAreOne, LongEpochsHaveRoom};
 ghost use Rattle.endless.specs.Lived.{RecoveriesAreOfTheLast};
 ghost use Rattle.endless.specs.WithoutEnd.{OneLogWithoutEnd, SharedHaveOneLog};
 
@@ -28,6 +28,9 @@ pub fn one_log_without_end()
 /// them.
 pub fn endless_headline()
     ensures headline { EndlessHeadline }
+    ensures no_other { EndlessLogsAreOne }
+    // What carries a table over has room in an epoch of 288 slots.
+    ensures room { LongEpochsHaveRoom }
     // So it is over shared disks, with the bytes that faults left overlooked.
     ensures shared { SharedHaveOneLog }
 {}
