@@ -1,6 +1,7 @@
 -- Two epochs, computed: each is a run, and hosts keep to them.
 use Rattle.std.specs.Prelude.{◌-◌, not, map, take, slice_get, if◌then◌else◌}
-use Rattle.std.proofs.Common.{ℕ, zero, suc, ◌≡◌, ◌==◌, ◌≤◌, ◌<◌, ◌&&◌, Bool, true, false, cond, Option, Some, None, List, [], ◌∷◌, ◌++◌, length, refl, sym, ◌∙◌, ap, subst, ◌⊎◌, inl, inr, arith, append-nil}
+use Rattle.std.proofs.Common.{ℕ, zero, suc, ◌+◌, ◌≡◌, ◌==◌, ◌≤◌, ◌<◌, ◌&&◌, Bool, true, false, cond, Option, Some, None, List, [], ◌∷◌, ◌++◌, length, refl, sym, ◌∙◌, ap, subst, ◌⊎◌, inl, inr, arith, append-nil}
+use Rattle.std.proofs.lemmas.List.{length-map}
 use Rattle.std.proofs.lemmas.Bool.{cases_lt, eqb-true, eq-eqb, ne_eqb}
 use Rattle.disk.specs.Simulated.{fresh_disk}
 use Rattle.torn_block.specs.Block.{sequence_of, body_of, number_bytes, tail_with}
@@ -11,29 +12,32 @@ use Rattle.lock_command.specs.declared.command.Command.{Command}
 use Rattle.lock_command.specs.Command.{number, is_carried, is_submittable}
 use Rattle.lock_command.specs.Locks.{settled}
 use Rattle.lock_command.specs.Reading.{lock_at, request_at, mode_of, name_at, value_at, enqueue_at, answer_at, told_at, carried_client_at, action_at, command_at}
-use Rattle.lock_table.specs.Apply.{applied, table_after}
+use Rattle.lock_table.specs.Apply.{applied, granted, table_after}
 use Rattle.lock_table.specs.Carrying.{carried_over}
 use Rattle.lock_table.specs.Picture.{Shown, IsPictureOf, pictured}
 use Rattle.lock_table.proofs.Unique.{one_shown}
 use Rattle.paxos_block.specs.Shape.{Shape}
+use Rattle.host.specs.declared.answer.HostAnswer.TheVariants.{Ack}
 use Rattle.host.specs.declared.task.Task.TheVariants.{Submit}
-use Rattle.host.specs.Host.{Operation, Submitting, Recovering, Attempt, Doing, Attempts, Memory, Host, Stopped, Running, learned_of}
+use Rattle.host.specs.Host.{Operation, Submitting, Recovering, Attempt, Doing, Attempts, Memory, Host, Stopped, Running, learned_of, said_of}
 use Rattle.world.specs.Entry as entries
 use Rattle.world.specs.Entry.{Filled, Called, is_of, of_host, host_step, host_after}
 use Rattle.world.specs.World.{IsRun}
-use Rattle.world.specs.Chosen.{at, migrated}
+use Rattle.world.specs.Chosen.{at, migrated, IsAcknowledgedAt}
 use Rattle.world.specs.Headline.{prefix_at}
 use Rattle.world.specs.Happens.{Event, run}
 use Rattle.world.specs.Examples.{one_disk, takes_db}
 use Rattle.world.proofs.Runs.{run_is_run}
+use Rattle.world.proofs.ShortRuns.{operation_in, operation_of, busy_with}
 use Rattle.world_safety.specs.Tracks.{IsSubmittedBy, IsTrue, IsTrueOf, IsTrueDoing}
 use Rattle.world_safety.proofs.Claims.Renewing.{full_logs_are_final}
 use Rattle.world_safety.proofs.Runs.Tracks.{all_true}
 use Rattle.endless.specs.Epochs.{IsCallAt}
 use Rattle.endless.specs.Examples.{releases_db, takes_db_again, carries_client, submitting_both, first_epoch, second_epoch, two_epochs}
-use Rattle.endless.specs.Headline.{learned_in, CarriesInto, IsDue, SubmitsWhatIsDue, KeepsToEpochs}
+use Rattle.endless.specs.Headline.{learned_in, CarriesInto, IsAcknowledgedIn, IsDue, SubmitsWhatIsDue, KeepsToEpochs}
 use Rattle.endless.specs.Lived.{Lived, In, Crash, Loss, part, now, RunsIn, IsWholeBy}
 use Rattle.endless.proofs.Going.{has_picture}
+use Rattle.endless.proofs.Lists.{prefix_own, prefix_get, get_at, item_below}
 
 -- WHAT IS COMPUTED
 
@@ -96,6 +100,31 @@ own_second = refl
 order_second : all_in_order Stopped second_epoch ≡ true
 unfolding second_epoch fresh_disk sequence_of body_of number_bytes tail_with copy_in decoded_row zeros heading body_saying number_at claim_of is_said number lock_at request_at mode_of name_at enqueue_at answer_at told_at carried_client_at action_at command_at applied
 order_second = refl
+
+own_first : all_own first_epoch ≡ true
+unfolding first_epoch fresh_disk sequence_of body_of number_bytes tail_with copy_in decoded_row zeros heading body_saying number_at claim_of is_said number lock_at request_at mode_of name_at value_at enqueue_at action_at command_at applied settled
+own_first = refl
+
+many_second : length second_epoch ≡ 37
+unfolding second_epoch fresh_disk sequence_of body_of number_bytes tail_with copy_in decoded_row zeros heading body_saying number_at claim_of is_said number lock_at request_at mode_of name_at enqueue_at answer_at told_at carried_client_at action_at command_at applied
+many_second = refl
+
+-- with entry 18 of the first epoch its first command is acknowledged, and with the last entry of the second one its last command
+said_first : said_of ((at one_disk first_epoch 19).host 0) ≡ Some (Ack 0 granted)
+unfolding first_epoch fresh_disk sequence_of body_of number_bytes tail_with copy_in decoded_row zeros heading body_saying number_at claim_of is_said number lock_at request_at mode_of name_at value_at enqueue_at action_at command_at applied settled
+said_first = refl
+
+submits_first : operation_of ((at one_disk first_epoch 18).host 0) ≡ Some (Submitting takes_db)
+unfolding operation_in first_epoch fresh_disk sequence_of body_of number_bytes tail_with copy_in decoded_row zeros heading body_saying number_at claim_of is_said number lock_at request_at mode_of name_at value_at enqueue_at action_at command_at applied settled
+submits_first = refl
+
+said_second : said_of ((at one_disk second_epoch 37).host 0) ≡ Some (Ack 1 granted)
+unfolding second_epoch fresh_disk sequence_of body_of number_bytes tail_with copy_in decoded_row zeros heading body_saying number_at claim_of is_said number lock_at request_at mode_of name_at enqueue_at answer_at told_at carried_client_at action_at command_at applied
+said_second = refl
+
+submits_second : operation_of ((at one_disk second_epoch 36).host 0) ≡ Some (Submitting takes_db_again)
+unfolding operation_in second_epoch fresh_disk sequence_of body_of number_bytes tail_with copy_in decoded_row zeros heading body_saying number_at claim_of is_said number lock_at request_at mode_of name_at enqueue_at answer_at told_at carried_client_at action_at command_at applied
+submits_second = refl
 
 over_first : carried_over (pictured (table_after (takes_db ∷ releases_db ∷ []))) ≡ carries_client ∷ []
 unfolding pictured applied settled
@@ -362,4 +391,70 @@ keeps =
       in_turn = in_turn;
       carries = carries;
       fits = fits;
+    }
+
+-- WHAT IS ACKNOWLEDGED
+
+own_at : (log : List Filled) (i : ℕ) (x : Filled) → all_own log ≡ true → slice_get log i ≡ Some x → is_of 0 x ≡ true
+own_at [] i x own found = absurd (cc)
+own_at (y ∷ log) zero x own found = let same : y ≡ x = cc in ap (is_of 0) (sym same) ∙ (both_true (is_of 0 y) (all_own log) own).0
+own_at (y ∷ log) (suc i) x own found = own_at log i x (both_true (is_of 0 y) (all_own log) own).1 found
+
+-- host 0 acknowledges at a place what it submits there
+acks_at : (log : List Filled) (i j slot : ℕ) (command : Command) → all_own log ≡ true → i < length log → j ≡ i + 1 → said_of ((at one_disk log j).host 0) ≡ Some (Ack slot granted) → operation_of ((at one_disk log i).host 0) ≡ Some (Submitting command)
+    → IsAcknowledgedAt one_disk log i 0 slot command granted
+acks_at log i j slot command own within next said submits =
+    let entry = item_below log i within in
+    let busy = busy_with ((at one_disk log i).host 0) (Submitting command) submits in
+    record {
+      says = record { entry = entry.0; is = entry.1; of_host = own_at log i entry.0 own entry.1; says = ap (λ (n : ℕ). said_of ((at one_disk log n).host 0)) (sym next) ∙ said };
+      memory = busy.memory;
+      running = busy.running;
+      doing = busy.doing;
+      does = busy.does;
+      submitting = busy.is;
+    }
+
+in_epoch : (e : ℕ) (log : List Filled) (i : ℕ) (x : Filled) → slice_get log i ≡ Some x → slice_get (map (In e) log) i ≡ Some (In e x)
+in_epoch e [] i x found = absurd (cc)
+in_epoch e (y ∷ log) zero x found = let same : y ≡ x = cc in ap (λ (z : Filled). Some (In e z)) same
+in_epoch e (y ∷ log) (suc i) x found = in_epoch e log i x found
+
+many_in : (e : ℕ) (log : List Filled) → length (map (In e) log) ≡ length log
+many_in e log = length-map log (In e)
+
+now_behind : (log : List Filled) (more : List Lived) (k i : ℕ) → i ≡ length log + k → now 1 i (map (In 0) log ++ more) ≡ now 1 k more
+now_behind [] more k i is = let same : i ≡ k = omega (arith, is) in ap (λ (n : ℕ). now 1 n more) same
+now_behind (x ∷ log) more k zero is = absurd (omega (arith, is))
+now_behind (x ∷ log) more k (suc i) is = now_behind log more k i (omega (arith, is))
+
+now_own : (log : List Filled) (i : ℕ) → i ≤ length log → now 1 i (map (In 1) log) ≡ i
+now_own log zero within = refl
+now_own [] (suc i) within = absurd (omega (arith, within))
+now_own (x ∷ log) (suc i) within = ap suc (now_own log i (omega (arith, within)))
+
+pub acknowledged_first : IsAcknowledgedIn one_disk two_epochs 18 0 0 0 takes_db granted
+acknowledged_first =
+    let many = many_first in
+    let entry = item_below first_epoch 18 (omega (arith, many)) in
+    let place : now 0 18 two_epochs ≡ 18 = now_first first_epoch (map (In 1) second_epoch) 18 (omega (arith, many)) in
+    record {
+      here = (entry.0, prefix_get (map (In 0) first_epoch) two_epochs 18 (In 0 entry.0) (prefix_own (map (In 0) first_epoch) (map (In 1) second_epoch)) (in_epoch 0 first_epoch 18 entry.0 entry.1));
+      is =
+          subst (λ (l : List Filled). IsAcknowledgedAt one_disk l (now 0 18 two_epochs) 0 0 takes_db granted) (sym first_is)
+          (subst (λ (n : ℕ). IsAcknowledgedAt one_disk first_epoch n 0 0 takes_db granted) (sym place) (acks_at first_epoch 18 19 0 takes_db own_first (omega (arith, many)) refl said_first submits_first));
+    }
+
+pub acknowledged_second : IsAcknowledgedIn one_disk two_epochs 73 1 0 1 takes_db_again granted
+acknowledged_second =
+    let many = many_second in
+    let before = many_first in
+    let entry = item_below second_epoch 36 (omega (arith, many)) in
+    let place : now 1 73 two_epochs ≡ 36 = now_behind first_epoch (map (In 1) second_epoch) 36 73 (omega (arith, before)) ∙ now_own second_epoch 36 (omega (arith, many)) in
+    let long = many_in 0 first_epoch in
+    record {
+      here = (entry.0, get_at (map (In 0) first_epoch) (map (In 1) second_epoch) 36 (In 1 entry.0) 73 (in_epoch 1 second_epoch 36 entry.0 entry.1) (omega (arith, before, long)));
+      is =
+          subst (λ (l : List Filled). IsAcknowledgedAt one_disk l (now 1 73 two_epochs) 0 1 takes_db_again granted) (sym second_is)
+          (subst (λ (n : ℕ). IsAcknowledgedAt one_disk second_epoch n 0 1 takes_db_again granted) (sym place) (acks_at second_epoch 36 37 1 takes_db_again own_second (omega (arith, many)) refl said_second submits_second));
     }

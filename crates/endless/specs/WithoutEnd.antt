@@ -1,20 +1,21 @@
 -- What hosts of all epochs do over shared disks is one log without an end.
-use Rattle.std.specs.Prelude.{◌≡◌, ◌<◌, ◌≤◌, ℕ, suc, List, ◌++◌, length, map, take, slice_get, Some}
+use Rattle.std.specs.Prelude.{◌≡◌, ◌==◌, ◌<◌, ◌≤◌, ℕ, suc, List, [], ◌∷◌, ◌++◌, length, map, take, slice_get, Some, if◌then◌else◌}
 use Rattle.lock_command.specs.declared.command.Command.{Command}
 use Rattle.lock_table.specs.Apply.{table_after}
 use Rattle.lock_table.specs.Carrying.{carried_over}
 use Rattle.lock_table.specs.Picture.{Shown, IsPictureOf}
 use Rattle.paxos_block.specs.Shape.{Shape}
 use Rattle.host.specs.Host.{Submitting, Attempt, Attempts, Memory, Host, Stopped, Running, learned_of}
-use Rattle.world.specs.Entry.{Filled, of_host, host_after}
+use Rattle.world.specs.Entry.{Filled, Crashed, of_host, host_after}
 use Rattle.world.specs.World.{IsRun}
 use Rattle.world.specs.Chosen.{at}
 use Rattle.at_once.specs.AtOnce.{bare}
+use Rattle.at_once.specs.Power.{entry_later, losses_with}
 use Rattle.epochs.specs.Acts.{Act}
-use Rattle.epochs.specs.OneLog.{IsShared}
+use Rattle.epochs.specs.OneLog.{IsShared, IsSharedOverLosses}
 use Rattle.endless.specs.Epochs.{IsCallAt, carried_by, HasGoneOn}
-use Rattle.endless.specs.Headline.{KeepsToEpochs, HasOneLogWithoutEnd}
-use Rattle.endless.specs.Lived.{Lived, part, now}
+use Rattle.endless.specs.Headline.{learned_in, KeepsToEpochs, HasOneLogWithoutEnd}
+use Rattle.endless.specs.Lived.{Lived, In, Crash, Loss, part, now}
 
 -- what a host is by place i of what is done in an epoch, by its own deeds
 abbrev pub host_by : Shape → List Filled → ℕ → ℕ → Host
@@ -59,3 +60,27 @@ pub record IsRunWithoutEnd (c : Shape) (lived : List Lived) : Type 0 where
 abbrev pub SharedHaveOneLog : Type 0
 SharedHaveOneLog =
     (c : Shape) (size : ℕ) (acts : ℕ → List Act) (lived : List Lived) → IsShared c size acts (λ e. part e lived) → KeepsToEpochs c lived → IsRunWithoutEnd c lived
+
+-- LOSSES OF POWER
+
+-- the same deeds, with the boot numbers that disks tell in each epoch whose losses of power before are these
+abbrev pub raised_from : (ℕ → ℕ → ℕ) → List Lived → List Lived
+raised_from losses [] = []
+raised_from losses (In epoch entry ∷ lived) = In epoch (entry_later (losses epoch) entry) ∷ raised_from (λ e. if epoch == e then losses_with (losses e) entry else losses e) lived
+raised_from losses (Crash disk left ∷ lived) = Crash disk left ∷ raised_from (λ e. losses_with (losses e) (Crashed disk (left e))) lived
+raised_from losses (Loss disk ∷ lived) = Loss disk ∷ raised_from losses lived
+
+-- with those of disks that tell a higher one after each loss of power
+abbrev pub raised : List Lived → List Lived
+raised lived = raised_from (λ e k. 0) lived
+
+-- With the boot numbers raised it is a run without end, in which hosts have learned what they have learned.
+pub record IsOverLossesWithoutEnd (c : Shape) (lived : List Lived) : Type 0 where
+  pub run : IsRunWithoutEnd c (raised lived)
+  pub places : (e i : ℕ) → now e i (raised lived) ≡ now e i lived
+  pub learned : (i e h : ℕ) → learned_in c (raised lived) i e h ≡ learned_in c lived i e h
+
+-- So it is over losses of power, each of which stops all hosts.
+abbrev pub SharedOverLossesHaveOneLog : Type 0
+SharedOverLossesHaveOneLog =
+    (c : Shape) (size : ℕ) (acts : ℕ → List Act) (lived : List Lived) → IsSharedOverLosses c size acts (λ e. part e lived) → KeepsToEpochs c lived → IsOverLossesWithoutEnd c lived

@@ -2,7 +2,7 @@
 ghost use Rattle.endless.specs.Epochs.{CarriedComesFirst, TablesGoOn, EpochsGoOn};
 ghost use Rattle.endless.specs.Headline.{EndlessHeadline, EndlessLogsAreOne, LongEpochsHaveRoom};
 ghost use Rattle.endless.specs.Lived.{RecoveriesAreOfTheLast};
-ghost use Rattle.endless.specs.WithoutEnd.{OneLogWithoutEnd, SharedHaveOneLog};
+ghost use Rattle.endless.specs.WithoutEnd.{OneLogWithoutEnd, SharedHaveOneLog, SharedOverLossesHaveOneLog};
 
 /// One log without an end. Where nobody tries one of the first slots of an epoch but with the command that carries the last table over there, the epoch's log
 /// begins with these commands. So each table shows what all that was submitted up to then leaves, in whatever epochs, and each reply is
@@ -33,4 +33,6 @@ pub fn endless_headline()
     ensures room { LongEpochsHaveRoom }
     // So it is over shared disks, with the bytes that faults left overlooked.
     ensures shared { SharedHaveOneLog }
+    // And over losses of power, each of which stops all hosts.
+    ensures power { SharedOverLossesHaveOneLog }
 {}
