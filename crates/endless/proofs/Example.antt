@@ -34,7 +34,7 @@ use Rattle.world_safety.proofs.Claims.Renewing.{full_logs_are_final}
 use Rattle.world_safety.proofs.Runs.Tracks.{all_true}
 use Rattle.endless.specs.Epochs.{IsCallAt}
 use Rattle.endless.specs.Examples.{releases_db, takes_db_again, carries_client, submitting_both, first_epoch, second_epoch, two_epochs}
-use Rattle.endless.specs.Headline.{learned_in, CarriesInto, IsAcknowledgedIn, IsDue, SubmitsWhatIsDue, KeepsToEpochs}
+use Rattle.endless.specs.Headline.{IsIn, learned_in, CarriesInto, IsAcknowledgedIn, IsDue, SubmitsWhatIsDue, KeepsToEpochs}
 use Rattle.endless.specs.Lived.{Lived, In, Crash, Loss, part, now, RunsIn, IsWholeBy}
 use Rattle.endless.proofs.Going.{has_picture}
 use Rattle.endless.proofs.Lists.{prefix_own, prefix_get, get_at, item_below}
@@ -433,28 +433,64 @@ now_own log zero within = refl
 now_own [] (suc i) within = absurd (omega (arith, within))
 now_own (x ∷ log) (suc i) within = ap suc (now_own log i (omega (arith, within)))
 
-pub acknowledged_first : IsAcknowledgedIn one_disk two_epochs 18 0 0 0 takes_db granted
-acknowledged_first =
-    let many = many_first in
-    let entry = item_below first_epoch 18 (omega (arith, many)) in
-    let place : now 0 18 two_epochs ≡ 18 = now_first first_epoch (map (In 1) second_epoch) 18 (omega (arith, many)) in
+first_has : (n : ℕ) → n < 37 → n < length first_epoch
+first_has n less = let many = many_first in omega (arith, many, less)
+
+second_has : (n : ℕ) → n < 37 → n < length second_epoch
+second_has n less = let many = many_second in omega (arith, many, less)
+
+below_is_upto : (n m : ℕ) → n < m → n ≤ m
+below_is_upto n m less = omega (arith, less)
+
+behind_first : (n : ℕ) → 37 + n ≡ length first_epoch + n
+behind_first n = let many = many_first in omega (arith, many)
+
+behind_first_in : (n : ℕ) → 37 + n ≡ length (map (In 0) first_epoch) + n
+behind_first_in n = let many = many_first in let long = many_in 0 first_epoch in omega (arith, many, long)
+
+place_first : (n : ℕ) → n < 37 → now 0 n two_epochs ≡ n
+place_first n less = now_first first_epoch (map (In 1) second_epoch) n (below_is_upto n (length first_epoch) (first_has n less))
+
+place_second : (n : ℕ) → n < 37 → now 1 (37 + n) two_epochs ≡ n
+place_second n less = now_behind first_epoch (map (In 1) second_epoch) n (37 + n) (behind_first n) ∙ now_own second_epoch n (below_is_upto n (length second_epoch) (second_has n less))
+
+in_first : (n : ℕ) → n < 37 → IsIn two_epochs n 0
+in_first n less =
+    let entry = item_below first_epoch n (first_has n less) in
+    (entry.0, prefix_get (map (In 0) first_epoch) two_epochs n (In 0 entry.0) (prefix_own (map (In 0) first_epoch) (map (In 1) second_epoch)) (in_epoch 0 first_epoch n entry.0 entry.1))
+
+in_second : (n : ℕ) → n < 37 → IsIn two_epochs (37 + n) 1
+in_second n less =
+    let entry = item_below second_epoch n (second_has n less) in
+    (entry.0, get_at (map (In 0) first_epoch) (map (In 1) second_epoch) n (In 1 entry.0) (37 + n) (in_epoch 1 second_epoch n entry.0 entry.1) (behind_first_in n))
+
+-- an acknowledgement of one epoch is one of all
+acks_in_first : (i slot : ℕ) (command : Command) → i < 37 → IsAcknowledgedAt one_disk first_epoch i 0 slot command granted → IsAcknowledgedIn one_disk two_epochs i 0 0 slot command granted
+acks_in_first i slot command less is =
     record {
-      here = (entry.0, prefix_get (map (In 0) first_epoch) two_epochs 18 (In 0 entry.0) (prefix_own (map (In 0) first_epoch) (map (In 1) second_epoch)) (in_epoch 0 first_epoch 18 entry.0 entry.1));
+      here = in_first i less;
       is =
-          subst (λ (l : List Filled). IsAcknowledgedAt one_disk l (now 0 18 two_epochs) 0 0 takes_db granted) (sym first_is)
-          (subst (λ (n : ℕ). IsAcknowledgedAt one_disk first_epoch n 0 0 takes_db granted) (sym place) (acks_at first_epoch 18 19 0 takes_db own_first (omega (arith, many)) refl said_first submits_first));
+          subst (λ (l : List Filled). IsAcknowledgedAt one_disk l (now 0 i two_epochs) 0 slot command granted) (sym first_is)
+          (subst (λ (n : ℕ). IsAcknowledgedAt one_disk first_epoch n 0 slot command granted) (sym (place_first i less)) is);
     }
 
-pub acknowledged_second : IsAcknowledgedIn one_disk two_epochs 73 1 0 1 takes_db_again granted
-acknowledged_second =
-    let many = many_second in
-    let before = many_first in
-    let entry = item_below second_epoch 36 (omega (arith, many)) in
-    let place : now 1 73 two_epochs ≡ 36 = now_behind first_epoch (map (In 1) second_epoch) 36 73 (omega (arith, before)) ∙ now_own second_epoch 36 (omega (arith, many)) in
-    let long = many_in 0 first_epoch in
+acks_in_second : (i slot : ℕ) (command : Command) → i < 37 → IsAcknowledgedAt one_disk second_epoch i 0 slot command granted → IsAcknowledgedIn one_disk two_epochs (37 + i) 1 0 slot command granted
+acks_in_second i slot command less is =
     record {
-      here = (entry.0, get_at (map (In 0) first_epoch) (map (In 1) second_epoch) 36 (In 1 entry.0) 73 (in_epoch 1 second_epoch 36 entry.0 entry.1) (omega (arith, before, long)));
+      here = in_second i less;
       is =
-          subst (λ (l : List Filled). IsAcknowledgedAt one_disk l (now 1 73 two_epochs) 0 1 takes_db_again granted) (sym second_is)
-          (subst (λ (n : ℕ). IsAcknowledgedAt one_disk second_epoch n 0 1 takes_db_again granted) (sym place) (acks_at second_epoch 36 37 1 takes_db_again own_second (omega (arith, many)) refl said_second submits_second));
+          subst (λ (l : List Filled). IsAcknowledgedAt one_disk l (now 1 (37 + i) two_epochs) 0 slot command granted) (sym second_is)
+          (subst (λ (n : ℕ). IsAcknowledgedAt one_disk second_epoch n 0 slot command granted) (sym (place_second i less)) is);
     }
+
+early : 18 < 37
+early = omega arith
+
+late : 36 < 37
+late = omega arith
+
+pub acknowledged_first : IsAcknowledgedIn one_disk two_epochs 18 0 0 0 takes_db granted
+acknowledged_first = acks_in_first 18 0 takes_db early (acks_at first_epoch 18 19 0 takes_db own_first (first_has 18 early) refl said_first submits_first)
+
+pub acknowledged_second : IsAcknowledgedIn one_disk two_epochs 73 1 0 1 takes_db_again granted
+acknowledged_second = acks_in_second 36 1 takes_db_again late (acks_at second_epoch 36 37 1 takes_db_again own_second (second_has 36 late) refl said_second submits_second)
