@@ -39,7 +39,7 @@ left_in (Crashed disk left) = left
 left_in other = []
 
 -- the same, with the entries of these runs
-refill : (ℕ → List Filled) → List Lived → List Lived
+abbrev refill : (ℕ → List Filled) → List Lived → List Lived
 refill runs [] = []
 refill runs (In epoch entry ∷ lived) = In epoch (head_of (runs epoch)) ∷ refill (λ e. cond (epoch == e) (rest_of (runs e)) (runs e)) lived
 refill runs (Crash disk left ∷ lived) = Crash disk (λ e. left_in (head_of (runs e))) ∷ refill (λ e. rest_of (runs e)) lived
@@ -88,6 +88,16 @@ entry_first (y ∷ run) x log filled same is = ap (λ (ys : List Filled). y ∷ 
 
 -- WHICH IT IS
 
+rest_either : (b : Bool) (run : List Filled) (entry : Filled) (log : List Filled) → map bare run ≡ map bare (cond b (entry ∷ log) log) → map bare (cond b (rest_of run) run) ≡ map bare log
+rest_either true run entry log same = rest_same run entry log same
+rest_either false run entry log same = same
+
+-- an entry of one epoch
+entry_either : (epoch e : ℕ) (entry : Filled) (log filled : List Filled) (runs : ℕ → List Filled) (b : Bool) → (epoch == e) ≡ b → map bare (runs e) ≡ map bare (cond b (entry ∷ log) log) → filled ≡ cond b (rest_of (runs e)) (runs e)
+    → cond b (head_of (runs epoch) ∷ filled) filled ≡ runs e
+entry_either epoch e entry log filled runs true is same behind = ap (λ (n : ℕ). head_of (runs n) ∷ filled) (eqb-true epoch e is) ∙ entry_first (runs e) entry log filled same behind
+entry_either epoch e entry log filled runs false is same behind = behind
+
 -- so each epoch is its run
 refilled : (lived : List Lived) (runs : ℕ → List Filled) → ((e : ℕ) → map bare (runs e) ≡ map bare (part e lived)) → (e : ℕ) → part e (refill runs lived) ≡ runs e
 refilled [] runs same e = empty_is (runs e) (same e)
@@ -95,24 +105,10 @@ refilled (Crash disk left ∷ lived) runs same e =
     crash_first (runs e) disk (left e) (part e lived) _ (same e) (refilled lived (λ d. rest_of (runs d)) (λ d. rest_same (runs d) (Crashed disk (left d)) (part d lived) (same d)) e)
 refilled (Loss disk ∷ lived) runs same e =
     loss_first (runs e) disk (part e lived) _ (same e) (refilled lived (λ d. rest_of (runs d)) (λ d. rest_same (runs d) (Lost disk) (part d lived) (same d)) e)
-refilled (In epoch entry ∷ lived) runs same e = here (epoch == e) refl
-  where
-    either : (d : ℕ) (b : Bool) → map bare (runs d) ≡ map bare (cond b (entry ∷ part d lived) (part d lived)) → map bare (cond b (rest_of (runs d)) (runs d)) ≡ map bare (part d lived)
-    either d true is = rest_same (runs d) entry (part d lived) is
-    either d false is = is
-
-    abbrev filled : List Filled
-    filled = part e (refill (λ d. cond (epoch == d) (rest_of (runs d)) (runs d)) lived)
-
-    behind : filled ≡ cond (epoch == e) (rest_of (runs e)) (runs e)
-    behind = refilled lived (λ d. cond (epoch == d) (rest_of (runs d)) (runs d)) (λ d. either d (epoch == d) (same d)) e
-
-    here : (b : Bool) → (epoch == e) ≡ b → part e (refill runs (In epoch entry ∷ lived)) ≡ runs e
-    here true is =
-        let is_behind : filled ≡ rest_of (runs e) = behind ∙ ap (λ (b : Bool). cond b (rest_of (runs e)) (runs e)) is in
-        let is_same : map bare (runs e) ≡ map bare (entry ∷ part e lived) = same e ∙ ap (λ (b : Bool). map bare (cond b (entry ∷ part e lived) (part e lived))) is in
-        ap (λ (b : Bool). cond b (head_of (runs epoch) ∷ filled) filled) is ∙ ap (λ (n : ℕ). head_of (runs n) ∷ filled) (eqb-true epoch e is) ∙ entry_first (runs e) entry (part e lived) filled is_same is_behind
-    here false is = ap (λ (b : Bool). cond b (head_of (runs epoch) ∷ filled) filled) is ∙ behind ∙ ap (λ (b : Bool). cond b (rest_of (runs e)) (runs e)) is
+refilled (In epoch entry ∷ lived) runs same e =
+    let rests = λ (d : ℕ). cond (epoch == d) (rest_of (runs d)) (runs d) in
+    let behind : part e (refill rests lived) ≡ cond (epoch == e) (rest_of (runs e)) (runs e) = refilled lived rests (λ d. rest_either (epoch == d) (runs d) entry (part d lived) (same d)) e in
+    entry_either epoch e entry (part e lived) (part e (refill rests lived)) runs (epoch == e) refl (same e) behind
 
 places_same : (e i : ℕ) (lived : List Lived) (runs : ℕ → List Filled) → now e i (refill runs lived) ≡ now e i lived
 places_same e zero lived runs = refl
@@ -263,20 +259,20 @@ module _ (c : Shape) (h : ℕ) where
       let rest = of_host h (take i (renumbered_from (losses_with losses e) es)) in
       elim (cases_Bool (is_of h e)) [
         | inl is ↦
-            (let then = knows_later i (losses_with losses e) (host_step c h host e) es (λ j k left found. ap (λ (b : Bool). host_after c h host (cond b (e ∷ of_host h (take j es)) (of_host h (take j es)))) (sym is) ∙ dark (suc j) k left found) in
+            (let later_on = knows_later i (losses_with losses e) (host_step c h host e) es (λ j k left found. ap (λ (b : Bool). host_after c h host (cond b (e ∷ of_host h (take j es)) (of_host h (take j es)))) (sym is) ∙ dark (suc j) k left found) in
             let one : host_later (losses_with losses e) (host_step c h host e) ≡ host_step c h (host_later losses host) x = counted_own losses (host_step c h host e) e is ∙ sym (step_later losses c h host e) in
-            (then.0,
+            (later_on.0,
               ap (λ (b : Bool). host_after c h (host_later losses host) (cond b (x ∷ rest) rest)) (of_same losses h e ∙ is)
               ∙ ap (λ (k : Host). host_after c h k rest) (sym one)
-              ∙ then.1
-              ∙ ap (λ (b : Bool). host_later then.0 (host_after c h host (cond b (e ∷ mine) mine))) (sym is)))
+              ∙ later_on.1
+              ∙ ap (λ (b : Bool). host_later later_on.0 (host_after c h host (cond b (e ∷ mine) mine))) (sym is)))
         | inr is ↦
-            (let then = knows_later i (losses_with losses e) host es (λ j k left found. ap (λ (b : Bool). host_after c h host (cond b (e ∷ of_host h (take j es)) (of_host h (take j es)))) (sym is) ∙ dark (suc j) k left found) in
-            (then.0,
+            (let later_on = knows_later i (losses_with losses e) host es (λ j k left found. ap (λ (b : Bool). host_after c h host (cond b (e ∷ of_host h (take j es)) (of_host h (take j es)))) (sym is) ∙ dark (suc j) k left found) in
+            (later_on.0,
               ap (λ (b : Bool). host_after c h (host_later losses host) (cond b (x ∷ rest) rest)) (of_same losses h e ∙ is)
               ∙ ap (λ (k : Host). host_after c h k rest) (sym (counted losses host e es dark))
-              ∙ then.1
-              ∙ ap (λ (b : Bool). host_later then.0 (host_after c h host (cond b (e ∷ mine) mine))) (sym is)))
+              ∙ later_on.1
+              ∙ ap (λ (b : Bool). host_later later_on.0 (host_after c h host (cond b (e ∷ mine) mine))) (sym is)))
       ]
 
 -- a call under a later number is a call
@@ -303,26 +299,20 @@ deeds_later : (losses : ℕ → ℕ) (es : List Filled) → AreDeeds es → AreD
 deeds_later losses [] are = tt
 deeds_later losses (e ∷ es) are = (deed_later losses e are.0, deeds_later (losses_with losses e) es are.1)
 
+-- an entry of one epoch
+later_either : (epoch e : ℕ) (entry : Filled) (log rest : List Filled) (losses : ℕ → ℕ → ℕ) (b : Bool) → (epoch == e) ≡ b → rest ≡ renumbered_from (cond b (losses_with (losses e) entry) (losses e)) log
+    → cond b (entry_later (losses epoch) entry ∷ rest) rest ≡ renumbered_from (losses e) (cond b (entry ∷ log) log)
+later_either epoch e entry log rest losses true is behind = ap₂ (λ (n : ℕ) (l : List Filled). entry_later (losses n) entry ∷ l) (eqb-true epoch e is) behind
+later_either epoch e entry log rest losses false is behind = behind
+
 -- each epoch with later numbers
 part_later : (e : ℕ) (losses : ℕ → ℕ → ℕ) (lived : List Lived) → part e (raised_from losses lived) ≡ renumbered_from (losses e) (part e lived)
 part_later e losses [] = refl
 part_later e losses (Crash disk left ∷ lived) = ap (λ (l : List Filled). Crashed disk (left e) ∷ l) (part_later e (λ d. losses_with (losses d) (Crashed disk (left d))) lived)
 part_later e losses (Loss disk ∷ lived) = ap (λ (l : List Filled). Lost disk ∷ l) (part_later e losses lived)
-part_later e losses (In epoch entry ∷ lived) = either (epoch == e) refl (part_later e (λ d. cond (epoch == d) (losses_with (losses d) entry) (losses d)) lived)
-  where
-    abbrev rest : List Filled
-    rest = part e (raised_from (λ d. cond (epoch == d) (losses_with (losses d) entry) (losses d)) lived)
-
-    either : (b : Bool) → (epoch == e) ≡ b → rest ≡ renumbered_from (cond (epoch == e) (losses_with (losses e) entry) (losses e)) (part e lived)
-        → cond (epoch == e) (entry_later (losses epoch) entry ∷ rest) rest ≡ renumbered_from (losses e) (cond (epoch == e) (entry ∷ part e lived) (part e lived))
-    either true is behind =
-        ap (λ (b : Bool). cond b (entry_later (losses epoch) entry ∷ rest) rest) is
-        ∙ ap₂ (λ (n : ℕ) (l : List Filled). entry_later (losses n) entry ∷ l) (eqb-true epoch e is) (behind ∙ ap (λ (b : Bool). renumbered_from (cond b (losses_with (losses e) entry) (losses e)) (part e lived)) is)
-        ∙ ap (λ (b : Bool). renumbered_from (losses e) (cond b (entry ∷ part e lived) (part e lived))) (sym is)
-    either false is behind =
-        ap (λ (b : Bool). cond b (entry_later (losses epoch) entry ∷ rest) rest) is
-        ∙ behind ∙ ap (λ (b : Bool). renumbered_from (cond b (losses_with (losses e) entry) (losses e)) (part e lived)) is
-        ∙ ap (λ (b : Bool). renumbered_from (losses e) (cond b (entry ∷ part e lived) (part e lived))) (sym is)
+part_later e losses (In epoch entry ∷ lived) =
+    let next = λ (d : ℕ). cond (epoch == d) (losses_with (losses d) entry) (losses d) in
+    later_either epoch e entry (part e lived) (part e (raised_from next lived)) losses (epoch == e) refl (part_later e next lived)
 
 places_later : (e i : ℕ) (losses : ℕ → ℕ → ℕ) (lived : List Lived) → now e i (raised_from losses lived) ≡ now e i lived
 places_later e zero losses lived = refl
