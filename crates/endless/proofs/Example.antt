@@ -1,6 +1,6 @@
 -- Two epochs, computed: each is a run, and hosts keep to them.
-use Rattle.std.specs.Prelude.{◌-◌, not, map, take, slice_get, if◌then◌else◌}
-use Rattle.std.proofs.Common.{ℕ, zero, suc, ◌+◌, ◌≡◌, ◌==◌, ◌≤◌, ◌<◌, ◌&&◌, Bool, true, false, cond, Option, Some, None, List, [], ◌∷◌, ◌++◌, length, refl, sym, ◌∙◌, ap, subst, ◌⊎◌, inl, inr, arith, append-nil}
+use Rattle.std.specs.Prelude.{not, map, take, slice_get, if◌then◌else◌}
+use Rattle.std.proofs.Common.{ℕ, zero, suc, ◌+◌, ◌≡◌, ◌==◌, ◌≤◌, ◌<◌, ◌&&◌, Bool, true, false, cond, Option, Some, List, [], ◌∷◌, ◌++◌, length, refl, sym, ◌∙◌, ap, subst, ◌⊎◌, inl, inr, arith, append-nil}
 use Rattle.std.proofs.lemmas.List.{length-map}
 use Rattle.std.proofs.lemmas.Bool.{cases_lt, eqb-true, eq-eqb, ne_eqb}
 use Rattle.disk.specs.Simulated.{fresh_disk}
@@ -16,7 +16,6 @@ use Rattle.lock_table.specs.Apply.{applied, granted, table_after}
 use Rattle.lock_table.specs.Carrying.{carried_over}
 use Rattle.lock_table.specs.Picture.{Shown, IsPictureOf, pictured}
 use Rattle.lock_table.proofs.Unique.{one_shown}
-use Rattle.paxos_block.specs.Shape.{Shape}
 use Rattle.host.specs.declared.answer.HostAnswer.TheVariants.{Ack}
 use Rattle.host.specs.declared.task.Task.TheVariants.{Submit}
 use Rattle.host.specs.Host.{Operation, Submitting, Recovering, Attempt, Doing, Attempts, Memory, Host, Stopped, Running, learned_of, said_of}
@@ -29,7 +28,7 @@ use Rattle.world.specs.Happens.{Event, run}
 use Rattle.world.specs.Examples.{one_disk, takes_db}
 use Rattle.world.proofs.Runs.{run_is_run}
 use Rattle.world.proofs.ShortRuns.{operation_in, operation_of, busy_with}
-use Rattle.world_safety.specs.Tracks.{IsSubmittedBy, IsTrue, IsTrueOf, IsTrueDoing}
+use Rattle.world_safety.specs.Tracks.{IsTrue, IsTrueOf, IsTrueDoing}
 use Rattle.world_safety.proofs.Claims.Renewing.{full_logs_are_final}
 use Rattle.world_safety.proofs.Runs.Tracks.{all_true}
 use Rattle.endless.specs.Epochs.{IsCallAt}

@@ -1,6 +1,6 @@
 -- What carries a table over comes first, where nobody tries these slots but with it.
 use Rattle.std.specs.Prelude.{slice_get}
-use Rattle.std.proofs.Common.{ℕ, zero, suc, ◌≤◌, ◌≡◌, Some, List, [], ◌∷◌, ◌++◌, length, drop, refl, sym, subst, ap, ◌∙◌, arith}
+use Rattle.std.proofs.Common.{ℕ, suc, ◌≤◌, ◌≡◌, Some, List, [], ◌∷◌, ◌++◌, length, drop, refl, sym, subst, ap, ◌∙◌, arith}
 use Rattle.lock_command.specs.declared.command.Command.{Command}
 use Rattle.lock_command.specs.Command.{spelling}
 use Rattle.paxos_block.specs.Shape.{Shape}
@@ -8,7 +8,7 @@ use Rattle.world.specs.Entry.{Filled}
 use Rattle.world.specs.World.{IsRun, ReadsBack}
 use Rattle.world.specs.Chosen.{migrated, IsChosen}
 use Rattle.world.specs.Headline.{prefix_at}
-use Rattle.endless.specs.Epochs.{CarriesFirst, BeginsWith, CarriedComesFirst}
+use Rattle.endless.specs.Epochs.{CarriesFirst, CarriedComesFirst}
 use Rattle.endless.proofs.Puts.{IsPutBy, one_spelled, put_before, put_chosen, learned_chosen}
 
 -- a list that has these items first begins with them

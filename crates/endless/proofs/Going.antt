@@ -1,7 +1,6 @@
 -- Tables go on from epoch to epoch.
-use Rattle.std.specs.Prelude.{slice_get}
 use Rattle.std.specs.List.{fold}
-use Rattle.std.proofs.Common.{ℕ, zero, suc, ◌+◌, ◌<◌, ◌≤◌, ◌≡◌, List, [], ◌∷◌, ◌++◌, length, drop, refl, sym, subst, ap, ◌∙◌, arith}
+use Rattle.std.proofs.Common.{ℕ, zero, suc, ◌<◌, ◌≤◌, ◌≡◌, List, [], ◌∷◌, ◌++◌, length, drop, refl, sym, subst, ap, arith}
 use Rattle.lock_command.specs.declared.command.Command.{Command}
 use Rattle.lock_table.specs.Apply.{Plain, applied, table_after, no_locks}
 use Rattle.lock_table.specs.Carrying.{carried_over}
@@ -13,7 +12,7 @@ use Rattle.lock_table.proofs.Unique.{one_shown}
 use Rattle.paxos_block.specs.Shape.{Shape}
 use Rattle.world.specs.Entry.{Filled}
 use Rattle.world.specs.Headline.{prefix_at}
-use Rattle.endless.specs.Epochs.{IsChain, all_later, IsAsAfter, TablesGoOn, IsEndless, carried_by, all_before, HasGoneOn, EpochsGoOn}
+use Rattle.endless.specs.Epochs.{IsChain, all_later, IsAsAfter, TablesGoOn, IsEndless, carried_by, HasGoneOn, EpochsGoOn}
 use Rattle.endless.proofs.First.{prefix_first}
 
 -- each table that commands leave has a picture

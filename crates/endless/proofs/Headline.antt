@@ -1,6 +1,6 @@
 -- All that hosts choose, learn and say in any epoch goes by the one log.
-use Rattle.std.specs.Prelude.{◌-◌, take, drop, map, slice_get}
-use Rattle.std.proofs.Common.{ℕ, zero, suc, ◌+◌, ◌<◌, ◌≤◌, ◌≡◌, ◌⊎◌, inl, inr, true, false, Option, Some, None, List, [], ◌∷◌, ◌++◌, length, refl, sym, subst, ap, ap₂, ◌∙◌, arith}
+use Rattle.std.specs.Prelude.{◌-◌, take, map, slice_get}
+use Rattle.std.proofs.Common.{ℕ, zero, suc, ◌+◌, ◌<◌, ◌≤◌, ◌≡◌, ◌⊎◌, inl, inr, true, false, Option, Some, None, List, [], length, refl, sym, subst, ap, ap₂, ◌∙◌, arith}
 use Rattle.std.proofs.lemmas.Bool.{cases_lt}
 use Rattle.std.proofs.lemmas.List.{length-take-le}
 use Rattle.std.proofs.lemmas.Option.{slice_get_past, slice_get_within}
@@ -14,12 +14,12 @@ use Rattle.host.specs.Host.{Memory, Host, Stopped, Running, said_of}
 use Rattle.host.specs.declared.task.Task.TheVariants.{Submit}
 use Rattle.world.specs.Entry.{Begin}
 use Rattle.world.specs.World.{IsRun}
-use Rattle.world.specs.Chosen.{at, migrated, IsChosenAt, IsChosen, SaysAt, IsAcknowledgedAt}
+use Rattle.world.specs.Chosen.{at, migrated, IsChosen}
 use Rattle.world.specs.Headline.{IsPrefix, prefix_at, IsAcknowledgedBefore}
 use Rattle.world.proofs.Safe.{one_begins_other}
 use Rattle.world_safety.proofs.Runs.Commands.{one_command, map_item, map_there}
 use Rattle.endless.specs.Epochs.{IsAsAfter}
-use Rattle.endless.specs.Headline.{IsIn, learned_in, SaysIn, IsAcknowledgedIn, IsAcknowledgedEarlier, IsRecoveryIn, IsDue, KeepsToEpochs, Stretch, place_of, log_of, GoesByLog, ComesFrom, StandsIn, HasOneLogWithoutEnd, EndlessHeadline}
+use Rattle.endless.specs.Headline.{learned_in, SaysIn, IsAcknowledgedIn, IsAcknowledgedEarlier, IsRecoveryIn, IsDue, KeepsToEpochs, Stretch, place_of, log_of, GoesByLog, ComesFrom, StandsIn, HasOneLogWithoutEnd, EndlessHeadline}
 use Rattle.endless.specs.Lived.{Lived, part, now, RunsIn, IsLived}
 use Rattle.endless.proofs.Last.{IsLast, last_epoch}
 use Rattle.endless.proofs.Lists.{prefix_short, prefix_trans, prefix_get, item_below}
@@ -241,6 +241,7 @@ module _ (c : Shape) (lived : List Lived) (last : ℕ) (run : (e : ℕ) → IsRu
         next = λ e below. l.next_behind e;
         asked = asked;
         submitted = comes_from;
+        before = λ e i slot value is. (l.safe e).submitted i slot value is;
         one = one;
         learned = learned;
         prefixes = prefixes;

@@ -1,11 +1,11 @@
 -- There is a last epoch in which somebody is, and each one before it was learned whole.
-use Rattle.std.specs.Prelude.{◌-◌, take, if◌then◌else◌}
-use Rattle.std.proofs.Common.{ℕ, zero, suc, ◌≡◌, ◌+◌, ◌==◌, ◌≤◌, ◌<◌, ◌⊎◌, Bool, true, false, cond, List, [], ◌∷◌, length, refl, sym, ◌∙◌, ap, subst, inl, inr, arith}
+use Rattle.std.specs.Prelude.{◌-◌, take}
+use Rattle.std.proofs.Common.{ℕ, zero, suc, ◌≡◌, ◌+◌, ◌≤◌, ◌<◌, ◌⊎◌, Bool, cond, List, [], ◌∷◌, length, refl, sym, ◌∙◌, ap, subst, inl, inr, arith}
 use Rattle.std.proofs.lemmas.Bool.{cases_lt, ne_eqb}
 use Rattle.torn_block.specs.declared.layout.TheConstants.{HOSTS}
 use Rattle.paxos_block.specs.Shape.{Shape}
 use Rattle.host.specs.Host.{Memory, Host, Stopped, Running}
-use Rattle.world.specs.Entry.{Filled, of_host, host_after}
+use Rattle.world.specs.Entry.{of_host, host_after}
 use Rattle.world.specs.World.{IsRun}
 use Rattle.world.specs.Chosen.{at}
 use Rattle.world_safety.specs.Tied.{HostAt, IsRunning}
@@ -107,11 +107,13 @@ module _ (c : Shape) (lived : List Lived) (run : (e : ℕ) → IsRun c (part e l
   last_below : (b : ℕ) → ((i e h : ℕ) (memory : Memory) → RunsIn c lived i e h memory → e < b) → (last : ℕ) × IsLast last
   last_below zero below = (0, record { whole = λ e less. absurd (omega (arith, less)); none = λ i e h memory runs. let less = below i e h memory runs in omega (arith, less) })
   last_below (suc b) below = elim (somewhere b) [
-    | inl is ↦
-        (b, record {
-          whole = λ e less. whole_before (b - suc e) e b is.place is.host is.memory (omega (arith, less)) is.runs;
-          none = λ i e h memory runs. let less = below i e h memory runs in omega (arith, less);
-        })
+    | inl is ↦ (
+      b,
+      record {
+        whole = λ e less. whole_before (b - suc e) e b is.place is.host is.memory (omega (arith, less)) is.runs;
+        none = λ i e h memory runs. let less = below i e h memory runs in omega (arith, less);
+      },
+    )
     | inr nobody ↦
         last_below b (λ i e h memory runs. elim (cases_lt e b) [
           | inl less ↦ less

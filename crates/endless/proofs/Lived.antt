@@ -1,14 +1,10 @@
 -- A recovery that misses nothing of an epoch is not of one that was whole before it began.
-use Rattle.std.specs.Prelude.{◌-◌, slice_get, if◌then◌else◌}
-use Rattle.std.proofs.Common.{ℕ, zero, suc, ◌≡◌, ◌+◌, ◌≤◌, ◌<◌, ◌==◌, Bool, true, false, cond, Some, List, [], ◌∷◌, length, refl, sym, ◌∙◌, ap, subst, inl, inr, arith}
-use Rattle.std.proofs.lemmas.Bool.{cases_Bool}
-use Rattle.lock_command.specs.declared.command.Command.{Command}
+use Rattle.std.specs.Prelude.{◌-◌, slice_get}
+use Rattle.std.proofs.Common.{ℕ, zero, suc, ◌≡◌, ◌+◌, ◌≤◌, ◌<◌, Some, List, [], ◌∷◌, length, refl, subst, arith}
 use Rattle.lock_command.specs.Command.{spelling}
 use Rattle.paxos_block.specs.Shape.{Shape}
-use Rattle.host.specs.Host.{Memory, Running}
-use Rattle.world.specs.Entry.{Filled}
-use Rattle.world.specs.World.{IsRun}
-use Rattle.world.specs.Chosen.{at, IsRecovery}
+use Rattle.host.specs.Host.{Memory}
+use Rattle.world.specs.Chosen.{IsRecovery}
 use Rattle.world_safety.specs.Tracks.{IsChosenBefore, IsTrue, IsTrueOf}
 use Rattle.world_safety.proofs.Claims.Recovering.{misses_nothing}
 use Rattle.world_safety.proofs.Runs.Knowing.{chosen_upto}

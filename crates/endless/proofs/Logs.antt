@@ -1,6 +1,6 @@
 -- The logs of all epochs, and the one log that they are together.
 use Rattle.std.specs.Prelude.{◌-◌, take, drop, map, slice_get}
-use Rattle.std.proofs.Common.{ℕ, zero, suc, ◌+◌, ◌<◌, ◌≤◌, ◌≡◌, inl, inr, true, false, Option, Some, None, List, [], ◌∷◌, ◌++◌, length, refl, sym, subst, ap, ◌∙◌, arith, length-append, length-drop, append_assoc, append-nil}
+use Rattle.std.proofs.Common.{ℕ, zero, suc, ◌+◌, ◌<◌, ◌≤◌, ◌≡◌, inl, inr, false, Option, Some, List, [], ◌∷◌, ◌++◌, length, refl, sym, subst, ap, ◌∙◌, arith, length-append, length-drop, append_assoc, append-nil}
 use Rattle.std.proofs.Math.Seq.{take-append-add}
 use Rattle.std.proofs.lemmas.Bool.{cases_lt}
 use Rattle.std.proofs.lemmas.List.{length-map, take_all, take-append-le, drop_at}
@@ -11,7 +11,7 @@ use Rattle.lock_command.specs.declared.reply.LockValue.{LockValue}
 use Rattle.lock_command.specs.Command.{spelling, is_submittable}
 use Rattle.lock_table.specs.declared.known_client.KnownClient.{KnownClient}
 use Rattle.lock_table.specs.Apply.{table_after}
-use Rattle.lock_table.specs.Carrying.{carried_lock, carried_client, carried_locks, carried_over}
+use Rattle.lock_table.specs.Carrying.{carried_lock, carried_client, carried_locks}
 use Rattle.lock_table.specs.Picture.{Shown, IsPictureOf, pictured}
 use Rattle.paxos_block.specs.Shape.{Shape}
 use Rattle.host.specs.Host.{Host, learned_of}

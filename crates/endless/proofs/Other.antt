@@ -1,6 +1,6 @@
 -- There is no second log of all epochs, and long epochs have room for what carries a table over.
-use Rattle.std.specs.Prelude.{◌-◌, drop, map, slice_get}
-use Rattle.std.proofs.Common.{ℕ, zero, suc, ◌+◌, ◌<◌, ◌≤◌, ◌≡◌, Some, List, [], ◌++◌, length, refl, sym, subst, ap, ap₂, ◌∙◌, arith}
+use Rattle.std.specs.Prelude.{◌-◌, drop, slice_get}
+use Rattle.std.proofs.Common.{ℕ, zero, suc, ◌≤◌, ◌≡◌, Some, List, [], length, sym, subst, ap, ap₂, ◌∙◌, arith}
 use Rattle.lock_command.specs.declared.command.Command.{Command}
 use Rattle.lock_command.specs.Command.{spelling}
 use Rattle.lock_table.specs.Apply.{table_after}
@@ -13,7 +13,6 @@ use Rattle.host.specs.declared.task.Task.TheVariants.{Submit}
 use Rattle.world.specs.Entry.{Begin}
 use Rattle.world.specs.World.{IsRun, ReadsBack}
 use Rattle.world.specs.Chosen.{migrated}
-use Rattle.world.specs.Headline.{IsPrefix}
 use Rattle.world.proofs.Runs.{each}
 use Rattle.world_safety.proofs.Claims.Renewing.{full_logs_are_final}
 use Rattle.world_safety.proofs.Runs.Commands.{begins_by, map_item, one_command}

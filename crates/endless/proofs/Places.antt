@@ -1,8 +1,6 @@
 -- Places of an epoch, and places of all.
-use Rattle.std.specs.Prelude.{slice_get, if◌then◌else◌}
-use Rattle.std.proofs.Common.{ℕ, zero, suc, ◌≡◌, ◌==◌, ◌≤◌, ◌<◌, Bool, true, false, cond, Some, List, [], ◌∷◌, length, refl, sym, ◌∙◌, ap, subst, inl, inr, arith}
+use Rattle.std.proofs.Common.{ℕ, zero, suc, ◌≡◌, ◌==◌, ◌≤◌, Bool, true, false, cond, List, [], ◌∷◌, length, refl, ◌∙◌, ap, arith}
 use Rattle.std.proofs.lemmas.Bool.{eq-eqb}
-use Rattle.world.specs.Entry.{Filled}
 use Rattle.endless.specs.Lived.{Lived, In, Crash, Loss, part, now}
 use Rattle.endless.specs.Headline.{IsIn}
 

@@ -1,15 +1,15 @@
 -- Who put in what is chosen, in a run that begins on zeros.
 use Rattle.std.specs.Prelude.{slice_get}
-use Rattle.std.proofs.Common.{ℕ, zero, suc, ◌+◌, ◌<◌, ◌≡◌, ◌==◌, ◌⊎◌, true, inl, inr, Option, Some, None, List, [], ◌∷◌, length, map, refl, sym, subst, ap, ◌∙◌, arith}
+use Rattle.std.proofs.Common.{ℕ, suc, ◌<◌, ◌≡◌, true, inl, inr, Some, List, [], length, map, refl, sym, subst, ap, ◌∙◌, arith}
 use Rattle.std.proofs.lemmas.Bool.{eqb-true}
 use Rattle.lock_command.specs.declared.command.Command.{Command}
 use Rattle.lock_command.specs.Command.{spelling}
 use Rattle.lock_command.specs.Reading.{decoded}
 use Rattle.paxos_block.specs.Shape.{Shape}
-use Rattle.host.specs.Host.{Operation, Submitting, Recovering, Attempt, Attempts, Doing, Memory, Host, Stopped, Running, input_of, learned_of}
+use Rattle.host.specs.Host.{Operation, Submitting, Recovering, Attempt, Attempts, Memory, Host, Stopped, Running, input_of, learned_of}
 use Rattle.world.specs.Entry.{Filled, Start, Stop, Begin, Called, Torn, Crashed, Lost, Migrated, is_of}
 use Rattle.world.specs.World.{IsRun, ReadsBack}
-use Rattle.world.specs.Chosen.{at, migrated, IsChosenAt, IsMigrated, IsChosen}
+use Rattle.world.specs.Chosen.{at, migrated, IsMigrated, IsChosen}
 use Rattle.world_safety.specs.Goes.{ProposesWith}
 use Rattle.world_safety.specs.Tracks.{IsChosenBefore, IsSubmittedBy, AreChosen, IsTrue, IsTrueOf, IsTrueDoing}
 use Rattle.world_safety.specs.Tied.{HostAt, IsDoing, IsRunning, IsTrying}

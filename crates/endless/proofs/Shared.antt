@@ -1,6 +1,6 @@
 -- Over shared disks each epoch is a run, but for the bytes that faults left: these are put in their place in all that is done.
-use Rattle.std.specs.Prelude.{map, take, slice_get, option_map, if◌then◌else◌}
-use Rattle.std.proofs.Common.{ℕ, zero, suc, ◌≡◌, ◌==◌, ◌≤◌, ◌<◌, Bool, true, false, cond, Option, Some, None, List, [], ◌∷◌, ◌++◌, length, refl, sym, ◌∙◌, ap, ap₂, subst, inl, inr, arith}
+use Rattle.std.specs.Prelude.{map, take, slice_get, option_map}
+use Rattle.std.proofs.Common.{ℕ, zero, suc, ◌≡◌, ◌==◌, Bool, true, false, cond, Option, Some, None, List, [], ◌∷◌, length, refl, sym, ◌∙◌, ap, ap₂, subst, inl, inr}
 use Rattle.std.proofs.lemmas.Bool.{cases_Bool, eqb-true}
 use Rattle.lock_command.specs.declared.command.Command.{Command}
 use Rattle.lock_table.specs.Apply.{table_after}
@@ -260,19 +260,21 @@ module _ (c : Shape) (h : ℕ) where
       elim (cases_Bool (is_of h e)) [
         | inl is ↦
             (let later_on = knows_later i (losses_with losses e) (host_step c h host e) es (λ j k left found. ap (λ (b : Bool). host_after c h host (cond b (e ∷ of_host h (take j es)) (of_host h (take j es)))) (sym is) ∙ dark (suc j) k left found) in
-            let one : host_later (losses_with losses e) (host_step c h host e) ≡ host_step c h (host_later losses host) x = counted_own losses (host_step c h host e) e is ∙ sym (step_later losses c h host e) in
-            (later_on.0,
+            let one : host_later (losses_with losses e) (host_step c h host e) ≡ host_step c h (host_later losses host) x = counted_own losses (host_step c h host e) e is ∙ sym (step_later losses c h host e) in (
+              later_on.0,
               ap (λ (b : Bool). host_after c h (host_later losses host) (cond b (x ∷ rest) rest)) (of_same losses h e ∙ is)
-              ∙ ap (λ (k : Host). host_after c h k rest) (sym one)
-              ∙ later_on.1
-              ∙ ap (λ (b : Bool). host_later later_on.0 (host_after c h host (cond b (e ∷ mine) mine))) (sym is)))
+                  ∙ ap (λ (k : Host). host_after c h k rest) (sym one)
+                  ∙ later_on.1
+                  ∙ ap (λ (b : Bool). host_later later_on.0 (host_after c h host (cond b (e ∷ mine) mine))) (sym is),
+            ))
         | inr is ↦
-            (let later_on = knows_later i (losses_with losses e) host es (λ j k left found. ap (λ (b : Bool). host_after c h host (cond b (e ∷ of_host h (take j es)) (of_host h (take j es)))) (sym is) ∙ dark (suc j) k left found) in
-            (later_on.0,
+            (let later_on = knows_later i (losses_with losses e) host es (λ j k left found. ap (λ (b : Bool). host_after c h host (cond b (e ∷ of_host h (take j es)) (of_host h (take j es)))) (sym is) ∙ dark (suc j) k left found) in (
+              later_on.0,
               ap (λ (b : Bool). host_after c h (host_later losses host) (cond b (x ∷ rest) rest)) (of_same losses h e ∙ is)
-              ∙ ap (λ (k : Host). host_after c h k rest) (sym (counted losses host e es dark))
-              ∙ later_on.1
-              ∙ ap (λ (b : Bool). host_later later_on.0 (host_after c h host (cond b (e ∷ mine) mine))) (sym is)))
+                  ∙ ap (λ (k : Host). host_after c h k rest) (sym (counted losses host e es dark))
+                  ∙ later_on.1
+                  ∙ ap (λ (b : Bool). host_later later_on.0 (host_after c h host (cond b (e ∷ mine) mine))) (sym is),
+            ))
       ]
 
 -- a call under a later number is a call

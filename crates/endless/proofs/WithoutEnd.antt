@@ -1,13 +1,11 @@
 -- Each epoch is a run, and the runs go on from one another.
-use Rattle.std.specs.Prelude.{slice_get}
-use Rattle.std.proofs.Common.{ℕ, zero, suc, ◌≡◌, ◌<◌, ◌≤◌, Some, List, [], ◌∷◌, ◌++◌, length, take, map, refl, sym, ◌∙◌, ap, subst}
+use Rattle.std.proofs.Common.{ℕ, zero, suc, ◌≡◌, ◌<◌, ◌≤◌, Some, List, [], ◌∷◌, ◌++◌, length, map, refl, sym, ◌∙◌, ap, subst}
 use Rattle.disk.specs.Disk.{Call, Answer}
 use Rattle.lock_command.specs.declared.command.Command.{Command}
 use Rattle.lock_table.specs.Apply.{table_after}
-use Rattle.lock_table.specs.Carrying.{carried_over}
 use Rattle.lock_table.specs.Picture.{Shown, IsPictureOf}
 use Rattle.paxos_block.specs.Shape.{Shape}
-use Rattle.host.specs.Host.{Host, learned_of}
+use Rattle.host.specs.Host.{learned_of}
 use Rattle.world.specs.Entry.{Filled, Start, Stop, Begin, Called, Torn, Crashed, Lost, Migrated}
 use Rattle.world.specs.Chosen.{at, migrated}
 use Rattle.world.specs.Headline.{prefix_at}

@@ -1,5 +1,5 @@
 -- Two epochs over one disk: two commands fill the first one, and what carries its table over begins the second.
-use Rattle.std.specs.Prelude.{ℕ, false, List, [], ◌∷◌, ◌++◌, map, replicate, None}
+use Rattle.std.specs.Prelude.{false, List, [], ◌∷◌, ◌++◌, map, replicate, None}
 use Rattle.lock_command.specs.declared.mode.Mode.TheVariants.{Exclusive}
 use Rattle.lock_command.specs.declared.command.Command.{Command}
 use Rattle.lock_command.specs.declared.command.Action.TheVariants.{Enqueue, Release, CarryClient}

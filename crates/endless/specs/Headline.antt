@@ -15,7 +15,7 @@ use Rattle.host.specs.declared.task.Task.TheVariants.{Submit}
 use Rattle.host.specs.Host.{Submitting, Attempt, Attempts, Memory, Running, reply_after}
 use Rattle.world.specs.Entry.{Filled, Begin}
 use Rattle.world.specs.World.{IsRun}
-use Rattle.world.specs.Chosen.{at, migrated, IsChosen, SaysAt, IsAcknowledgedAt, IsRecovery}
+use Rattle.world.specs.Chosen.{at, migrated, IsChosenAt, IsChosen, IsSubmittedBefore, SaysAt, IsAcknowledgedAt, IsRecovery}
 use Rattle.world.specs.Headline.{IsPrefix, prefix_at}
 use Rattle.endless.specs.Epochs.{IsCallAt, IsAsAfter}
 use Rattle.endless.specs.Lived.{Lived, In, part, now, RunsIn, IsWholeBy}
@@ -136,6 +136,8 @@ pub record HasOneLogWithoutEnd (c : Shape) (lived : List Lived) : Type 0 where
   -- each command of it is one for which a client may ask, and was submitted and chosen in some epoch
   pub asked : (n : ℕ) (command : Command) → slice_get commands n ≡ Some command → is_submittable command ≡ true
   pub submitted : (n : ℕ) (command : Command) → slice_get commands n ≡ Some command → ComesFrom c lived last stretch n command
+  -- what an answer chooses in an epoch was submitted there before
+  pub before : (e i slot : ℕ) (value : List ℕ) → IsChosenAt c (part e lived) i slot value → IsSubmittedBefore (part e lived) i value
   -- what is chosen for a slot of an epoch is what carries the table over there, or the command of the one log
   pub one : (e slot : ℕ) (value : List ℕ) → IsChosen c (part e lived) slot value → slice_get (map spelling (log_of commands (stretch e))) slot ≡ Some value
   -- whatever a host has learned of an epoch goes by it,
