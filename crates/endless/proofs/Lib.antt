@@ -1,0 +1,13 @@
+pub mod Example
+pub mod First
+pub mod Going
+pub mod Headline
+pub mod Last
+pub mod Lists
+pub mod Lived
+pub mod Logs
+pub mod Other
+pub mod Places
+pub mod Puts
+pub mod Shared
+pub mod WithoutEnd
