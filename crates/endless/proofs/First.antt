@@ -22,12 +22,15 @@ begins (wanted ∷ over) (command ∷ learned) fits same =
     λ i. one i ∷ rest i
 
 module _ (c : Shape) (log : List Filled) (over : List Command) (run : IsRun c log) (fresh : migrated log ≡ []) (first : CarriesFirst c log over) where
+  none_first : (slot : ℕ) → length (migrated log) ≤ slot
+  none_first slot = let none = ap (λ (l : List Command). length l) fresh in omega (arith, none)
+
   -- whoever put it in submitted the command of the slot
   put_is : (slot : ℕ) (value : List ℕ) (wanted : Command) → (put : IsPutBy c log slot value) → slice_get over slot ≡ Some wanted → put.command ≡ wanted
   put_is slot value wanted put here = first put.place put.host put.memory put.doing put.command wanted put.call put.running put.does put.submits (ap (slice_get over) (sym put.on_slot) ∙ here)
 
   pub chosen : (slot : ℕ) (value : List ℕ) (wanted : Command) → IsChosen c log slot value → slice_get over slot ≡ Some wanted → value ≡ spelling wanted
-  chosen slot value wanted is here = let put = put_chosen c log run fresh slot value is in put.spelled ∙ ap spelling (put_is slot value wanted put here)
+  chosen slot value wanted is here = let put = put_chosen c log run slot value (none_first slot) is in put.spelled ∙ ap spelling (put_is slot value wanted put here)
 
   -- a command that was put in there is the one of the slot
   stands_first : (slot : ℕ) (command wanted : Command) → ReadsBack command → IsPutBy c log slot (spelling command) → slice_get over slot ≡ Some wanted → command ≡ wanted
@@ -37,13 +40,13 @@ module _ (c : Shape) (log : List Filled) (over : List Command) (run : IsRun c lo
 
   -- a command that is chosen in one of the first slots is the one of the slot
   pub chosen_first : (slot : ℕ) (command wanted : Command) → ReadsBack command → IsChosen c log slot (spelling command) → slice_get over slot ≡ Some wanted → command ≡ wanted
-  chosen_first slot command wanted reads is here = stands_first slot command wanted reads (put_chosen c log run fresh slot (spelling command) is) here
+  chosen_first slot command wanted reads is here = stands_first slot command wanted reads (put_chosen c log run slot (spelling command) (none_first slot) is) here
 
   pub prefix_first : (i h : ℕ) → length over ≤ length (prefix_at c log i h) → prefix_at c log i h ≡ over ++ drop (length over) (prefix_at c log i h)
   prefix_first i h fits =
       begins over (prefix_at c log i h) fits (λ k command wanted found here.
-      let known = learned_chosen c log run fresh i h k command found in
-      stands_first k command wanted known.0 (put_before c log run fresh i k (spelling command) known.1) here)
+      let known = learned_chosen c log run i h k command found in
+      stands_first k command wanted known.0 (put_before c log run i k (spelling command) (none_first k) known.1) here)
 
 pub carried_comes_first : CarriedComesFirst
 carried_comes_first c log over run fresh first = (

@@ -1,6 +1,6 @@
 -- All that hosts choose, learn and say in any epoch goes by the one log.
-use Rattle.std.specs.Prelude.{◌-◌, take, map, slice_get}
-use Rattle.std.proofs.Common.{ℕ, zero, suc, ◌+◌, ◌<◌, ◌≤◌, ◌≡◌, ◌⊎◌, inl, inr, true, false, Option, Some, None, List, [], length, refl, sym, subst, ap, ap₂, ◌∙◌, arith}
+use Rattle.std.specs.Prelude.{drop, ◌-◌, take, map, slice_get}
+use Rattle.std.proofs.Common.{ℕ, zero, suc, ◌+◌, ◌<◌, ◌≤◌, ◌≡◌, ◌⊎◌, inl, inr, true, false, Option, Some, None, List, [], ◌++◌, length, refl, sym, subst, ap, ap₂, ◌∙◌, arith}
 use Rattle.std.proofs.lemmas.Bool.{cases_lt}
 use Rattle.std.proofs.lemmas.List.{length-take-le}
 use Rattle.std.proofs.lemmas.Option.{slice_get_past, slice_get_within}
@@ -16,6 +16,7 @@ use Rattle.world.specs.Entry.{Begin}
 use Rattle.world.specs.World.{IsRun}
 use Rattle.world.specs.Chosen.{at, migrated, IsChosen}
 use Rattle.world.specs.Headline.{IsPrefix, prefix_at, IsAcknowledgedBefore}
+use Rattle.world.proofs.Runs.{migrated_fits}
 use Rattle.world.proofs.Safe.{one_begins_other}
 use Rattle.world_safety.proofs.Runs.Commands.{one_command, map_item, map_there}
 use Rattle.endless.specs.Epochs.{IsAsAfter}
@@ -26,7 +27,7 @@ use Rattle.endless.proofs.Lists.{prefix_short, prefix_trans, prefix_get, item_be
 use Rattle.endless.proofs.Lived.{recoveries_are_of_the_last}
 use Rattle.endless.proofs.Logs.{Logs, IsOwn, logs_of}
 use Rattle.endless.proofs.Places.{now_rises, now_next, place_for}
-use Rattle.endless.proofs.Puts.{IsPutBy, none_migrated, put_chosen}
+use Rattle.endless.proofs.Puts.{IsPutBy, put_chosen}
 
 -- whoever says something is running
 runs_who_says : (host : Host) (said : HostAnswer) → said_of host ≡ Some said → (m : Memory) × (host ≡ Running m)
@@ -40,15 +41,21 @@ pub record IsSomebody (c : Shape) (lived : List Lived) (e : ℕ) : Type 0 where
   pub memory : Memory
   pub runs : RunsIn c lived place e host memory
 
-pub runs_who_chose : (c : Shape) (lived : List Lived) (run : (e : ℕ) → IsRun c (part e lived)) (fresh : (e : ℕ) → migrated (part e lived) ≡ []) (e slot : ℕ) (value : List ℕ) → IsChosen c (part e lived) slot value → IsSomebody c lived e
-runs_who_chose c lived run fresh e slot value (inl is) =
-    let hears = is.1.hears in
-    let within = slice_get_within (part e lived) is.0 _ hears.entry in
-    let k = place_for e lived is.0 (omega (arith, within)) in
-    record { place = k.0; host = hears.host; memory = hears.memory; runs = ap (λ (n : ℕ). (at c (part e lived) n).host hears.host) k.1 ∙ hears.running }
-runs_who_chose c lived run fresh e slot value (inr is) = absurd (none_migrated c (part e lived) (run e) (fresh e) slot value is)
+pub runs_who_chose : (c : Shape) (lived : List Lived) (run : (e : ℕ) → IsRun c (part e lived)) (fresh : (e : ℕ) → migrated (part (suc e) lived) ≡ []) (e slot : ℕ) (value : List ℕ) → IsChosen c (part (suc e) lived) slot value → IsSomebody c lived (suc e)
+runs_who_chose c lived run fresh e slot value is =
+    let none = ap (λ (l : List Command). length l) (fresh e) in
+    let put = put_chosen c (part (suc e) lived) (run (suc e)) slot value (omega (arith, none)) is in
+    let within = slice_get_within (part (suc e) lived) put.place _ put.call.4 in
+    let k = place_for (suc e) lived put.place (omega (arith, within)) in
+    record { place = k.0; host = put.host; memory = put.memory; runs = ap (λ (n : ℕ). (at c (part (suc e) lived) n).host put.host) k.1 ∙ put.running }
 
-module _ (c : Shape) (lived : List Lived) (last : ℕ) (run : (e : ℕ) → IsRun c (part e lived)) (fresh : (e : ℕ) → migrated (part e lived) ≡ []) (keeps : KeepsToEpochs c lived) (is_last : IsLast c lived run keeps.in_turn last) (l : Logs c lived last) where
+-- what is chosen is chosen in no later epoch than one behind which nobody is
+pub upto_last : (c : Shape) (lived : List Lived) (last : ℕ) (run : (e : ℕ) → IsRun c (part e lived)) (fresh : (e : ℕ) → migrated (part (suc e) lived) ≡ []) → ((i e h : ℕ) (memory : Memory) → RunsIn c lived i e h memory → e ≤ last)
+    → (e slot : ℕ) (value : List ℕ) → IsChosen c (part e lived) slot value → e ≤ last
+upto_last c lived last run fresh none zero slot value is = omega arith
+upto_last c lived last run fresh none (suc e) slot value is = let who = runs_who_chose c lived run fresh e slot value is in none who.place (suc e) who.host who.memory who.runs
+
+module _ (c : Shape) (lived : List Lived) (last : ℕ) (run : (e : ℕ) → IsRun c (part e lived)) (fresh : (e : ℕ) → migrated (part (suc e) lived) ≡ []) (keeps : KeepsToEpochs c lived) (is_last : IsLast c lived run keeps.in_turn last) (l : Logs c lived last) where
   abbrev stretch : ℕ → Stretch
   stretch e = record { over = l.over e; behind = l.behind e }
 
@@ -56,30 +63,44 @@ module _ (c : Shape) (lived : List Lived) (last : ℕ) (run : (e : ℕ) → IsRu
 
   -- something is chosen in no later epoch than the last
   reached_chosen : (e slot : ℕ) (value : List ℕ) → IsChosen c (part e lived) slot value → e ≤ last
-  reached_chosen e slot value is = let who = runs_who_chose c lived run fresh e slot value is in is_last.none who.place e who.host who.memory who.runs
+  reached_chosen e slot value is = upto_last c lived last run fresh is_last.none e slot value is
 
-  put_in : (e slot : ℕ) (command : Command) → slice_get (l.logs e) slot ≡ Some command → IsPutBy c (part e lived) slot (spelling command)
-  put_in e slot command found = put_chosen c (part e lived) (run e) (fresh e) slot (spelling command) ((l.safe e).is_log.chosen slot (spelling command) (map_there (l.logs e) slot command found))
+  -- a slot behind all that was migrated
+  abbrev IsPast : ℕ → ℕ → Type 0
+  IsPast e slot = length (migrated (part e lived)) ≤ slot
 
-  put_is : (e slot : ℕ) (command : Command) (found : slice_get (l.logs e) slot ≡ Some command) → (put_in e slot command found).command ≡ command
-  put_is e slot command found =
-      let put = put_in e slot command found in
+  put_in : (e slot : ℕ) (command : Command) → IsPast e slot → slice_get (l.logs e) slot ≡ Some command → IsPutBy c (part e lived) slot (spelling command)
+  put_in e slot command past found = put_chosen c (part e lived) (run e) slot (spelling command) past ((l.safe e).is_log.chosen slot (spelling command) (map_there (l.logs e) slot command found))
+
+  put_is : (e slot : ℕ) (command : Command) (past : IsPast e slot) (found : slice_get (l.logs e) slot ≡ Some command) → (put_in e slot command past found).command ≡ command
+  put_is e slot command past found =
+      let put = put_in e slot command past found in
       sym (one_command command put.command (l.reads e slot command found) put.begun.reads put.spelled)
 
-  module _ (n : ℕ) (command : Command) (found : slice_get l.all n ≡ Some command) where
+  is_past : (e slot n : ℕ) → place_of (stretch e) slot ≡ n → length (migrated (part zero lived)) ≤ n → IsPast e slot
+  is_past zero slot n there late =
+      let none = ap (λ (x : List Command). length x) l.first_over in
+      let start = l.first_behind in
+      omega (arith, none, start, there, late)
+  is_past (suc e) slot n there late = let none = ap (λ (x : List Command). length x) (fresh e) in omega (arith, none)
+
+  module _ (n : ℕ) (command : Command) (late : length (migrated (part zero lived)) ≤ n) (found : slice_get l.all n ≡ Some command) where
     own : IsOwn last l.logs l.over l.behind n command
     own = l.whose n command found
 
+    past : IsPast own.epoch own.slot
+    past = is_past own.epoch own.slot n own.there late
+
     put : IsPutBy c (part own.epoch lived) own.slot (spelling command)
-    put = put_in own.epoch own.slot command own.is
+    put = put_in own.epoch own.slot command past own.is
 
     asked : is_submittable command ≡ true
     unfolding put put_in
     asked =
         let due = l.due own.epoch own.upto put.place put.host put.memory put.doing put.command put.call put.running put.does put.submits in
-        let past : slice_get (l.over own.epoch) (length put.memory.learned) ≡ None = slice_get_past (l.over own.epoch) (length put.memory.learned) (let o = put.on_slot in let p = own.past in omega (arith, o, p)) in
-        let clear : is_submittable put.command ≡ true = subst (λ (o : Option Command). IsDue o put.command) past due in
-        ap is_submittable (sym (put_is own.epoch own.slot command own.is)) ∙ clear
+        let behind : slice_get (l.over own.epoch) (length put.memory.learned) ≡ None = slice_get_past (l.over own.epoch) (length put.memory.learned) (let o = put.on_slot in let p = own.past in omega (arith, o, p)) in
+        let clear : is_submittable put.command ≡ true = subst (λ (o : Option Command). IsDue o put.command) behind due in
+        ap is_submittable (sym (put_is own.epoch own.slot command past own.is)) ∙ clear
 
     comes_from : ComesFrom c lived last stretch n command
     unfolding put put_in
@@ -94,7 +115,7 @@ module _ (c : Shape) (lived : List Lived) (last : ℕ) (run : (e : ℕ) → IsRu
           place = put.begun.place;
           host = put.host;
           tries = put.begun.tries;
-          submitted = put.begun.entry ∙ ap (λ (x : Command). Some (Begin put.host (Submit x put.begun.tries))) (put_is own.epoch own.slot command own.is);
+          submitted = put.begun.entry ∙ ap (λ (x : Command). Some (Begin put.host (Submit x put.begun.tries))) (put_is own.epoch own.slot command past own.is);
         }
 
   one : (e slot : ℕ) (value : List ℕ) → IsChosen c (part e lived) slot value → slice_get (map spelling (log_of l.all (stretch e))) slot ≡ Some value
@@ -102,6 +123,13 @@ module _ (c : Shape) (lived : List Lived) (last : ℕ) (run : (e : ℕ) → IsRu
       let item = map_item (l.logs e) slot value ((l.safe e).one slot value chosen) in
       let there = prefix_get (l.logs e) (log_of l.all (stretch e)) slot item.0 (l.begins e (reached_chosen e slot value chosen)) item.1 in
       map_there (log_of l.all (stretch e)) slot item.0 there ∙ ap Some item.2
+
+  -- what was migrated begins the one log
+  begun : IsPrefix (migrated (part zero lived)) l.all
+  begun =
+      let same : l.over zero ++ drop (l.behind zero) l.all ≡ l.all = ap₂ (λ (o : List Command) (n : ℕ). o ++ drop n l.all) l.first_over l.first_behind in
+      subst (λ (x : List Command). IsPrefix (migrated (part zero lived)) x) same
+      (prefix_trans (migrated (part zero lived)) (l.logs zero) (l.over zero ++ drop (l.behind zero) l.all) (l.safe zero).begun (l.begins zero (omega arith)))
 
   -- WHAT HOSTS LEARN
 
@@ -186,6 +214,21 @@ module _ (c : Shape) (lived : List Lived) (last : ℕ) (run : (e : ℕ) → IsRu
   rises (suc d) e zero is = absurd (omega (arith, is))
   rises (suc d) e (suc f) is = let rest = rises d e f (omega (arith, is)) in let next = l.next_behind f in omega (arith, rest, next)
 
+  -- and each recovery has it
+  keeps_migrated : (i e h n : ℕ) → SaysIn c lived i e h (Recovered n) → length (migrated (part zero lived)) ≤ place_of (stretch e) n
+  keeps_migrated i zero h n says =
+      let none = ap (λ (x : List Command). length x) l.first_over in
+      let start = l.first_behind in
+      let few = (l.safe zero).keeps (now zero i lived) h n says.is in
+      omega (arith, none, start, few)
+  keeps_migrated i (suc e) h n says =
+      let none = ap (λ (x : List Command). length x) l.first_over in
+      let start = l.first_behind in
+      let next = l.next_behind zero in
+      let rise = rises e 1 (suc e) (omega arith) in
+      let few = migrated_fits c (part zero lived) (run zero) in
+      omega (arith, none, start, next, rise, few)
+
   lives : IsLived c lived
   lives = record { is_run = run; in_turn = keeps.in_turn }
 
@@ -239,6 +282,7 @@ module _ (c : Shape) (lived : List Lived) (last : ℕ) (run : (e : ℕ) → IsRu
         first = ap₂ (λ (o : List Command) (n : ℕ). record { over = o; behind = n }) l.first_over l.first_behind;
         over = λ e below. l.into (suc e) (omega (arith, below));
         next = λ e below. l.next_behind e;
+        begun = begun;
         asked = asked;
         submitted = comes_from;
         before = λ e i slot value is. (l.safe e).submitted i slot value is;
@@ -249,6 +293,7 @@ module _ (c : Shape) (lived : List Lived) (last : ℕ) (run : (e : ℕ) → IsRu
         acknowledged = λ i e h slot command reply acked client. stands_in i e h slot command reply acked client;
         recovered = recovered;
         holds = λ i j e f h n slot command recovery less acked client. holds i j e n h recovery less f slot command acked client;
+        keeps = keeps_migrated;
         looked = looked;
       }
 

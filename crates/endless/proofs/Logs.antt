@@ -76,7 +76,7 @@ pub record Logs (c : Shape) (lived : List Lived) (last : ℕ) : Type 0 where
   pub whose : (n : ℕ) (command : Command) → slice_get all n ≡ Some command → IsOwn last logs over behind n command
   pub after : (e m : ℕ) → e ≤ last → length (over e) ≤ m → m ≤ length (logs e) → IsAsAfter (take m (logs e)) (take (behind e + (m - length (over e))) all)
 
-module _ (c : Shape) (lived : List Lived) (last : ℕ) (run : (e : ℕ) → IsRun c (part e lived)) (fresh : (e : ℕ) → migrated (part e lived) ≡ []) (keeps : KeepsToEpochs c lived) (is_last : IsLast c lived run keeps.in_turn last) where
+module _ (c : Shape) (lived : List Lived) (last : ℕ) (run : (e : ℕ) → IsRun c (part e lived)) (fresh : (e : ℕ) → migrated (part (suc e) lived) ≡ []) (keeps : KeepsToEpochs c lived) (is_last : IsLast c lived run keeps.in_turn last) where
   -- THE LOG OF AN EPOCH
 
   abbrev logs : ℕ → List Command
@@ -96,7 +96,7 @@ module _ (c : Shape) (lived : List Lived) (last : ℕ) (run : (e : ℕ) → IsRu
     | inr not_less ↦ not_less
     | inl less ↦
         (let there = slice_get-get_or (map spelling (logs e)) c.slots [] (omega (arith, less, length-map (logs e) spelling)) in
-        let within = chosen_fits c (part e lived) (run e) (fresh e) c.slots _ ((safe e).is_log.chosen c.slots _ there) in
+        let within = chosen_fits c (part e lived) (run e) c.slots _ ((safe e).is_log.chosen c.slots _ there) in
         absurd (omega (arith, within)))
   ]
 
@@ -147,8 +147,9 @@ module _ (c : Shape) (lived : List Lived) (last : ℕ) (run : (e : ℕ) → IsRu
 
   -- what stands in a log where the table is carried over is what carries it
   first_is : (e : ℕ) → e ≤ last → (k : ℕ) (command wanted : Command) → slice_get (logs e) k ≡ Some command → slice_get (over e) k ≡ Some wanted → command ≡ wanted
-  first_is e reached k command wanted found here =
-      chosen_first c (part e lived) (over e) (run e) (fresh e) (first e reached) k command wanted (reads e k command found) (is_chosen e k command found) here
+  first_is zero reached k command wanted found here = absurd (cc)
+  first_is (suc e) reached k command wanted found here =
+      chosen_first c (part (suc e) lived) (over (suc e)) (run (suc e)) (fresh e) (first (suc e) reached) k command wanted (reads (suc e) k command found) (is_chosen (suc e) k command found) here
 
   -- and behind that it has its own
   abbrev own : ℕ → List Command

@@ -1,6 +1,7 @@
 -- There is no second log of all epochs, and long epochs have room for what carries a table over.
 use Rattle.std.specs.Prelude.{◌-◌, drop, slice_get}
-use Rattle.std.proofs.Common.{ℕ, zero, suc, ◌≤◌, ◌≡◌, Some, List, [], length, sym, subst, ap, ap₂, ◌∙◌, arith}
+use Rattle.std.proofs.Common.{ℕ, zero, suc, ◌≤◌, ◌≡◌, Some, List, [], length, sym, subst, ap, ap₂, ◌∙◌, arith, inl, inr, ◌<◌}
+use Rattle.std.proofs.lemmas.Bool.{cases_lt}
 use Rattle.lock_command.specs.declared.command.Command.{Command}
 use Rattle.lock_command.specs.Command.{spelling}
 use Rattle.lock_table.specs.Apply.{table_after}
@@ -18,10 +19,10 @@ use Rattle.world_safety.proofs.Claims.Renewing.{full_logs_are_final}
 use Rattle.world_safety.proofs.Runs.Commands.{begins_by, map_item, one_command}
 use Rattle.endless.specs.Headline.{learned_in, CarriesInto, Stretch, place_of, log_of, ComesFrom, HasOneLogWithoutEnd, EndlessLogsAreOne, LongEpochsHaveRoom}
 use Rattle.endless.specs.Lived.{Lived, part, now}
-use Rattle.endless.proofs.Headline.{runs_who_chose}
-use Rattle.endless.proofs.Lists.{get_from, drop_get, prefix_both}
+use Rattle.endless.proofs.Headline.{upto_last}
+use Rattle.endless.proofs.Lists.{prefix_get, item_below, get_from, drop_get, prefix_both}
 
-module _ (c : Shape) (lived : List Lived) (run : (e : ℕ) → IsRun c (part e lived)) (fresh : (e : ℕ) → migrated (part e lived) ≡ []) where
+module _ (c : Shape) (lived : List Lived) (run : (e : ℕ) → IsRun c (part e lived)) (fresh : (e : ℕ) → migrated (part (suc e) lived) ≡ []) where
   -- whoever has learned an epoch whole carries the same over
   over_same : (e : ℕ) (over other : List Command) → CarriesInto c lived e over → CarriesInto c lived e other → over ≡ other
   over_same zero over other one two = one ∙ sym two
@@ -43,17 +44,28 @@ module _ (c : Shape) (lived : List Lived) (run : (e : ℕ) → IsRun c (part e l
         a.next e (omega (arith, one)) ∙ ap (λ (s : Stretch). place_of s c.slots) before ∙ sym (b.next e (omega (arith, two))) in
         ap₂ (λ (o : List Command) (n : ℕ). record { over = o; behind = n }) overs behinds
 
-    stands : (n : ℕ) (command : Command) → slice_get a.commands n ≡ Some command → slice_get b.commands n ≡ Some command
-    stands n command found =
-        let from = a.submitted n command found in
-        let who = runs_who_chose c lived run fresh from.epoch from.slot (spelling command) from.chosen in
-        let same = same_stretch from.epoch from.upto (b.none who.place from.epoch who.host who.memory who.runs) in
+    -- what was migrated begins both
+    stands_first : (n : ℕ) (command : Command) → n < length (migrated (part zero lived)) → slice_get a.commands n ≡ Some command → slice_get b.commands n ≡ Some command
+    stands_first n command early found =
+        let first = migrated (part zero lived) in
+        let item = item_below first n early in
+        let here = prefix_get first a.commands n item.0 a.begun item.1 in
+        let same : Some item.0 ≡ Some command = sym here ∙ found in
+        prefix_get first b.commands n item.0 b.begun item.1 ∙ same
+
+    stands_later : (n : ℕ) (command : Command) → length (migrated (part zero lived)) ≤ n → slice_get a.commands n ≡ Some command → slice_get b.commands n ≡ Some command
+    stands_later n command late found =
+        let from = a.submitted n command late found in
+        let same = same_stretch from.epoch from.upto (upto_last c lived b.last run fresh b.none from.epoch from.slot (spelling command) from.chosen) in
         let s = b.stretch from.epoch in
         let item = map_item (log_of b.commands s) from.slot (spelling command) (b.one from.epoch from.slot (spelling command) from.chosen) in
         let past : length s.over ≤ from.slot = subst (λ (t : Stretch). length t.over ≤ from.slot) same from.behind in
         let there : n ≡ place_of s from.slot = sym from.there ∙ ap (λ (t : Stretch). place_of t from.slot) same in
         let is : slice_get b.commands n ≡ Some item.0 = drop_get s.behind b.commands (from.slot - length s.over) item.0 n (get_from s.over (drop s.behind b.commands) from.slot item.0 item.1 past) there in
-        is ∙ ap Some (one_command item.0 command (reads b.last b.stretch n item.0 (b.submitted n item.0 is)) (reads a.last a.stretch n command from) item.2)
+        is ∙ ap Some (one_command item.0 command (reads b.last b.stretch n item.0 (b.submitted n item.0 late is)) (reads a.last a.stretch n command from) item.2)
+
+    stands : (n : ℕ) (command : Command) → slice_get a.commands n ≡ Some command → slice_get b.commands n ≡ Some command
+    stands n command found = elim (cases_lt n (length (migrated (part zero lived)))) [ inl early ↦ stands_first n command early found | inr late ↦ stands_later n command late found ]
 
 pub endless_logs_are_one : EndlessLogsAreOne
 endless_logs_are_one c lived run fresh a b =

@@ -1,7 +1,9 @@
 -- Who put in what is chosen, in a run that begins on zeros.
 use Rattle.std.specs.Prelude.{slice_get}
-use Rattle.std.proofs.Common.{ℕ, suc, ◌<◌, ◌≡◌, true, inl, inr, Some, List, [], length, map, refl, sym, subst, ap, ◌∙◌, arith}
+use Rattle.std.proofs.Common.{ℕ, suc, ◌<◌, ◌≡◌, true, inl, inr, Some, List, length, map, refl, sym, subst, ap, ◌∙◌, arith, ◌≤◌, ◌⊎◌}
 use Rattle.std.proofs.lemmas.Bool.{eqb-true}
+use Rattle.std.proofs.lemmas.List.{length-map}
+use Rattle.std.proofs.lemmas.Option.{slice_get_within}
 use Rattle.lock_command.specs.declared.command.Command.{Command}
 use Rattle.lock_command.specs.Command.{spelling}
 use Rattle.lock_command.specs.Reading.{decoded}
@@ -10,6 +12,7 @@ use Rattle.host.specs.Host.{Operation, Submitting, Recovering, Attempt, Attempts
 use Rattle.world.specs.Entry.{Filled, Start, Stop, Begin, Called, Torn, Crashed, Lost, Migrated, is_of}
 use Rattle.world.specs.World.{IsRun, ReadsBack}
 use Rattle.world.specs.Chosen.{at, migrated, IsMigrated, IsChosen}
+use Rattle.world.proofs.Runs.{migrated_fits}
 use Rattle.world_safety.specs.Goes.{ProposesWith}
 use Rattle.world_safety.specs.Tracks.{IsChosenBefore, IsSubmittedBy, AreChosen, IsTrue, IsTrueOf, IsTrueDoing}
 use Rattle.world_safety.specs.Tied.{HostAt, IsDoing, IsRunning, IsTrying}
@@ -35,13 +38,7 @@ pub record IsPutBy (c : Shape) (log : List Filled) (slot : ℕ) (value : List �
 pub one_spelled : (command wanted : Command) → ReadsBack command → ReadsBack wanted → spelling command ≡ spelling wanted → command ≡ wanted
 one_spelled command wanted one other same = let both : Some command ≡ Some wanted = sym one ∙ ap decoded same ∙ other in cc
 
-module _ (c : Shape) (log : List Filled) (run : IsRun c log) (fresh : migrated log ≡ []) where
-  pub none_migrated : (slot : ℕ) (value : List ℕ) → IsMigrated log slot value → ⊥
-  none_migrated slot value is = let none : slice_get (map spelling []) slot ≡ Some value = subst (λ (l : List Command). slice_get (map spelling l) slot ≡ Some value) fresh is in absurd (nothing slot none)
-    where
-      nothing : (k : ℕ) → slice_get (map spelling []) k ≡ Some value → ⊥
-      nothing k is = let impossible : ⊥ = cc in impossible
-
+module _ (c : Shape) (log : List Filled) (run : IsRun c log) where
   input_is : (operation : Operation) (v : List ℕ) → input_of operation ≡ Some v → (command : Command) × (operation ≡ Submitting command) × (v ≡ spelling command)
   input_is (Submitting command) v is = (command, refl, (let same : spelling command ≡ v = cc in sym same))
   input_is Recovering v is = absurd (cc)
@@ -78,21 +75,38 @@ module _ (c : Shape) (log : List Filled) (run : IsRun c log) (fresh : migrated l
         begun = under_way.0 by.0 by.1;
       }
 
-  pub put_before : (i slot : ℕ) (value : List ℕ) → IsChosenBefore c log i slot value → IsPutBy c log slot value
-  put_before i slot value chosen = elim (put_by_then c log run i slot value chosen) [ inl is ↦ put_then i slot value is | inr is ↦ absurd (none_migrated slot value is) ]
+  -- it was put in so, or migrated
+  put_or_migrated : (i slot : ℕ) (value : List ℕ) → IsChosenBefore c log i slot value → IsPutBy c log slot value ⊎ IsMigrated log slot value
+  put_or_migrated i slot value chosen = elim (put_by_then c log run i slot value chosen) [ inl is ↦ inl (put_then i slot value is) | inr is ↦ inr is ]
 
-  pub put_chosen : (slot : ℕ) (value : List ℕ) → IsChosen c log slot value → IsPutBy c log slot value
-  put_chosen slot value (inl is) = put_before (suc is.0) slot value (inl (record { place = is.0; before = omega arith; is = is.1 }))
-  put_chosen slot value (inr is) = absurd (none_migrated slot value is)
+  chosen_or_migrated : (slot : ℕ) (value : List ℕ) → IsChosen c log slot value → IsPutBy c log slot value ⊎ IsMigrated log slot value
+  chosen_or_migrated slot value (inl is) = put_or_migrated (suc is.0) slot value (inl (record { place = is.0; before = omega arith; is = is.1 }))
+  chosen_or_migrated slot value (inr is) = inr is
 
-  -- what is chosen is chosen for a slot of the log
-  pub chosen_fits : (slot : ℕ) (value : List ℕ) → IsChosen c log slot value → slot < c.slots
-  chosen_fits slot value is =
-      let put = put_chosen slot value is in
+  -- a slot that was migrated is one of the first
+  migrated_below : (slot : ℕ) (value : List ℕ) → IsMigrated log slot value → slot < length (migrated log)
+  migrated_below slot value is = let within = slice_get_within (map spelling (migrated log)) slot value is in omega (arith, within, length-map (migrated log) spelling)
+
+  -- behind these it was put in
+  pub put_before : (i slot : ℕ) (value : List ℕ) → length (migrated log) ≤ slot → IsChosenBefore c log i slot value → IsPutBy c log slot value
+  put_before i slot value past chosen = elim (put_or_migrated i slot value chosen) [ inl is ↦ is | inr is ↦ absurd (let below = migrated_below slot value is in omega (arith, below, past)) ]
+
+  pub put_chosen : (slot : ℕ) (value : List ℕ) → length (migrated log) ≤ slot → IsChosen c log slot value → IsPutBy c log slot value
+  put_chosen slot value past chosen = elim (chosen_or_migrated slot value chosen) [ inl is ↦ is | inr is ↦ absurd (let below = migrated_below slot value is in omega (arith, below, past)) ]
+
+  put_fits : (slot : ℕ) (value : List ℕ) → IsPutBy c log slot value → slot < c.slots
+  put_fits slot value put =
       let running : IsRunning c (at c log put.place) (moves_at c log run put.place) put.host put.memory = subst (HostAt c (at c log put.place) (moves_at c log run put.place) put.host) put.running ((tied_at c log run put.place).hosts put.host) in
       let trying : IsTrying c (at c log put.place) (moves_at c log run put.place) put.host put.memory put.doing = subst (IsDoing c (at c log put.place) (moves_at c log run put.place) put.host put.memory) put.does running.doing in
       let fits = trying.fits in
       omega (arith, fits, put.on_slot)
+
+  -- what is chosen is chosen for a slot of the log
+  pub chosen_fits : (slot : ℕ) (value : List ℕ) → IsChosen c log slot value → slot < c.slots
+  chosen_fits slot value is = elim (chosen_or_migrated slot value is) [
+    | inl put ↦ put_fits slot value put
+    | inr first ↦ (let below = migrated_below slot value first in let few = migrated_fits c log run in omega (arith, below, few))
+  ]
 
   -- what a host has learned was chosen, and reads back
   learned_true : (i : ℕ) (host : Host) (h : ℕ) → IsTrueOf c log i h host → AreChosen c log i (learned_of host)

@@ -199,7 +199,7 @@ module _ (c : Shape) (lived : List Lived) (of : (e : ℕ) → IsRunOf c (part e 
         places = places;
         is = runs;
         hosts = hosts;
-        one = endless_headline c filled runs fresh
+        one = endless_headline c filled runs (λ e. fresh (suc e))
             (keeps_too c lived filled places (λ e i h. like_same ((at c (part e lived) i).host h) ((at c (part e filled) i).host h) (hosts e i h)) (λ e. same_call (part e filled) (part e lived) (same e)) keeps);
       }
 

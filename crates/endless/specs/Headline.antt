@@ -133,9 +133,11 @@ pub record HasOneLogWithoutEnd (c : Shape) (lived : List Lived) : Type 0 where
   pub first : stretch zero ≡ record { over = []; behind = 0 }
   pub over : (e : ℕ) → e < last → CarriesInto c lived (suc e) (stretch (suc e)).over
   pub next : (e : ℕ) → e < last → (stretch (suc e)).behind ≡ place_of (stretch e) c.slots
-  -- each command of it is one for which a client may ask, and was submitted and chosen in some epoch
-  pub asked : (n : ℕ) (command : Command) → slice_get commands n ≡ Some command → is_submittable command ≡ true
-  pub submitted : (n : ℕ) (command : Command) → slice_get commands n ≡ Some command → ComesFrom c lived last stretch n command
+  -- the commands that were migrated begin it
+  pub begun : IsPrefix (migrated (part zero lived)) commands
+  -- each further command of it is one for which a client may ask, and was submitted and chosen in some epoch
+  pub asked : (n : ℕ) (command : Command) → length (migrated (part zero lived)) ≤ n → slice_get commands n ≡ Some command → is_submittable command ≡ true
+  pub submitted : (n : ℕ) (command : Command) → length (migrated (part zero lived)) ≤ n → slice_get commands n ≡ Some command → ComesFrom c lived last stretch n command
   -- what an answer chooses in an epoch was submitted there before
   pub before : (e i slot : ℕ) (value : List ℕ) → IsChosenAt c (part e lived) i slot value → IsSubmittedBefore (part e lived) i value
   -- what is chosen for a slot of an epoch is what carries the table over there, or the command of the one log
@@ -153,18 +155,20 @@ pub record HasOneLogWithoutEnd (c : Shape) (lived : List Lived) : Type 0 where
   -- unless the epoch was whole, each client's command that was acknowledged before the recovery began, in whatever epoch, is in that beginning
   pub holds : (i j e f h n slot : ℕ) (command : Command) → IsRecoveryIn c lived i j e h n → n < c.slots → IsAcknowledgedEarlier c lived i f slot command → is_submittable command ≡ true →
       place_of (stretch f) slot < place_of (stretch e) n
+  -- and so is each command that was migrated
+  pub keeps : (i e h n : ℕ) → SaysIn c lived i e h (Recovered n) → length (migrated (part zero lived)) ≤ place_of (stretch e) n
   -- a look has learned as many commands of the epoch as it says, though more may have been acknowledged before
   pub looked : (i e h n : ℕ) → SaysIn c lived i e h (Looked n) → (length (learned_in c lived (suc i) e h) ≡ n) × GoesByLog commands (stretch e) (learned_in c lived (suc i) e h)
 
--- So it is where each epoch is a run that begins on zeros, and hosts keep to the epochs.
+-- So it is where each epoch is a run, each but the first one that begins on zeros, and hosts keep to the epochs.
 abbrev pub EndlessHeadline : Type 0
 EndlessHeadline =
-    (c : Shape) (lived : List Lived) → ((e : ℕ) → IsRun c (part e lived)) → ((e : ℕ) → migrated (part e lived) ≡ []) → KeepsToEpochs c lived → HasOneLogWithoutEnd c lived
+    (c : Shape) (lived : List Lived) → ((e : ℕ) → IsRun c (part e lived)) → ((e : ℕ) → migrated (part (suc e) lived) ≡ []) → KeepsToEpochs c lived → HasOneLogWithoutEnd c lived
 
 -- There is no second such log.
 abbrev pub EndlessLogsAreOne : Type 0
 EndlessLogsAreOne =
-    (c : Shape) (lived : List Lived) → ((e : ℕ) → IsRun c (part e lived)) → ((e : ℕ) → migrated (part e lived) ≡ []) → (one other : HasOneLogWithoutEnd c lived) → one.commands ≡ other.commands
+    (c : Shape) (lived : List Lived) → ((e : ℕ) → IsRun c (part e lived)) → ((e : ℕ) → migrated (part (suc e) lived) ≡ []) → (one other : HasOneLogWithoutEnd c lived) → one.commands ≡ other.commands
 
 -- What carries a table over has room where there is a slot for each lock and each client.
 abbrev pub LongEpochsHaveRoom : Type 0
