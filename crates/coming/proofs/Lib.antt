@@ -1,0 +1,3 @@
+pub mod Pasts
+pub mod Going
+pub mod Asking

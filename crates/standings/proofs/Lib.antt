@@ -1,0 +1,4 @@
+pub mod EpochLaws
+pub mod Masks
+pub mod Numbers
+pub mod TwoReadings

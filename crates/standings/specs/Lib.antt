@@ -1,0 +1,4 @@
+pub mod Epochs
+pub mod Laws
+pub mod Past
+pub mod Reading
