@@ -140,9 +140,10 @@ off_moved n e shown whole (Write boot at from) is_area room may = (fits_in n e.a
 off_moved n e shown whole (Sync boot) is_area room may = tt
 
 known_in : (n : ℕ) (e : Epoch) (shown : ℕ → Bool) (whole new : DiskState) (beats : Beats) (entry : Filled) → e.area < 2 → Known n whole beats → HappensIn n e shown whole entry new → Known n new beats
+unfolding IsOff
 known_in n e shown whole new beats (Called h d call answer left) is_area known (inl is) =
     known_off n whole new beats (moved (base_of n e.area) call) is.told known (off_moved n e shown whole call is_area known.room is.may) is.step
-known_in n e shown whole new beats (Called h d call answer left) is_area known (inr is) = subst (λ (d : DiskState). Known n d beats) (sym is.same) known
+known_in n e shown whole new beats (Called h d call answer left) is_area known (inr is) = known_off n whole new beats (Read is.boot is.at is.len) (Fault is.fault) known tt is.step
 known_in n e shown whole new beats (entries.Torn h d Attach left) is_area known is = absurd is
 known_in n e shown whole new beats (entries.Torn h d (Read boot at len) left) is_area known is = absurd is
 known_in n e shown whole new beats (entries.Torn h d (Write boot at from) left) is_area known is =
@@ -165,7 +166,7 @@ off_apart n whole (Sync boot) apart = tt
 -- A BEAT
 
 -- its call writes in the host's block alone
-InBlock : ℕ → Call → Type 0
+unfoldable pub InBlock : ℕ → Call → Type 0
 InBlock place Attach = Unit {0}
 InBlock place (Read boot at len) = Unit {0}
 InBlock place (Write boot at from) = (place ≤ at) × (at + length from ≤ place + 256)
@@ -175,7 +176,7 @@ closing_length : (opened : Bool) → length {A = ℕ} (if opened then 0 ∷ [] e
 closing_length true = omega arith
 closing_length false = omega arith
 
-write_in : (n area host : ℕ) (block : List ℕ) (boot : ℕ) (due : WriteCall) → InBlock (number_place n area host) (call_of due (written_over n area host block) boot)
+pub write_in : (n area host : ℕ) (block : List ℕ) (boot : ℕ) (due : WriteCall) → InBlock (number_place n area host) (call_of due (written_over n area host block) boot)
 unfolding InBlock
 write_in n area host block boot CloseGate =
     let short = closing_length (is_open (copy_of cluster_version (target_of cluster_version block) block)) in
@@ -452,10 +453,10 @@ module _ (IsCrash : DiskState → DiskState → Type 0)
       let by = one act whole all.0 beats all.1 known all.2 in
       let rest = beats_along acts all.0 last all.1 last_beats by.known_then all.3 in record { goes = (all.0, by.goes, rest.goes); known_last = rest.known_last }
 
-model_leaves : (old new : DiskState) → IsModelCrash old new → KeepsSynced old.unsynced old.bytes new.bytes × (new.unsynced ≡ replicate (length old.bytes) false) × ((new.boot ≡ old.boot + 1) ⊎ (new.boot ≡ old.boot))
+pub model_leaves : (old new : DiskState) → IsModelCrash old new → KeepsSynced old.unsynced old.bytes new.bytes × (new.unsynced ≡ replicate (length old.bytes) false) × ((new.boot ≡ old.boot + 1) ⊎ (new.boot ≡ old.boot))
 model_leaves old new crash = (crash.1.bytes, crash.1.unsynced, inl crash.1.boot)
 
-power_leaves : (old new : DiskState) → LosesPower old new → KeepsSynced old.unsynced old.bytes new.bytes × (new.unsynced ≡ replicate (length old.bytes) false) × ((new.boot ≡ old.boot + 1) ⊎ (new.boot ≡ old.boot))
+pub power_leaves : (old new : DiskState) → LosesPower old new → KeepsSynced old.unsynced old.bytes new.bytes × (new.unsynced ≡ replicate (length old.bytes) false) × ((new.boot ≡ old.boot + 1) ⊎ (new.boot ≡ old.boot))
 power_leaves old new crash = (crash.bytes, crash.unsynced, inr (crash.after ∙ sym crash.before))
 
 known_first : (n size : ℕ) → 4096 ≤ n → 4096 + n + n ≤ size → Known n (fresh_disk size) none_beats

@@ -31,7 +31,7 @@ use Rattle.epochs.specs.Numbers.{write_over, IsTried}
 use Rattle.epochs.specs.Acts.{Epoch, epoch_of, is_same, base_of, Shared, fresh_shared, Act, In, Beside, Turns, Ends, part, sure_by, IsShown, IsInside, MayMake, WritesBeside, IsTurned, IsTurning, IsModelCrash, GoesBy, ServesAll, GoesThrough, HasNoCrash, shown_by, AreClear}
 use Rattle.epochs.specs.Bytes.{number_place, number_of, IsSurely, AreShown, AreInside, MayCall, IsAnswered, IsUntold, IsCutOff, HappensIn, IsBeat, IsApart, GoesTo, ServesCalls, CallsServe, CallsServeOn, GoesAlong, read_on, ReadBytesShow}
 use Rattle.epochs.proofs.Numbers.{zeros_are_none, tried}
-use Rattle.epochs.proofs.Readings.{readings_show}
+use Rattle.epochs.proofs.Readings.{Rises, readings_show, through_rises}
 use Rattle.epochs.proofs.Serving.{areas_serve, areas_serve_on}
 use Rattle.epochs.proofs.Standings.{cleared_written, cleared_lost}
 
@@ -136,7 +136,7 @@ IsOutcome n area host whole kept bytes =
     ⊎ (number_of n area host bytes ≡ number_of n area host whole.bytes)
     ⊎ ((number_of n area host bytes ≡ number_of n area host whole.bytes + 1) × IsReady n area host whole kept)
 
-record Ties (n : ℕ) (whole : DiskState) (kept : List ℕ) : Type 0 where
+pub record Ties (n : ℕ) (whole : DiskState) (kept : List ℕ) : Type 0 where
   row : 4096 ≤ n
   room : 4096 + n + n ≤ length whole.bytes
   marked : IsWhole whole
@@ -456,13 +456,23 @@ module _ (n : ℕ) (whole : DiskState) (kept : List ℕ) (ties : Ties n whole ke
       untold : (h d : ℕ) (call : Call) (answer : Answer) (left : List ℕ) (new : DiskState) → IsUntold whole new call answer → Follows (In e shown (Called h d call answer left)) new
       unfolding shared GoesOver
       untold h d call answer left new is =
+          let same = same_by (Read is.boot is.at is.len) new refl (λ same. same) (Fault is.fault) is.step in
           record {
             kept_then = kept;
-            ties_then = subst (λ (d : DiskState). Ties n d kept) (sym is.same) ties;
+            ties_then = subst (λ (d : DiskState). Ties n d kept) (sym same) ties;
             goes = inl (
               e_area,
               e_even,
-              inr (record { at = is.at; len = is.len; is = is.is; there = is.there; given = is.given; same = ap (λ (d : DiskState). shared n d kept) is.same }),
+              inr (record {
+                boot = is.boot;
+                at = is.at;
+                len = is.len;
+                fault = is.fault;
+                is = is.is;
+                given = is.given;
+                step = subst (Step whole (Read is.boot is.at is.len) (Fault is.fault)) same is.step;
+                same = ap (λ (d : DiskState). shared n d kept) same;
+              }),
             );
           }
 
@@ -824,19 +834,20 @@ part_more e (Beside call answer) one other same = same
 part_more e (Turns area host) one other same = same
 part_more e (Ends entry) one other same = ap (λ (l : List Filled). entry ∷ l) same
 
-module _ (IsCrash : DiskState → DiskState → Type 0) (leaves : (old new : DiskState) → IsCrash old new → KeepsSynced old.unsynced old.bytes new.bytes × (new.unsynced ≡ replicate (length old.bytes) false)) (c : Shape) (k n : ℕ) (e : Epoch) where
-  calls_are_acts : (calls : List Act) (whole : DiskState) (kept : List ℕ) → Ties n whole kept → ServesCalls IsCrash c k n whole calls → (acts : List Act) × ServesAll IsCrash c k n (shared n whole kept) acts × (part e acts ≡ part e calls)
+module _ (IsCrash : DiskState → DiskState → Type 0) (leaves : (old new : DiskState) → IsCrash old new → KeepsSynced old.unsynced old.bytes new.bytes × (new.unsynced ≡ replicate (length old.bytes) false)) (c : Shape) (k n : ℕ) where
+  calls_are_acts : (calls : List Act) (whole : DiskState) (kept : List ℕ) → Ties n whole kept → ServesCalls IsCrash c k n whole calls →
+      (acts : List Act) × ServesAll IsCrash c k n (shared n whole kept) acts × ((e : Epoch) → part e acts ≡ part e calls)
   unfolding GoesOver
-  calls_are_acts [] whole kept ties all = ([], tt, refl)
+  calls_are_acts [] whole kept ties all = ([], tt, λ e. refl)
   calls_are_acts (act ∷ calls) whole kept ties all =
       let by = goes_to n whole kept ties IsCrash c k (leaves whole) act all.0 all.1 in
       let rest = calls_are_acts calls all.0 by.kept_then by.ties_then all.2 in
       elim by.goes [
-        | inl goes ↦ (act ∷ rest.0, (shared n all.0 by.kept_then, goes, rest.1), part_more e act rest.0 calls rest.2)
+        | inl goes ↦ (act ∷ rest.0, (shared n all.0 by.kept_then, goes, rest.1), λ e. part_more e act rest.0 calls (rest.2 e))
         | inr turns ↦ (
           Turns turns.1 turns.2 ∷ act ∷ rest.0,
           (turns.0, turns.3, (shared n all.0 by.kept_then, turns.4, rest.1)),
-          part_more e act rest.0 calls rest.2,
+          λ e. part_more e act rest.0 calls (rest.2 e),
         )
       ]
 
@@ -931,15 +942,21 @@ shared_first : (n size : ℕ) → shared n (fresh_disk size) (fresh_disk size).b
 unfolding shared
 shared_first n size = λ i. record { whole = fresh_disk size; seen = numbers_first n size i; sure = numbers_first n size i }
 
+pub calls_are_all : (IsCrash : DiskState → DiskState → Type 0) → ((old new : DiskState) → IsCrash old new → KeepsSynced old.unsynced old.bytes new.bytes × (new.unsynced ≡ replicate (length old.bytes) false)) → (c : Shape) (k n size : ℕ) (calls : List Act) → 4096 ≤ n → 4096 + n + n ≤ size →
+    ServesCalls IsCrash c k n (fresh_disk size) calls → (acts : List Act) × ServesAll IsCrash c k n (fresh_shared size) acts × ((e : Epoch) → part e acts ≡ part e calls)
+calls_are_all IsCrash leaves c k n size calls row fits all =
+    let by = calls_are_acts IsCrash leaves c k n calls (fresh_disk size) (fresh_disk size).bytes (ties_first n size row fits) all in
+    (by.0, subst (λ (s : Shared). ServesAll IsCrash c k n s by.0) (shared_first n size) by.1, by.2)
+
 pub calls_serve : CallsServe
 calls_serve c k n size e calls row fits all =
-    let by = calls_are_acts IsModelCrash (λ old new crash. (crash.1.bytes, crash.1.unsynced)) c k n (epoch_of e) calls (fresh_disk size) (fresh_disk size).bytes (ties_first n size row fits) all in
-    subst (Serves c k (fresh_disk n)) by.2 (areas_serve c k n size e by.0 fits (subst (λ (s : Shared). ServesAll IsModelCrash c k n s by.0) (shared_first n size) by.1))
+    let by = calls_are_all IsModelCrash (λ old new crash. (crash.1.bytes, crash.1.unsynced)) c k n size calls row fits all in
+    subst (Serves c k (fresh_disk n)) (by.2 (epoch_of e)) (areas_serve c k n size e by.0 fits by.1)
 
 pub calls_serve_on : CallsServeOn
 calls_serve_on c k n size e calls row fits all =
-    let by = calls_are_acts LosesPower (λ old new crash. (crash.bytes, crash.unsynced)) c k n (epoch_of e) calls (fresh_disk size) (fresh_disk size).bytes (ties_first n size row fits) all in
-    subst (ServesOn c k (fresh_disk n)) by.2 (areas_serve_on c k n size e by.0 fits (subst (λ (s : Shared). ServesAll LosesPower c k n s by.0) (shared_first n size) by.1))
+    let by = calls_are_all LosesPower (λ old new crash. (crash.bytes, crash.unsynced)) c k n size calls row fits all in
+    subst (ServesOn c k (fresh_disk n)) (by.2 (epoch_of e)) (areas_serve_on c k n size e by.0 fits by.1)
 
 -- READINGS
 
@@ -966,3 +983,28 @@ read_model_bytes_show = read_bytes_show IsModelCrash (λ old new crash. (crash.1
 
 pub read_file_bytes_show : ReadBytesShow LosesPower
 read_file_bytes_show = read_bytes_show LosesPower (λ old new crash. (crash.bytes, crash.unsynced))
+
+-- ONE ACT MORE
+
+-- a disk whose numbers are known so
+abbrev pub Tied : ℕ → DiskState → Type 0
+Tied n whole = (kept : List ℕ) × Ties n whole kept
+
+pub tied_first : (n size : ℕ) → 4096 ≤ n → 4096 + n + n ≤ size → Tied n (fresh_disk size)
+tied_first n size row fits = ((fresh_disk size).bytes, ties_first n size row fits)
+
+module _ (IsCrash : DiskState → DiskState → Type 0) (leaves : (old new : DiskState) → IsCrash old new → KeepsSynced old.unsynced old.bytes new.bytes × (new.unsynced ≡ replicate (length old.bytes) false)) (c : Shape) (k n : ℕ) (act : Act) (whole new : DiskState) (goes : GoesTo IsCrash c k n whole act new) (tied : Tied n whole) where
+  along : Along IsCrash c k n (shared n whole tied.0) (act ∷ []) new
+  along = goes_along IsCrash leaves c k n (act ∷ []) whole tied.0 new tied.1 (new, goes, refl)
+
+  pub tied_on : Tied n new
+  tied_on = (along.kept_last, along.ties_last)
+
+  -- while the disk does not crash numbers only rise
+  pub numbers_rise : HasNoCrash (act ∷ []) → (area host : ℕ) → area < 2 → host < 16 → number_of n area host whole.bytes ≤ number_of n area host new.bytes
+  unfolding shared Rises
+  numbers_rise none area host is_area is_host =
+      let rises = through_rises IsCrash c k n along.acts (shared n whole tied.0) (shared n new along.kept_last) along.goes (along.none none) area host in
+      let was = numbers_is n whole.bytes area host is_area is_host in
+      let now = numbers_is n new.bytes area host is_area is_host in
+      omega (arith, rises, was, now)

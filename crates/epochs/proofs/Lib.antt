@@ -1,7 +1,10 @@
 pub mod Beats
+pub mod Begun
 pub mod Bytes
+pub mod Deeds
 pub mod Numbers
 pub mod OneLog
+pub mod Pasts
 pub mod Readings
 pub mod Rounds
 pub mod Serving

@@ -9,7 +9,7 @@ use Rattle.disk.specs.Disk.{DiskState, Attach, Read, Write, Sync}
 use Rattle.epochs.specs.Acts.{Epoch, Shared, Act, In, Beside, Turns, Ends, GoesIn, IsTurned, GoesBy, GoesThrough, HasNoCrash, shown_by, ReadingsShow}
 
 -- it is not less
-Rises : Shared → Shared → Type 0
+unfoldable pub Rises : Shared → Shared → Type 0
 Rises old new = (area host : ℕ) → old.seen area host ≤ new.seen area host
 
 same_rises : (old new : Shared) → new.seen ≡ old.seen → Rises old new
@@ -73,7 +73,7 @@ module _ (IsCrash : DiskState → DiskState → Type 0) (c : Shape) (k n : ℕ) 
   rest_has (Ends (entries.Torn h d call left)) acts none = none
   rest_has (Ends (Migrated disks log)) acts none = none
 
-  through_rises : (acts : List Act) (old last : Shared) → GoesThrough IsCrash c k n old acts last → HasNoCrash acts → Rises old last
+  pub through_rises : (acts : List Act) (old last : Shared) → GoesThrough IsCrash c k n old acts last → HasNoCrash acts → Rises old last
   unfolding Rises
   through_rises [] old last goes none area host = all_same old last goes area host
   through_rises (act ∷ acts) old last goes none area host =

@@ -3,7 +3,8 @@ use Rattle.std.specs.Prelude.{◌⊎◌, ◌%◌, ◌^◌, ◌&&◌}
 use Rattle.std.proofs.Common.{ℕ, ◌≡◌, ◌+◌, ◌≤◌, ◌<◌, ◌==◌, Bool, true, false, true≢false, cond, List, [], ◌∷◌, length, refl, sym, ◌∙◌, ap, subst, inl, inr, arith}
 use Rattle.std.proofs.lemmas.Bool.{cases_lt, cases_eq, cases_Bool, eqb-true, eq-eqb, and_parts}
 use Rattle.std.proofs.lemmas.List.{length-replicate}
-use Rattle.disk.specs.declared.fault.DiskFault.TheVariants.{Failed}
+use Rattle.disk.specs.declared.fault.DiskFault.{DiskFault}
+use Rattle.disk.specs.declared.fault.DiskFault.TheVariants.{Reset, Failed, Gone}
 use Rattle.disk.specs.Disk.{DiskState, Call, Attach, Read, Write, Sync, Answer, Booted, Told, Done, Fault, Step, Crashes, lost}
 use Rattle.disk.specs.Crash.{IsWhole}
 use Rattle.disk.specs.Simulated.{fresh_disk}
@@ -32,6 +33,12 @@ record Ordered (n : ℕ) (s : Shared) : Type 0 where
   room : 4096 + n + n ≤ length s.whole.bytes
   marked : IsWhole s.whole
   next : (area host : ℕ) → area < 2 → IsNext n (base_of n area) host (s.sure area host) (s.seen area host) s.whole
+
+-- an image that has the disk's boot number, and is lost with it, refuses a read as the disk does
+refuses_read : (whole image : DiskState) (boot at len : ℕ) (fault : DiskFault) → image.gone ≡ whole.gone → image.boot ≡ whole.boot → Step whole (Read boot at len) (Fault fault) whole → Step image (Read boot at len) (Fault fault) image
+refuses_read whole image boot at len Gone gone same step = (gone ∙ step.0, refl)
+refuses_read whole image boot at len Reset gone same step = (gone ∙ step.0, λ is. step.1 (is ∙ same), refl)
+refuses_read whole image boot at len Failed gone same step = (gone ∙ step.0, step.1 ∙ sym same, refl)
 
 -- a sync makes sure of what is seen, or nothing does
 sure_either : (call : Call) (answer : Answer) (s : Shared) → (sure_by call answer s ≡ s.sure) ⊎ (sure_by call answer s ≡ s.seen)
@@ -255,15 +262,15 @@ module _ (n : ℕ) (old new : Shared) (is : Ordered n old) where
           ordered n old new kept room marked made.seen call answer made.sure,
         )
 
-    -- a refused read
+    -- a read of which a fault is heard
     refused_own : (image : DiskState) (call : Call) (answer : Answer) → Shows n e old image → IsRefused old new call answer → Comes (λ left. Step image call answer left)
     refused_own image call answer shows refused =
         record {
           image_new = image;
           goes =
               subst (λ (x : Call). Step image x answer image) (sym refused.is)
-              (subst (λ (a : Answer). Step image (Read old.whole.boot refused.at refused.len) a image) (sym refused.given)
-              (shows.gone ∙ refused.there, sym shows.boot, refl));
+              (subst (λ (a : Answer). Step image (Read refused.boot refused.at refused.len) a image) (sym refused.given)
+              (refuses_read old.whole image refused.boot refused.at refused.len refused.fault shows.gone shows.boot refused.step));
           shows_new = subst (λ (s : Shared). Shows n e s image) (sym refused.same) shows;
           ordered_new = subst (Ordered n) (sym refused.same) is;
         }

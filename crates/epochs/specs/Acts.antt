@@ -1,6 +1,6 @@
 -- What is done to one disk by hosts of all epochs, and what of that is done to the image of each.
-use Rattle.std.specs.Prelude.{◌≡◌, ◌⊎◌, ◌+◌, ◌≤◌, ◌<◌, ◌%◌, ◌^◌, ◌==◌, ◌&&◌, ℕ, zero, suc, Bool, true, false, nat_lt, List, [], ◌∷◌, length, if◌then◌else◌}
-use Rattle.disk.specs.declared.fault.DiskFault.TheVariants.{Failed}
+use Rattle.std.specs.Prelude.{◌≡◌, ◌⊎◌, ◌+◌, ◌≤◌, ◌<◌, ◌%◌, ◌^◌, ◌==◌, ◌&&◌, ℕ, Bool, true, false, nat_lt, List, [], ◌∷◌, length, if◌then◌else◌}
+use Rattle.disk.specs.declared.fault.DiskFault.{DiskFault}
 use Rattle.disk.specs.Disk.{DiskState, Call, Attach, Read, Write, Sync, Answer, Done, Fault, Step, Crashes, lost}
 use Rattle.disk.specs.Simulated.{fresh_disk}
 use Rattle.torn_block.specs.declared.layout.TheConstants.{HOSTS, ROW_LENGTH}
@@ -10,25 +10,9 @@ use Rattle.world.specs.World.{Tears}
 use Rattle.at_once.specs.AtOnce.{Serves}
 use Rattle.at_once.specs.Power.{LosesPower, ServesOn}
 use Rattle.epochs.specs.Showing.{host_at, Standing, Before, Inside, After, moved, masked_in, IsCleared}
-
--- EPOCHS
-
--- Epochs take turns in two areas. In its area each has an even number.
-pub record Epoch : Type 0 where
-  pub area : ℕ
-  pub number : ℕ
-
--- the epochs one after another: 0 has number 0 in the first area, 1 has 2 in the second, 2 has 2 in the first, 3 has 4, and so on
-abbrev pub epoch_of : ℕ → Epoch
-epoch_of e = record { area = e % 2; number = e + e % 2 }
-
-abbrev pub is_same : Epoch → Epoch → Bool
-is_same a b = (a.area == b.area) && (a.number == b.number)
-
--- The first area is where the one image of a log that ends is. Behind it are the rows of standings, and behind these the second area. Of an area the first row is not used.
-abbrev pub base_of : ℕ → ℕ → ℕ
-base_of n zero = 0
-base_of n (suc area) = ROW_LENGTH + n
+pub use Rattle.standings.specs.declared.epoch.Epoch.{Epoch}
+pub use Rattle.standings.specs.Epochs.{epoch_of, is_same, base_of}
+pub use Rattle.standings.specs.Reading.{shown_by, AreClear}
 
 -- In a row of standings each host has a number, for each area. With that of an epoch it is inside, with a smaller one it has not come, and with a greater one it has left. An odd
 -- number stands while it clears its blocks for the epoch that has the next one.
@@ -95,13 +79,16 @@ pub record IsMade (n : ℕ) (e : Epoch) (shown : ℕ → Bool) (old new : Shared
   pub seen : new.seen ≡ old.seen
   pub sure : new.sure ≡ sure_by call answer old
 
--- Or it is a read of which the host hears that it failed: it may have seen a host that has left, or one that has just come.
+-- Or it is a read of which the host hears a fault with which the disk answers reads under that boot number: it failed, or may have seen a host that has left, or one that has
+-- just come.
 pub record IsRefused (old new : Shared) (call : Call) (answer : Answer) : Type 0 where
+  pub boot : ℕ
   pub at : ℕ
   pub len : ℕ
-  pub is : call ≡ Read old.whole.boot at len
-  pub there : old.whole.gone ≡ false
-  pub given : answer ≡ Fault Failed
+  pub fault : DiskFault
+  pub is : call ≡ Read boot at len
+  pub given : answer ≡ Fault fault
+  pub step : Step old.whole (Read boot at len) (Fault fault) old.whole
   pub same : new ≡ old
 
 abbrev pub IsCut : ℕ → Epoch → Shared → Shared → Call → Type 0
@@ -197,14 +184,6 @@ abbrev pub HasNoCrash : List Act → Type 0
 HasNoCrash [] = Unit {0}
 HasNoCrash (Ends (Crashed d left) ∷ acts) = ⊥
 HasNoCrash (other ∷ acts) = HasNoCrash acts
-
--- who has the epoch's number in both readings
-abbrev pub shown_by : Epoch → (ℕ → ℕ) → (ℕ → ℕ) → ℕ → Bool
-shown_by e first second host = (first host == e.number) && (second host == e.number)
-
--- No host has left by the second reading, and who is inside by then was inside in the first.
-abbrev pub AreClear : Epoch → (ℕ → ℕ) → (ℕ → ℕ) → Type 0
-AreClear e first second = (host : ℕ) → host < HOSTS → (second host ≤ e.number) × (second host ≡ e.number → first host ≡ e.number)
 
 -- The standings are read before a row and after it, and in between the disk does not crash. If the readings are clear, who has the epoch's number in both is to be shown.
 abbrev pub ReadingsShow : (DiskState → DiskState → Type 0) → Type 0

@@ -1,10 +1,10 @@
 -- What is done to one disk by hosts of all epochs, told by its bytes alone: a host's number is the counter of its block in a row of standings.
-use Rattle.std.specs.Prelude.{◌≡◌, ◌⊎◌, ◌+◌, ◌*◌, ◌≤◌, ◌<◌, ◌%◌, ℕ, Bool, true, false, List, [], ◌∷◌, length}
-use Rattle.disk.specs.declared.fault.DiskFault.TheVariants.{Failed}
+use Rattle.std.specs.Prelude.{◌≡◌, ◌⊎◌, ◌+◌, ◌≤◌, ◌<◌, ◌%◌, ℕ, Bool, true, false, List, [], ◌∷◌, length}
+use Rattle.disk.specs.declared.fault.DiskFault.{DiskFault}
 use Rattle.disk.specs.Disk.{DiskState, Call, Attach, Read, Write, Sync, Answer, Fault, Step, lost}
 use Rattle.disk.specs.Crash.{MayLeave}
 use Rattle.disk.specs.Simulated.{fresh_disk}
-use Rattle.torn_block.specs.declared.layout.TheConstants.{HOSTS, ROW_LENGTH, BLOCK_LENGTH}
+use Rattle.torn_block.specs.declared.layout.TheConstants.{HOSTS, ROW_LENGTH}
 use Rattle.torn_block.specs.declared.write_steps.WriteCall.{WriteCall}
 use Rattle.torn_block.specs.Stage.{call_of, IsPlaced, IsDue}
 use Rattle.heartbeat.specs.Beat.{beat_body, counter_of}
@@ -14,16 +14,9 @@ use Rattle.world.specs.World.{Tears}
 use Rattle.at_once.specs.AtOnce.{Serves}
 use Rattle.at_once.specs.Power.{LosesPower, ServesOn}
 use Rattle.epochs.specs.Showing.{host_at, moved, masked_in, IsCleared}
-use Rattle.epochs.specs.Numbers.{number_at, write_over}
+use Rattle.epochs.specs.Numbers.{write_over}
 use Rattle.epochs.specs.Acts.{Epoch, epoch_of, base_of, Act, In, Beside, Turns, Ends, part, IsModelCrash, HasNoCrash, shown_by, AreClear}
-
--- Behind the first area each area has a row of standings, in which each host has a block.
-abbrev pub number_place : (n area host : ℕ) → ℕ
-number_place n area host = n + ROW_LENGTH * area + BLOCK_LENGTH * host
-
--- the number of a host that these bytes say
-abbrev pub number_of : (n area host : ℕ) → List ℕ → ℕ
-number_of n area host bytes = number_at (number_place n area host) bytes
+pub use Rattle.standings.specs.Epochs.{number_place, number_of}
 
 -- it is this number, whatever a crash leaves now
 abbrev pub IsSurely : (n area host number : ℕ) → DiskState → Type 0
@@ -54,14 +47,15 @@ pub record IsAnswered (n : ℕ) (e : Epoch) (shown : ℕ → Bool) (old new : Di
   pub step : Step old (moved (base_of n e.area) call) told new
   pub given : answer ≡ masked_in shown told
 
--- Or it is a read of which the host hears that it failed.
+-- Or it is a read of which the host hears a fault with which the disk answers reads under that boot number.
 pub record IsUntold (old new : DiskState) (call : Call) (answer : Answer) : Type 0 where
+  pub boot : ℕ
   pub at : ℕ
   pub len : ℕ
-  pub is : call ≡ Read old.boot at len
-  pub there : old.gone ≡ false
-  pub given : answer ≡ Fault Failed
-  pub same : new ≡ old
+  pub fault : DiskFault
+  pub is : call ≡ Read boot at len
+  pub given : answer ≡ Fault fault
+  pub step : Step old (Read boot at len) (Fault fault) new
 
 -- Or its host stops within a write.
 abbrev pub IsCutOff : ℕ → Epoch → DiskState → DiskState → Call → Type 0

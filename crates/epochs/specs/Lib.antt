@@ -4,5 +4,6 @@ pub mod Bytes
 pub mod Laws
 pub mod Numbers
 pub mod OneLog
+pub mod Pasts
 pub mod Rounds
 pub mod Showing

@@ -8,14 +8,10 @@ use Rattle.disk.specs.Steps.{WritesOn}
 use Rattle.torn_block.specs.Layout.{cluster_version}
 use Rattle.torn_block.specs.declared.write_steps.WriteCall.{WriteCall}
 use Rattle.torn_block.specs.declared.write_steps.WriteCall.TheVariants.{SyncOpened}
-use Rattle.torn_block.specs.Place.{block_in}
 use Rattle.torn_block.specs.Register.{LiesOn, LeavesBlock}
 use Rattle.torn_block.specs.Stage.{Write128, call_of, IsPlaced, IsDue}
 use Rattle.heartbeat.specs.Beat.{counter_of}
-
--- the number that these bytes say
-abbrev pub number_at : ℕ → List ℕ → ℕ
-number_at place bytes = counter_of (block_in cluster_version place bytes)
+pub use Rattle.standings.specs.Epochs.{number_at}
 
 -- One number is seen. A crash leaves one that is sure, or that one, or where the next one is being written, the next one.
 pub record IsNumber (place : ℕ) (disk : DiskState) (sure seen : ℕ) (writing : Bool) : Type 0 where

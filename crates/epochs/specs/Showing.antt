@@ -1,14 +1,12 @@
 -- What an area of a disk shows of an epoch: an image of its own, in which each host has blocks only once it has come to the epoch.
-use Rattle.std.specs.Prelude.{◌≡◌, ◌⊎◌, ◌+◌, ◌≤◌, ◌<◌, ◌/◌, ◌%◌, ℕ, Bool, true, false, List, length, map, slice_index_or, if◌then◌else◌}
-use Rattle.std.specs.List.{range_with_len}
-use Rattle.disk.specs.Disk.{DiskState, Call, Attach, Read, Write, Sync, Answer, Booted, Told, Done, Fault}
+use Rattle.std.specs.Prelude.{◌≡◌, ◌⊎◌, ◌+◌, ◌≤◌, ◌<◌, ◌%◌, ℕ, Bool, true, false, length, slice_index_or}
+use Rattle.disk.specs.Disk.{DiskState, Call, Attach, Read, Write, Sync}
 use Rattle.disk.specs.Crash.{IsWhole}
 use Rattle.disk.specs.Steps.{HasShape}
-use Rattle.torn_block.specs.declared.layout.TheConstants.{ROW_LENGTH, BLOCK_LENGTH}
-
--- the host whose block a byte of an image is in
-abbrev pub host_at : ℕ → ℕ
-host_at p = p % ROW_LENGTH / BLOCK_LENGTH
+use Rattle.torn_block.specs.declared.layout.TheConstants.{ROW_LENGTH}
+pub use Rattle.standings.specs.Epochs.{host_at}
+pub use Rattle.standings.specs.Reading.{moved, masked_in}
+unfoldable pub use Rattle.standings.specs.Reading.{masked}
 
 -- On a disk a host has not come to the epoch, or it is in it, or it has left it for a later one that has the same area.
 pub data Standing : Type 0 where
@@ -31,24 +29,6 @@ pub record ShowsEpoch (n base : ℕ) (of : ℕ → Standing) (whole image : Disk
   pub still : (p : ℕ) → p < n → (p < ROW_LENGTH) ⊎ (of (host_at p) ≡ Before) → slice_index_or image.unsynced p false ≡ false
 
 -- WHAT A HOST OF THE EPOCH DOES
-
--- the call on the image, as it is made on the whole disk
-abbrev pub moved : ℕ → Call → Call
-moved base Attach = Attach
-moved base (Read boot at len) = Read boot (base + at) len
-moved base (Write boot at from) = Write boot (base + at) from
-moved base (Sync boot) = Sync boot
-
--- a row with zeros in the place of the blocks of hosts that are not to be shown
-unfoldable pub masked : (ℕ → Bool) → List ℕ → List ℕ
-masked shown row = map (λ o. if shown (host_at o) then slice_index_or row o 0 else 0) (range_with_len 0 (length row))
-
--- the answer that the host is given
-abbrev pub masked_in : (ℕ → Bool) → Answer → Answer
-masked_in shown (Booted boot) = Booted boot
-masked_in shown (Told bytes) = Told (masked shown bytes)
-masked_in shown Done = Done
-masked_in shown (Fault fault) = Fault fault
 
 -- a host's blocks in these n bytes of the image are those of the area
 abbrev pub Agrees : (base at n : ℕ) → (host : ℕ) → DiskState → DiskState → Type 0

@@ -5,7 +5,8 @@ ghost use Rattle.epochs.specs.Beats.{BeatsServe, BeatsServeOn, ReadBeatsShow};
 ghost use Rattle.epochs.specs.Bytes.{CallsServe, CallsServeOn, ReadBytesShow};
 ghost use Rattle.epochs.specs.Laws.{OwnCallsAreSteps, OwnTearsAreTears, OthersLeaveIt, CrashesAreCrashes, LossesAreLosses, StandingsChangeNothing, FreshDisksShowNothing, NobodyShowsNothing};
 ghost use Rattle.epochs.specs.Numbers.{ZerosAreNone, OthersLeaveNumbers, SyncsMakeSure, CrashesLeaveOne, WritesAreNext, WritesRaise};
-ghost use Rattle.epochs.specs.OneLog.{EpochsAreAtOnce, EpochsAreOverLosses, EpochsAreRuns};
+ghost use Rattle.epochs.specs.OneLog.{EpochsAreAtOnce, EpochsAreOverLosses, EpochsAreRuns, PastsAreShared, PastsAreSharedOverLosses};
+ghost use Rattle.epochs.specs.Pasts.{HostsMayBegin, PastsAreActs, PastsServe, PastsServeOn};
 ghost use Rattle.epochs.specs.Rounds.{RoundsMakeTheseCalls};
 
 /// For each epoch an area of a disk shows an image. What hosts of the epoch do is done to that image; what is done for other epochs
@@ -67,10 +68,27 @@ pub fn beats_serve()
     ensures rounds { RoundsMakeTheseCalls }
 {}
 
+/// The same of hosts each of which makes the calls that its own past on the disk allows: what it called there since it started, and how
+/// each call was answered. Its core hears of a row once two readings of the standings show it.
+pub fn pasts_serve()
+    ensures serves { PastsServe }
+    // So it is with a file, over losses of power.
+    ensures power { PastsServeOn }
+    // All of it is acts of hosts, as `epochs_are_runs` speaks of them.
+    ensures acts { PastsAreActs IsModelCrash }
+    ensures acts_on { PastsAreActs LosesPower }
+    // A host may begin with a write on a disk of zeros, and is shown what it wrote.
+    ensures begins { HostsMayBegin IsModelCrash }
+    ensures begins_on { HostsMayBegin LosesPower }
+{}
+
 /// So what is done in an epoch is a run of the world that begins on zeros, and has one log.
 pub fn epochs_are_runs()
     ensures at_once { EpochsAreAtOnce }
     ensures runs { EpochsAreRuns }
     // So it is over losses of power, each of which stops all hosts.
     ensures losses { EpochsAreOverLosses }
+    // What is asked of disks holds where hosts go by their pasts.
+    ensures pasts { PastsAreShared }
+    ensures pasts_on { PastsAreSharedOverLosses }
 {}
