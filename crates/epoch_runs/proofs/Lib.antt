@@ -1,0 +1,16 @@
+pub mod Carrying
+pub mod Dark
+pub mod Disks
+pub mod Due
+pub mod Hosts
+pub mod Keeping
+pub mod Lists
+pub mod Numbers
+pub mod OneLog
+pub mod Order
+pub mod Pending
+pub mod Places
+pub mod Served
+pub mod Shared
+pub mod Submitting
+pub mod Turning

@@ -1,0 +1,4 @@
+pub mod Laws
+pub mod Living
+pub mod Submitting
+pub mod World

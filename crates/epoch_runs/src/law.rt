@@ -1,0 +1,28 @@
+// What hosts of all epochs do, over disks that serve them.
+ghost use Rattle.epoch_runs.specs.Laws.{DeedsAreShared, DeedsAreSharedOverLosses, HostsHaveOneLog, HostsKeepToEpochs, KeptDeedsHaveOneLog, KeptDeedsHaveOneLogOverLosses, OrderIsKept};
+ghost use Rattle.epoch_runs.specs.World.{model_crashes, power_losses};
+
+/// Hosts of all epochs do what they may, each by what it did since its start, and disks serve their calls. Then each disk has served all
+/// that is done there, in whatever epoch, and of each epoch what is lived is of hosts that do what they may.
+pub fn deeds_are_shared()
+    ensures shared { DeedsAreShared }
+    // So it is over losses of power, each of which finds every host stopped.
+    ensures power { DeedsAreSharedOverLosses }
+    // So all of it is one log without an end, where hosts keep to the epochs.
+    ensures one_log { KeptDeedsHaveOneLog }
+    ensures one_log_on { KeptDeedsHaveOneLogOverLosses }
+{}
+
+/// What is lived is lived in the order in which it is done, and each core is then what the deeds of its host make of it.
+pub fn order_is_kept()
+    ensures model { OrderIsKept model_crashes }
+    // So it is over losses of power.
+    ensures power { OrderIsKept power_losses }
+{}
+
+/// Hosts of all epochs do what they may, each by what it did since its start, over disks that serve their calls: all of it is one log without an end.
+pub fn hosts_have_one_log()
+    // They keep to the epochs: each comes to one when that before it is whole, and carries its table over first.
+    ensures keeps { HostsKeepToEpochs }
+    ensures one_log { HostsHaveOneLog }
+{}
