@@ -1,0 +1,6 @@
+mod Owning
+mod Spelling
+mod Staying
+mod Submitting
+mod Walking
+mod Working

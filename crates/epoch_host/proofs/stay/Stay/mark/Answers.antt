@@ -1,0 +1,7 @@
+use Rattle.std.proofs.Common.{refl}
+use Rattle.host.specs.declared.task.Task.TheVariants as task
+use Rattle.epoch_host.proofs.Staying.{mark_sound}
+use Rattle.epoch_host.proofs.stay.Stay.mark.Goals as goal
+
+pub returns-clause-sound : goal.returns-clause-sound
+returns-clause-sound c = mark_sound c.args.self.now c.requires.sound c.requires.rests c.mark.new.self (task.Mark c.args.slot) c.mark.ensures tt c.requires.learned c.args.slot refl

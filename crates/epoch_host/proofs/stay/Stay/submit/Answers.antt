@@ -1,0 +1,9 @@
+use Rattle.std.proofs.Common.{refl}
+use Rattle.host.specs.declared.task.Task.TheVariants as task
+use Rattle.epoch_host.proofs.Staying.{submit_sound}
+use Rattle.epoch_host.proofs.stay.Stay.submit.Goals as goal
+
+pub returns-clause-sound : goal.returns-clause-sound
+returns-clause-sound c =
+    submit_sound c.args.self.now c.requires.sound c.requires.rests c.submit.new.self (task.Submit c.args.command c.args.self.now.tries) c.submit.ensures c.requires.spelled c.requires.room
+    c.args.slot c.args.self.now.tries c.args.command refl c.requires.next c.requires.due

@@ -1,0 +1,4 @@
+pub mod Staying
+pub mod Submitting
+pub mod Walking
+pub mod Working

@@ -1,0 +1,81 @@
+-- What is so at any time of a host on its way through the epochs.
+use Rattle.std.specs.Prelude.{◌≡◌, ◌<◌, ◌≤◌, ℕ, true, Option, Some, None}
+use Rattle.disk.specs.Disk.{Call, Attach}
+use Rattle.torn_block.specs.Layout.{cluster_version}
+use Rattle.torn_block.specs.declared.layout.TheConstants.{DISKS}
+use Rattle.paxos_block.specs.Places.{image_length}
+use Rattle.lock_command.specs.Command.{is_submittable}
+use Rattle.coming.specs.declared.search.Search.{Search}
+use Rattle.coming.specs.Finding as finding
+use Rattle.epoch_host.specs.declared.task.EpochTask.{EpochTask}
+use Rattle.epoch_host.specs.declared.task.EpochTask.TheVariants.{Submit, Recover}
+use Rattle.epoch_host.specs.declared.stay.Stay.{Stay}
+use Rattle.epoch_host.specs.declared.stay.Doing.TheVariants.{Nothing}
+use Rattle.epoch_host.specs.declared.walk.Walk.{Walk}
+use Rattle.epoch_host.specs.declared.walk.Whereabouts.{Whereabouts}
+use Rattle.epoch_host.specs.declared.walk.Whereabouts.TheVariants.{Nowhere, Finds, In}
+use Rattle.epoch_host.specs.Staying as stay
+
+-- A host may be given the task: it has a try, where it needs one, and a command is the host's own, for which a client may ask.
+abbrev pub MayBegin : ℕ → EpochTask → Type 0
+MayBegin h (Submit command tries) = (1 ≤ tries) × (command.host ≡ h) × (is_submittable command ≡ true)
+MayBegin h (Recover tries) = 1 ≤ tries
+MayBegin h other = Unit {0}
+
+abbrev pub image_of : Walk → ℕ
+image_of w = image_length cluster_version w.config.slots
+
+-- WHERE IT IS
+
+-- it is in an epoch
+pub record IsStaying (w : Walk) (s : Stay) : Type 0 where
+  pub sound : stay.IsSound s
+  pub host : s.host ≡ w.host
+  pub config : s.config ≡ w.config
+
+-- nothing is under way
+abbrev pub IsResting : Walk → Whereabouts → Type 0
+IsResting w Nowhere = Unit {0}
+IsResting w (Finds search) = ⊥
+IsResting w (In s) = IsStaying w s × (s.doing ≡ Nothing)
+
+-- a search is under way
+pub record IsFinding (w : Walk) (search : Search) : Type 0 where
+  pub going : search.end ≡ None
+  pub slots : search.slots ≡ w.config.slots
+  pub disks : search.disks ≡ w.config.disks
+
+-- a call is due
+abbrev pub IsGoing : Walk → Whereabouts → Type 0
+IsGoing w Nowhere = ⊥
+IsGoing w (Finds search) = IsFinding w search
+IsGoing w (In s) = IsStaying w s × stay.IsBusy s.doing
+
+-- it has a task, and a call is due; or it has none, and nothing is under way
+abbrev pub IsAt : Walk → Option EpochTask → Type 0
+IsAt w None = IsResting w w.is
+IsAt w (Some task) = MayBegin w.host task × IsGoing w w.is
+
+-- there are as many disks and slots as a cluster may have
+abbrev pub HasFew : Walk → Type 0
+HasFew w = (1 ≤ w.config.disks) × (w.config.disks ≤ DISKS) × (1 ≤ w.config.slots)
+
+pub record IsSound (w : Walk) : Type 0 where
+  pub few : HasFew w
+  pub here : IsAt w w.task
+
+-- it is the same host
+pub record IsSame (old new : Walk) : Type 0 where
+  pub host : new.host ≡ old.host
+  pub config : new.config ≡ old.config
+
+-- THE CALL THAT IS DUE
+
+abbrev pub due_in : Whereabouts → ℕ × Call
+due_in Nowhere = (0, Attach)
+due_in (Finds search) = finding.call_due search
+due_in (In s) = stay.call_due s
+
+-- the disk and the device call
+abbrev pub call_due : Walk → ℕ × Call
+call_due w = due_in w.is

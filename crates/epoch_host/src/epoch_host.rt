@@ -1,0 +1,125 @@
+ghost use Rattle.std.specs.Prelude.{◌≡◌, ◌<◌, None, IsSome, is_none};
+ghost use Rattle.torn_block.specs.Layout.{cluster_version};
+ghost use Rattle.attempt.specs.Heard.{Fits};
+ghost use Rattle.attempt.specs.DeviceCalls.{IsWithin, call_of_need, heard_of};
+ghost use Rattle.standings.specs.Epochs.{whole_length};
+ghost use Rattle.epoch_host.specs.Walking.{IsSame, MayBegin, call_due, image_of};
+
+use crate::answer::EpochAnswer;
+use crate::place::place_of;
+use crate::task::EpochTask;
+use crate::walk::{Walk, Whereabouts};
+use attempt::{Heard, Need};
+use disk::NoMemory;
+use lock_command::{Command, HostNumber};
+use lock_table::Table;
+use paxos_block::Config;
+use std::alloc::Global;
+use std::marker::Model;
+
+/// One host over all epochs: what it has learned of the epoch where it is, and the task that it carries out, one device call at a time.
+///
+/// It takes memory where it comes to an epoch. If that is refused the task is given up, and the next one looks for the newest epoch.
+#[derive(Drop)]
+pub struct EpochHost {
+    walk: Walk,
+}
+
+impl Model for EpochHost {
+    ghost use Rattle.epoch_host.specs.declared.walk.Walk.{Walk};
+    ghost use Rattle.epoch_host.specs.Walking.{IsSound};
+
+    ghost Value = { Walk };
+
+    ghost view = { λ host. host.walk };
+
+    ghost invariant = { λ host. IsSound host.walk };
+}
+
+impl EpochHost {
+    /// A host that knows of no epoch.
+    pub fn new(alloc: Global, host: HostNumber, config: Config) -> EpochHost
+        ensures idle { result.task ≡ None }
+        ensures of { (result.host ≡ host) × (result.config ≡ config) }
+    {
+        EpochHost {
+            walk: Walk::new(alloc, host, config),
+        }
+    }
+
+    /// The host's number.
+    pub fn host(&self) -> HostNumber
+        ensures { result ≡ self.now.host }
+    {
+        self.walk.host
+    }
+
+    /// Whether a task may begin.
+    pub fn idle(&self) -> bool
+        ensures { result ≡ is_none self.now.task }
+    {
+        self.walk.task.is_none()
+    }
+
+    /// How the last task ended. None while one is under way, and where it was given up.
+    pub fn answer(&self) -> Option<EpochAnswer>
+        ensures { result ≡ self.now.said }
+    {
+        self.walk.said
+    }
+
+    /// The epoch where the host is.
+    pub fn epoch(&self) -> Option<u64> {
+        match &self.walk.is {
+            Whereabouts::In(stay) => Some(stay.epoch),
+            _ => None,
+        }
+    }
+
+    /// The commands learned of that epoch: the first of it, none left out.
+    pub fn prefix(&self) -> &[Command] {
+        match &self.walk.is {
+            Whereabouts::In(stay) => stay.core.prefix(),
+            _ => &[],
+        }
+    }
+
+    /// All places below this one are learned. None where the table is not there.
+    pub fn length(&self) -> Option<u64> {
+        let stay = self.walk.at_work()?;
+        Some(place_of(self.walk.config, stay.epoch, stay.length()))
+    }
+
+    /// The lock table after all commands below `length`.
+    pub fn table(&self) -> Option<&Table> {
+        Some(self.walk.at_work()?.core.table())
+    }
+
+    /// Begins a task. If memory is refused it is given up.
+    pub fn begin(&mut self, task: EpochTask) -> Result<(), NoMemory>
+        requires idle { self.old.task ≡ None }
+        requires may { MayBegin self.old.host task }
+        ensures same { IsSame self.old self.new }
+    {
+        self.walk.begin(task)
+    }
+
+    /// The device call that is due, and its disk.
+    pub fn call(&self) -> Need<'_>
+        requires busy { IsSome self.now.task }
+        ensures due { call_of_need cluster_version result ≡ call_due self.now }
+        ensures disk { result.disk < self.now.config.disks }
+        ensures range { IsWithin cluster_version (whole_length (image_of self.now)) result.call }
+    {
+        self.walk.call()
+    }
+
+    /// Hears the answer to the call that is due. If memory is refused the task is given up.
+    pub fn hear(&mut self, heard: &Heard<'_>) -> Result<(), NoMemory>
+        requires busy { IsSome self.old.task }
+        requires fits { Fits (call_due self.old).1 (heard_of cluster_version heard.now) }
+        ensures same { IsSame self.old self.new }
+    {
+        self.walk.hear(heard)
+    }
+}

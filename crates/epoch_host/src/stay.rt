@@ -1,0 +1,607 @@
+// A host in one epoch.
+ghost use Rattle.std.specs.Prelude.{◌≡◌, ◌≤◌, ◌<◌, ◌↔◌, false, Some, IfOk, IfSome, IsNone, IsTrue};
+ghost use Rattle.torn_block.specs.Layout.{cluster_version};
+ghost use Rattle.attempt.specs.Heard.{Fits};
+ghost use Rattle.torn_block.specs.declared.layout.TheConstants.{DISKS, HOSTS};
+ghost use Rattle.paxos_block.specs.Places.{image_length};
+ghost use Rattle.attempt.specs.DeviceCalls.{IsWithin, call_of_need, device_answer, device_call_of, heard_of};
+ghost use Rattle.host.specs.Kept as cores;
+ghost use Rattle.host.specs.Kept.{is_idle};
+ghost use Rattle.window.specs.Calls.{IsOwn};
+ghost use Rattle.standings.specs.Epochs.{whole_length};
+ghost use Rattle.lock_command.specs.Command.{spelling};
+ghost use Rattle.lock_command.specs.Reading.{decoded};
+ghost use Rattle.host.specs.Host.{Submitting};
+ghost use Rattle.epoch_host.specs.declared.place.TheConstants.{EPOCHS};
+ghost use Rattle.epoch_host.specs.Staying.{CoreWorks, IsBusy, IsFew, IsSame, IsSoLeft, IsSound, call_due, image_of, learned_of};
+ghost use Rattle.epoch_host.specs.Submitting.{IsAsked, IsDueIn, MayCarryOut, Stands, StaysAt};
+ghost use Rattle.epoch_host.specs.Working.{GivesTries, HasRoom, IsAnswer, IsSpelled, IsWhole, IsWorking};
+
+use crate::over::Over;
+use attempt::{Heard, Need, Refusal};
+use coming::{Coming, End};
+use disk::NoMemory;
+use host::{HostAnswer, HostCore, Task};
+use lock_command::{Command, HostNumber};
+use paxos_block::Config;
+use rounds::beats::PLACES;
+use standings::Epoch;
+use std::alloc::Global;
+use torn_block::{ClusterLayout, Layout};
+use window::Window;
+
+/// Where a task says nothing of tries, so many attempts on a slot may be outrun.
+const TRIES: u8 = 8;
+
+/// What a host is in an epoch for.
+#[derive(Clone, Copy, Debug, PartialEq, Eq)]
+pub enum Errand {
+    /// To carry out its tasks.
+    Works,
+    /// To learn the epoch whole: there is a later one, and what carries the table over into it is not known.
+    LearnsWhole,
+}
+
+/// To which epoch a host comes, and what for.
+#[derive(Drop)]
+pub struct Arrival {
+    pub epoch: u64,
+    pub errand: Errand,
+    pub over: Over,
+}
+
+/// Why a host has nothing more to do in an epoch.
+#[derive(Clone, Copy, Debug, PartialEq, Eq)]
+pub enum Leave {
+    /// The task has ended.
+    Answered(HostAnswer),
+    /// All slots are learned, so the table is final.
+    Full,
+    /// There is a later epoch than the next one.
+    Passed,
+    /// The table cannot be known here: the epoch before has to be learned.
+    NeedsBefore,
+}
+
+/// What the core does.
+#[derive(Clone, Copy, Debug, PartialEq, Eq)]
+pub enum Work {
+    /// It learns, or carries the task out.
+    Goes,
+    /// It submits the command that is due in this slot.
+    Carries { slot: u16 },
+    /// It marks a slot that carries a part of the table over.
+    Marks,
+}
+
+/// What is under way.
+#[derive(Drop)]
+pub enum Doing {
+    Nothing,
+    /// The host comes to the epoch on this disk.
+    Comes { disk: u8, coming: Coming },
+    Works(Work),
+    /// The core makes no call any more.
+    Leaves,
+}
+
+/// A host in one epoch: its core works on the epoch's image, and between the core and the disks is the window.
+///
+/// No call but `start` takes memory.
+#[derive(Drop)]
+pub struct Stay {
+    pub host: HostNumber,
+    pub config: Config,
+    pub epoch: u64,
+    pub errand: Errand,
+    pub over: Over,
+    pub core: HostCore,
+    pub window: Window,
+    /// The disks on which the host has come to the epoch.
+    pub come: [bool; PLACES],
+    pub doing: Doing,
+    pub task: Task,
+    /// Up to so many attempts of what goes before the task may be outrun on a slot.
+    pub tries: u8,
+}
+
+impl Stay {
+    /// A host that has come to the epoch on no disk yet. It is there for a task, and comes to the epoch on the first disk.
+    pub fn start(
+        alloc: Global,
+        host: HostNumber,
+        config: Config,
+        arrival: Arrival,
+        task: Task,
+    ) -> Result<Stay, NoMemory>
+        requires epoch { arrival.epoch ≤ EPOCHS }
+        requires may { GivesTries task }
+        requires asked { IsAsked task }
+        requires spelled { IsSpelled task }
+        requires learns { HasRoom task 0 config.slots }
+        ensures sound { IfOk result IsSound }
+        ensures busy { IfOk result (λ stay. IsBusy stay.doing) }
+        ensures of { IfOk result (λ stay. (stay.host ≡ host) × (stay.config ≡ config)) }
+    {
+        let Arrival {
+            epoch,
+            errand,
+            over,
+        } = arrival;
+        let core = HostCore::start(alloc, host, config)?;
+        let tries = tries_of(&task);
+        let coming = Coming::new(host.get(), config.slots(), Epoch::new(epoch));
+        Ok(Stay {
+            host,
+            config,
+            epoch,
+            errand,
+            over,
+            core,
+            window: Window::new(host.get(), config.slots(), Epoch::new(epoch)),
+            come: [false; PLACES],
+            doing: Doing::Comes { disk: 0, coming },
+            task,
+            tries,
+        })
+    }
+
+    /// How many slots of the epoch are learned.
+    pub fn length(&self) -> u16
+        requires { IsFew self.now }
+        ensures { result ≡ learned_of self.now }
+    {
+        self.core.prefix().len() as u16
+    }
+
+    /// Whether all slots are learned.
+    pub fn is_full(&self) -> bool
+        requires { IsFew self.now }
+        ensures { IsTrue result ↔ (self.now.config.slots ≤ learned_of self.now) }
+    {
+        self.config.slots() <= self.length()
+    }
+
+    /// Whether the table is that of the one log: all that carries the table of the epoch before over is learned.
+    pub fn is_whole(&self) -> bool
+        ensures { IsTrue result → Stands self.now.over self.now.core.prefix }
+    {
+        self.over.stands(self.core.prefix())
+    }
+
+    /// Begins a task.
+    pub fn begin(&mut self, task: &Task) -> Option<Leave>
+        requires sound { IsSound self.old }
+        requires rests { self.old.doing ≡ Doing.Nothing }
+        requires may { GivesTries task.now }
+        requires asked { IsAsked task.now }
+        requires spelled { IsSpelled task.now }
+        requires slot { (slot : _) → task.now ≡ Task.Mark slot → slot < self.old.config.slots }
+        ensures sound { IsSound self.new }
+        ensures left { IsSoLeft result self.new.doing }
+        ensures same { IsSame self.old self.new }
+    {
+        if let Some(leave) = self.at_once(task) {
+            return Some(leave);
+        }
+        self.task = *task;
+        self.tries = tries_of(task);
+        self.come_from(0);
+        None
+    }
+
+    // How a task ends for which nothing is to be done here, or nothing can be.
+    fn at_once(&self, task: &Task) -> Option<Leave>
+        requires learned { IsFew self.now }
+        requires slot { (slot : _) → task.now ≡ Task.Mark slot → slot < self.now.config.slots }
+        ensures room { IsNone result → HasRoom task.now (learned_of self.now) self.now.config.slots }
+    {
+        match task {
+            Task::Mark { slot } => {
+                if self.length() <= *slot {
+                    return Some(Leave::Answered(HostAnswer::Refused(Refusal::NotLearned)));
+                }
+            }
+            _ => {
+                if self.window.has_passed() {
+                    return Some(Leave::Passed);
+                }
+                if self.is_full() {
+                    return Some(Leave::Full);
+                }
+            }
+        }
+        None
+    }
+
+    // Comes to the epoch on the first disk from this one on where it has not. If there is none, it works.
+    fn come_from(&mut self, first: u8)
+        requires sound { IsSound self.old }
+        requires rests { self.old.doing ≡ Doing.Nothing }
+        requires room { HasRoom self.old.task (learned_of self.old) self.old.config.slots }
+        ensures sound { IsSound self.new }
+        ensures busy { IsBusy self.new.doing }
+        ensures same { IsSame self.old self.new }
+    {
+        match self.next_missing(first) {
+            Some(disk) => self.come_on(disk),
+            None => self.set_out(),
+        }
+    }
+
+    // The first disk from this one on where the host has not come to the epoch.
+    fn next_missing(&self, first: u8) -> Option<u8>
+        requires { self.now.config.disks ≤ DISKS }
+        ensures { IfSome result (λ disk. disk < self.now.config.disks) }
+    {
+        for disk in first..self.config.disks() {
+            if !self.come[usize::from(disk)] {
+                return Some(disk);
+            }
+        }
+        None
+    }
+
+    // Comes to the epoch on a disk. What the window saw there is forgotten, since it does not see the calls that are made now.
+    fn come_on(&mut self, disk: u8)
+        requires sound { IsSound self.old }
+        requires rests { self.old.doing ≡ Doing.Nothing }
+        requires disk { disk < self.old.config.disks }
+        requires room { HasRoom self.old.task (learned_of self.old) self.old.config.slots }
+        ensures sound { IsSound self.new }
+        ensures busy { IsBusy self.new.doing }
+        ensures same { IsSame self.old self.new }
+    {
+        self.window.forget(disk);
+        let coming = Coming::new(self.host.get(), self.config.slots(), Epoch::new(self.epoch));
+        self.doing = Doing::Comes { disk, coming };
+    }
+
+    // The core begins the task, or learns first what is there.
+    fn set_out(&mut self)
+        requires sound { IsSound self.old }
+        requires rests { self.old.doing ≡ Doing.Nothing }
+        requires room { HasRoom self.old.task (learned_of self.old) self.old.config.slots }
+        ensures sound { IsSound self.new }
+        ensures busy { IsBusy self.new.doing }
+        ensures same { IsSame self.old self.new }
+    {
+        let task = if self.is_ready() {
+            self.task
+        } else {
+            Task::Look
+        };
+        self.work(task);
+    }
+
+    // Whether the task may begin: a marking at once, a beat once the host is at work, and all else once the table is whole.
+    fn is_ready(&self) -> bool
+        requires asked { IsAsked self.now.task }
+        ensures may { IsTrue result → MayCarryOut self.now.over self.now.core.prefix self.now.task }
+        ensures marks { (slot : _) → self.now.task ≡ Task.Mark slot → IsTrue result }
+    {
+        match self.task {
+            Task::Mark { .. } => true,
+            Task::Beat => self.errand == Errand::Works,
+            _ => self.errand == Errand::Works && self.is_whole(),
+        }
+    }
+
+    // The core does this.
+    fn work(&mut self, task: Task)
+        requires sound { IsSound self.old }
+        requires rests { self.old.doing ≡ Doing.Nothing }
+        requires may { GivesTries task }
+        requires spelled { IsSpelled task }
+        requires submits { MayCarryOut self.old.over self.old.core.prefix task }
+        requires room { HasRoom task (learned_of self.old) self.old.config.slots }
+        ensures sound { IsSound self.new }
+        ensures busy { IsBusy self.new.doing }
+        ensures same { IsSame self.old self.new }
+    {
+        self.core.begin(task);
+        self.doing = Doing::Works(Work::Goes);
+    }
+
+    /// The device call that is due, and its disk.
+    pub fn call(&self) -> Need<'_>
+        requires sound { IsSound self.now }
+        requires busy { IsBusy self.now.doing }
+        ensures due { call_of_need cluster_version result ≡ call_due self.now }
+        ensures disk { result.disk < self.now.config.disks }
+        ensures range { IsWithin cluster_version (whole_length (image_of self.now)) result.call }
+    {
+        match &self.doing {
+            Doing::Nothing | Doing::Leaves => unreachable!(),
+            Doing::Comes { disk, coming } => Need {
+                disk: *disk,
+                call: coming.call(),
+            },
+            Doing::Works(_) => self.window.call(&wanted(&self.core)),
+        }
+    }
+
+    /// Hears the answer to the call that is due.
+    pub fn hear(&mut self, heard: &Heard<'_>) -> Option<Leave>
+        requires sound { IsSound self.old }
+        requires busy { IsBusy self.old.doing }
+        requires fits { Fits (call_due self.old).1 (heard_of cluster_version heard.now) }
+        ensures sound { IsSound self.new }
+        ensures left { IsSoLeft result self.new.doing }
+        ensures same { IsSame self.old self.new }
+    {
+        match &self.doing {
+            Doing::Nothing | Doing::Leaves => unreachable!(),
+            Doing::Comes { .. } => self.hear_coming(heard),
+            Doing::Works(work) => {
+                let work = *work;
+                self.hear_core(work, heard)
+            }
+        }
+    }
+
+    // The host comes to the epoch on a disk.
+    fn hear_coming(&mut self, heard: &Heard<'_>) -> Option<Leave>
+        requires sound { IsSound self.old }
+        requires comes { (disk : _) × (coming : _) × (self.old.doing ≡ Doing.Comes disk coming) }
+        requires fits { Fits (call_due self.old).1 (heard_of cluster_version heard.now) }
+        ensures sound { IsSound self.new }
+        ensures left { IsSoLeft result self.new.doing }
+        ensures same { IsSame self.old self.new }
+    {
+        let Doing::Comes { disk, coming } = &mut self.doing else {
+            unreachable!()
+        };
+        coming.hear(heard);
+        let disk = *disk;
+        let end = coming.end()?;
+        self.doing = Doing::Nothing;
+        if end == End::Passed {
+            return Some(Leave::Passed);
+        }
+        // A disk on which it failed is left out until the next task.
+        self.come[usize::from(disk)] = end == End::Come;
+        self.come_from(disk + 1);
+        None
+    }
+
+    // The core hears an answer, once the window knows it.
+    fn hear_core(&mut self, work: Work, heard: &Heard<'_>) -> Option<Leave>
+        requires sound { IsSound self.old }
+        requires works { self.old.doing ≡ Doing.Works work }
+        requires fits { Fits (call_due self.old).1 (heard_of cluster_version heard.now) }
+        ensures sound { IsSound self.new }
+        ensures left { IsSoLeft result self.new.doing }
+        ensures same { IsSame self.old self.new }
+    {
+        let outcome = self.window.hear(&wanted(&self.core), heard)?;
+        let heard = *heard;
+        let told = self.window.answer(outcome, &heard);
+        is_whole(&told);
+        self.core.hear(&told);
+        if self.core.idle() {
+            self.doing = Doing::Nothing;
+            return match self.core.answer() {
+                Some(said) => self.ended(work, said),
+                None => unreachable!(),
+            };
+        }
+        if self.window.has_passed() || self.has_gone_on(work) {
+            self.doing = Doing::Leaves;
+            return Some(Leave::Passed);
+        }
+        None
+    }
+
+    // Whether the core goes on to another slot with a command that is due in this one. It makes no call there. It cannot be where all hosts submit what is due.
+    fn has_gone_on(&self, work: Work) -> bool
+        requires { IsFew self.now }
+        ensures stays { result ≡ false → StaysAt work (learned_of self.now) }
+    {
+        match work {
+            Work::Carries { slot } => slot < self.length(),
+            Work::Goes | Work::Marks => false,
+        }
+    }
+
+    // The core has ended what it did.
+    fn ended(&mut self, work: Work, said: HostAnswer) -> Option<Leave>
+        requires sound { IsSound self.old }
+        requires rests { self.old.doing ≡ Doing.Nothing }
+        requires told { IsAnswer self.old.config (learned_of self.old) (Some said) }
+        ensures sound { IsSound self.new }
+        ensures left { IsSoLeft result self.new.doing }
+        ensures same { IsSame self.old self.new }
+    {
+        match said {
+            HostAnswer::Refused(refusal) => self.refused(work, refusal),
+            HostAnswer::Looked { .. } => self.looked(said),
+            HostAnswer::Recovered { .. } => self.recovered(said),
+            HostAnswer::Ack { slot, .. } => match work {
+                Work::Carries { .. } => {
+                    self.mark(slot);
+                    None
+                }
+                Work::Goes | Work::Marks => Some(Leave::Answered(said)),
+            },
+            HostAnswer::Marked { .. } => match work {
+                Work::Marks => self.carry(),
+                Work::Goes | Work::Carries { .. } => Some(Leave::Answered(said)),
+            },
+            HostAnswer::Beaten { .. } => Some(Leave::Answered(said)),
+        }
+    }
+
+    // The core was refused.
+    fn refused(&mut self, work: Work, refusal: Refusal) -> Option<Leave>
+        requires sound { IsSound self.old }
+        requires rests { self.old.doing ≡ Doing.Nothing }
+        ensures sound { IsSound self.new }
+        ensures left { IsSoLeft result self.new.doing }
+        ensures same { IsSame self.old self.new }
+    {
+        if self.window.has_passed() {
+            Some(Leave::Passed)
+        } else if refusal == Refusal::LogFull {
+            Some(Leave::Full)
+        } else if work == Work::Marks {
+            // A mark only spares others an attempt.
+            self.carry()
+        } else {
+            Some(Leave::Answered(HostAnswer::Refused(refusal)))
+        }
+    }
+
+    // A look has ended.
+    fn looked(&mut self, said: HostAnswer) -> Option<Leave>
+        requires sound { IsSound self.old }
+        requires rests { self.old.doing ≡ Doing.Nothing }
+        ensures sound { IsSound self.new }
+        ensures left { IsSoLeft result self.new.doing }
+        ensures same { IsSame self.old self.new }
+    {
+        if self.is_full() {
+            return Some(Leave::Full);
+        }
+        if self.errand == Errand::Works && self.is_whole() {
+            let was_task = matches!(&self.task, Task::Look);
+            return self.go_on(said, was_task);
+        }
+        if self.errand == Errand::Works && self.over.is_known() {
+            return self.carry();
+        }
+        let tries = self.tries;
+        self.work(Task::Recover { tries });
+        None
+    }
+
+    // A recovery has ended.
+    fn recovered(&mut self, said: HostAnswer) -> Option<Leave>
+        requires sound { IsSound self.old }
+        requires rests { self.old.doing ≡ Doing.Nothing }
+        ensures sound { IsSound self.new }
+        ensures left { IsSoLeft result self.new.doing }
+        ensures same { IsSame self.old self.new }
+    {
+        if self.is_full() {
+            return Some(Leave::Full);
+        }
+        if self.errand == Errand::LearnsWhole {
+            // It cannot be: nobody comes to the next epoch before somebody has learned this one whole.
+            return Some(Leave::Passed);
+        }
+        if self.is_whole() {
+            let was_task = matches!(&self.task, Task::Recover { .. });
+            return self.go_on(said, was_task);
+        }
+        if self.over.is_known() {
+            return self.carry();
+        }
+        Some(Leave::NeedsBefore)
+    }
+
+    // The table is whole. What showed it may have been the task.
+    fn go_on(&mut self, said: HostAnswer, was_task: bool) -> Option<Leave>
+        requires sound { IsSound self.old }
+        requires rests { self.old.doing ≡ Doing.Nothing }
+        requires whole { Stands self.old.over self.old.core.prefix }
+        requires room { learned_of self.old < self.old.config.slots }
+        ensures sound { IsSound self.new }
+        ensures left { IsSoLeft result self.new.doing }
+        ensures same { IsSame self.old self.new }
+    {
+        if was_task {
+            return Some(Leave::Answered(said));
+        }
+        let task = self.task;
+        self.work(task);
+        None
+    }
+
+    // Submits what is due in the next slot, while there is something, and then carries the task out.
+    fn carry(&mut self) -> Option<Leave>
+        requires sound { IsSound self.old }
+        requires rests { self.old.doing ≡ Doing.Nothing }
+        ensures sound { IsSound self.new }
+        ensures left { IsSoLeft result self.new.doing }
+        ensures same { IsSame self.old self.new }
+    {
+        if self.is_full() {
+            return Some(Leave::Full);
+        }
+        if self.is_whole() {
+            let task = self.task;
+            self.work(task);
+            return None;
+        }
+        let slot = self.length();
+        let Some(command) = self.over.due(slot) else {
+            // It cannot be: each of these is a command.
+            return Some(Leave::Passed);
+        };
+        self.submit(command, slot);
+        None
+    }
+
+    // Submits the command that is due in the next slot.
+    fn submit(&mut self, command: Command, slot: u16)
+        requires sound { IsSound self.old }
+        requires rests { self.old.doing ≡ Doing.Nothing }
+        requires room { learned_of self.old < self.old.config.slots }
+        requires next { slot ≡ learned_of self.old }
+        requires spelled { decoded (spelling command) ≡ Some command }
+        requires due { IsDueIn self.old.over slot (Submitting command) }
+        ensures sound { IsSound self.new }
+        ensures busy { IsBusy self.new.doing }
+        ensures same { IsSame self.old self.new }
+    {
+        self.core.submit(command, self.tries);
+        self.doing = Doing::Works(Work::Carries { slot });
+    }
+
+    // Marks a slot that carries a part of the table over, so that others learn it in one reading.
+    fn mark(&mut self, slot: u16)
+        requires sound { IsSound self.old }
+        requires rests { self.old.doing ≡ Doing.Nothing }
+        requires learned { (slot < learned_of self.old) × (slot < self.old.config.slots) }
+        ensures sound { IsSound self.new }
+        ensures busy { IsBusy self.new.doing }
+        ensures same { IsSame self.old self.new }
+    {
+        self.core.mark(slot);
+        self.doing = Doing::Works(Work::Marks);
+    }
+}
+
+// The call that a core at work has due: it reads a whole row of the image, or writes within the host's own block of one.
+fn wanted(core: &HostCore) -> Need<'_>
+    requires busy { is_idle core.now ≡ false }
+    requires works { IsWorking core.now }
+    requires host { core.now.learner.host < HOSTS }
+    requires few { core.now.learner.shape.disks ≤ DISKS }
+    ensures due { call_of_need cluster_version result ≡ cores.due_call core.now }
+    ensures disk { result.disk < core.now.learner.shape.disks }
+    ensures few { result.disk < DISKS }
+    ensures own { IsOwn (image_length cluster_version core.now.learner.shape.slots) core.now.learner.host (device_call_of cluster_version result.call) }
+{
+    core.call()
+}
+
+// Called for its contract only: a row that a core is told is a whole one.
+fn is_whole(heard: &Heard<'_>)
+    ensures { IsWhole (device_answer heard.now) }
+{
+    if let Heard::Told(row) = heard {
+        let _bytes = ClusterLayout::bytes_in(row);
+    }
+}
+
+// Up to so many attempts on a slot may be outrun, also of what goes before a task.
+fn tries_of(task: &Task) -> u8
+    ensures { GivesTries task.now → 1 ≤ result }
+{
+    match task {
+        Task::Submit { tries, .. } | Task::Recover { tries } => *tries,
+        Task::Look | Task::Beat | Task::Mark { .. } => TRIES,
+    }
+}
