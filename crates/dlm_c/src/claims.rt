@@ -14,7 +14,7 @@ use crate::asker::AskerNumbers;
 use crate::claim_handle::ClaimHandle;
 use crate::due_order::{DueOrder, failure_of};
 use crate::handle::Handle;
-use c_host::{BAD_ARGUMENT, BUSY, CLOSED, Fault, NOTHING_DUE, OpenHost, lock_of, mode_of};
+use c_host::{BAD_ARGUMENT, BUSY, CLOSED, NOTHING_DUE, OpenHost, lock_of, mode_of};
 use host::HostAnswer;
 use lock_command::{LOCK_VALUE_LENGTH, LockName, ValueBytes};
 use lock_table::Picture;
