@@ -62,7 +62,8 @@ impl SpelledName {
 
     /// Whether it is the same name: no two names have one number.
     pub fn is_same(&self, other: &SpelledName) -> bool
-        ensures { IsTrue result → self.now ≡ other.now }
+        ensures same { IsTrue result → self.now ≡ other.now }
+        ensures found { self.now ≡ other.now → IsTrue result }
     {
         self.number == other.number
     }
