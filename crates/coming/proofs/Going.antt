@@ -2,6 +2,7 @@
 use Rattle.std.proofs.Common.{ℕ, ◌+◌, ◌*◌, ◌<◌, ◌≤◌, ◌≡◌, Bool, true, false, Option, Some, None, List, [], ◌∷◌, ◌++◌, map, inl, inr, refl, sym, subst, ap, ◌∙◌, arith, append_assoc, below_more, eq-eqb}
 use Rattle.std.specs.Prelude.{◌%◌, ◌==◌, nat_le, if◌then◌else◌, ◌↔◌, slice_index, slice_range, IfSome, IsTrue, is_some}
 use Rattle.std.proofs.lemmas.Bool.{leb-true, leb-false}
+use Rattle.std.proofs.lemmas.List.{length-replicate}
 use Rattle.disk.specs.declared.fault.DiskFault.{DiskFault}
 use Rattle.disk.specs.declared.boot.Boot.{Boot}
 use Rattle.disk.specs.Disk.{Call, Attach, Read, Write, Sync, Answer, Booted, Told, Done, Fault}
@@ -37,7 +38,7 @@ use Rattle.coming.specs.declared.end.End.TheVariants as end
 use Rattle.coming.specs.declared.notes.Notes.{Notes}
 use Rattle.coming.specs.declared.notes.Stage.{Stage}
 use Rattle.coming.specs.declared.notes.Stage.TheVariants as stage
-use Rattle.coming.specs.Coming.{image_of, call_at, call_due, IsSound, IsStage, IsWriting, IsInRound, ClearsBelow, IsAt, HasRead, HasEnded, Stands, IsKept, Knows, IsDoneDue, stage_after}
+use Rattle.coming.specs.Coming.{image_of, call_at, call_due, IsSound, IsStage, IsWriting, IsInRound, IsOfClearing, ClearsBelow, IsAt, HasRead, HasEnded, Stands, IsKept, Knows, IsDoneDue, stage_after}
 use Rattle.coming.proofs.Pasts.{sure_more, zeros_more, cleared_more, beat_spares, clearing_spares_number, clearing_spares_rows}
 
 -- the call of a plan is that of the block that was read
@@ -126,10 +127,10 @@ module _ (c : Notes) where
     here : IsAt c.stage c past
     here = subst (λ o. Stands o c past) going kept.stands
 
-    at : (s : Stage) → c.stage ≡ s → IsAt s c past
+    pub at : (s : Stage) → c.stage ≡ s → IsAt s c past
     at s is = subst (λ (q : Stage). IsAt q c past) is here
 
-    in_round : (s : RoundStage) → c.stage ≡ stage.Beating → c.round.stage ≡ s → IsInRound s c past
+    pub in_round : (s : RoundStage) → c.stage ≡ stage.Beating → c.round.stage ≡ s → IsInRound s c past
     in_round s is due = subst (λ (q : RoundStage). IsInRound q c past) due (at stage.Beating is)
 
     -- no call that is due writes a block that is cleared
@@ -200,6 +201,7 @@ module _ (c : Notes) where
             reads = w.reads;
             plan = ap (λ (p : Plan). record p { due = Some next }) w.plan;
             beats = subst (λ (k : Call). IsBeating n area c.host boot w.row next (past ++ made k Done ∷ [])) (sym due) beats;
+            smaller = w.smaller;
             cleared = w.cleared;
           }))
 
@@ -255,9 +257,9 @@ module _ (c : Notes) where
               })
 
         -- a beat begins, with a sequence number left
-        pub begins : (block : Block128) → IsReading cluster_version (block_of cluster_version c.host bytes) block → next_number (told_number block) ≤ LAST_SEQUENCE → (numbers_in bytes c.host % 2 ≡ 1 → c.is_cleared ≡ true) →
+        pub begins : (block : Block128) → IsReading cluster_version (block_of cluster_version c.host bytes) block → next_number (told_number block) ≤ LAST_SEQUENCE → numbers_in bytes c.host < c.epoch.number → (numbers_in bytes c.host % 2 ≡ 1 → c.is_cleared ≡ true) →
             IsKept (record c { round = record c.round { steps = plan_by cluster_version block beat_body; stage = call.Writing } }) after
-        begins block reads room cleared =
+        begins block reads room smaller cleared =
             round_kept (Told bytes) (record c.round { steps = plan_by cluster_version block beat_body; stage = call.Writing })
             (record {
               row = bytes;
@@ -273,6 +275,7 @@ module _ (c : Notes) where
                     ∙ append_assoc was.0 (made Attach (Booted boot) ∷ made (Sync boot) Done ∷ []) (reading n area boot bytes ∷ []);
                 room = subst (λ (k : ℕ). k ≤ LAST_SEQUENCE) (ap next_number reads.number) room;
               };
+              smaller = smaller;
               cleared = cleared;
             })
 
@@ -288,17 +291,18 @@ module _ (c : Notes) where
                     sure = sure_now (numbers_in bytes c.host) refl;
                     odd = odd;
                     zeros = λ r is_row less. absurd (omega (arith, is_row.0));
+                    ends = record { before = past; last = reading n area boot bytes; is = is_reading; clears = tt };
                   });
             }
 
         -- a beat is to be made
-        pub beats : (block : Block128) → IsReading cluster_version (block_of cluster_version c.host bytes) block → (numbers_in bytes c.host % 2 ≡ 1 → c.is_cleared ≡ true) → (round : Round) → round ≡ rounds.begins c.round block beat_body → is_some round.end ≡ false →
+        pub beats : (block : Block128) → IsReading cluster_version (block_of cluster_version c.host bytes) block → numbers_in bytes c.host < c.epoch.number → (numbers_in bytes c.host % 2 ≡ 1 → c.is_cleared ≡ true) → (round : Round) → round ≡ rounds.begins c.round block beat_body → is_some round.end ≡ false →
             IsKept (record c { round = round }) after
-        beats block reads cleared round is off = by (nat_le (next_number (told_number block)) LAST_SEQUENCE) refl is
+        beats block reads smaller cleared round is off = by (nat_le (next_number (told_number block)) LAST_SEQUENCE) refl is
           where
             by : (b : Bool) → nat_le (next_number (told_number block)) LAST_SEQUENCE ≡ b →
                 round ≡ (if b then record c.round { steps = plan_by cluster_version block beat_body; stage = call.Writing } else rounds.drops c.round) → IsKept (record c { round = round }) after
-            by true fits same = subst (λ (r : Round). IsKept (record c { round = r }) after) (sym same) (begins block reads (leb-true (next_number (told_number block)) LAST_SEQUENCE fits) cleared)
+            by true fits same = subst (λ (r : Round). IsKept (record c { round = r }) after) (sym same) (begins block reads (leb-true (next_number (told_number block)) LAST_SEQUENCE fits) smaller cleared)
             by false fits same = absurd (is_over c.round (c.round.lost + 1) c.round.held (one_disk c sound) (ap (λ (r : Round). r.end) (sym same) ∙ none_of round.end off))
 
         -- but its block has no sequence number left
@@ -340,15 +344,16 @@ module _ (c : Notes) where
     -- CLEARING
 
     -- the host's block in this row is zeros
-    goes_below : (row : ℕ) → 1 ≤ row → row ≤ c.slots + 1 → (m : Made) → ClearsBelow c row past → IsZeros boot (block_at n area c.host row) (past ++ m ∷ []) → Spares (number_place n area c.host) BLOCK_LENGTH m.call →
+    goes_below : (row : ℕ) → 1 ≤ row → row ≤ c.slots + 1 → (m : Made) → ClearsBelow c row past → IsZeros boot (block_at n area c.host row) (past ++ m ∷ []) → IsOfClearing m.call → Spares (number_place n area c.host) BLOCK_LENGTH m.call →
         ((r : ℕ) → r < row → Spares (block_at n area c.host r) BLOCK_LENGTH m.call) → ClearsBelow c (row + 1) (past ++ m ∷ [])
-    goes_below row from to m was blank number below =
+    goes_below row from to m was blank clears number below =
         record {
           number = was.number;
           sure = sure_more n area c.host was.number past m was.sure number;
           odd = was.odd;
           zeros = λ r is_row less. below_more (λ (k : ℕ). IsRow n k → IsZeros boot (block_at n area c.host k) (past ++ m ∷ [])) row
               (λ k under is. zeros_more boot (block_at n area c.host k) past m (was.zeros k is under) (below k under)) (λ is. blank) r less is_row;
+          ends = record { before = past; last = m; is = refl; clears = clears };
         }
 
     next_row : (row : ℕ) → row ≤ c.slots + 1 → c.is_cleared ≡ false → (answer : Answer) → ClearsBelow c (row + 1) (past ++ made (call_due c) answer ∷ []) → IsKept (record c { stage = stage_after c.slots row }) (past ++ made (call_due c) answer ∷ [])
@@ -392,7 +397,7 @@ module _ (c : Notes) where
           } in
           next_row row in_area.2 in_area.0 (Told bytes)
           (subst (λ (k : Call). ClearsBelow c (row + 1) (past ++ made k (Told bytes) ∷ [])) (sym look_due)
-          (goes_below row in_area.1 in_area.2 (made (Read boot (base_of n area + ROW_LENGTH * row) ROW_LENGTH) (Told bytes)) looked blank tt (λ r less. tt)))
+          (goes_below row in_area.1 in_area.2 (made (Read boot (base_of n area + ROW_LENGTH * row) ROW_LENGTH) (Told bytes)) looked blank tt tt (λ r less. tt)))
 
       -- it was not, and zeros are to be written
       pub is_to_write : IsKept (record c { stage = stage.Clearing row }) (past ++ made (call_due c) (Told bytes) ∷ [])
@@ -408,6 +413,7 @@ module _ (c : Notes) where
                   sure = sure_more n area c.host looked.number past m looked.sure (spares (number_place n area c.host));
                   odd = looked.odd;
                   zeros = λ r is_row less. zeros_more boot (block_at n area c.host r) past m (looked.zeros r is_row less) (spares (block_at n area c.host r));
+                  ends = record { before = past; last = m; is = refl; clears = subst IsOfClearing (sym look_due) tt };
                 });
           }
 
@@ -421,7 +427,7 @@ module _ (c : Notes) where
         let blank : IsZeros boot (block_at n area c.host row) (past ++ made write Done ∷ []) = record { before = past; last = made write Done; behind = []; is = refl; shows = inr refl; still = tt } in
         next_row row in_area.2 in_area.0 Done
         (subst (λ (k : Call). ClearsBelow c (row + 1) (past ++ made k Done ∷ [])) (sym due)
-        (goes_below row in_area.1 in_area.2 (made write Done) (at (stage.Clearing row) st) blank (clearing_spares_number n area c.host row boot sound.is_area sound.is_host is_row) (λ r less. clearing_spares_rows n area c.host row r boot less)))
+        (goes_below row in_area.1 in_area.2 (made write Done) (at (stage.Clearing row) st) blank (length-replicate {A = ℕ} BLOCK_LENGTH 0) (clearing_spares_number n area c.host row boot sound.is_area sound.is_host is_row) (λ r less. clearing_spares_rows n area c.host row r boot less)))
 
     -- all was synced
     pub settles : c.stage ≡ stage.Settling → (round : Round) → IsKept (record c { is_cleared = true; round = rounds.at_start 1 round; stage = stage.Beating }) (past ++ made (call_due c) Done ∷ [])

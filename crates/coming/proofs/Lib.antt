@@ -1,3 +1,4 @@
 pub mod Pasts
 pub mod Going
 pub mod Asking
+pub mod Rising

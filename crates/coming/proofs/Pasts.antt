@@ -88,7 +88,7 @@ number_apart n zero host row is_area is_host is_row = (let from = is_row.0 in le
 number_apart n (suc zero) host row is_area is_host is_row = (let from = is_row.0 in let to = is_row.1 in inl (omega arith))
 number_apart n (suc (suc area)) host row is_area is_host is_row = absurd (omega arith)
 
-closing_length : (opened : Bool) → length {A = ℕ} (if opened then 0 ∷ [] else []) ≤ 1
+pub closing_length : (opened : Bool) → length {A = ℕ} (if opened then 0 ∷ [] else []) ≤ 1
 closing_length true = omega arith
 closing_length false = omega arith
 

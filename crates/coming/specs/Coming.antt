@@ -1,9 +1,9 @@
 -- What a host that comes to an epoch of a disk calls there, and what of its past holds what it keeps.
-use Rattle.std.specs.Prelude.{◌≡◌, ◌⊎◌, ◌+◌, ◌*◌, ◌≤◌, ◌<◌, ◌%◌, ℕ, Bool, true, false, List, [], ◌∷◌, ◌++◌, Option, Some, None, nat_le, if◌then◌else◌}
+use Rattle.std.specs.Prelude.{◌≡◌, ◌⊎◌, ◌+◌, ◌*◌, ◌≤◌, ◌<◌, ◌%◌, ℕ, Bool, true, false, List, [], ◌∷◌, ◌++◌, length, Option, Some, None, nat_le, if◌then◌else◌}
 use Rattle.disk.specs.declared.fault.DiskFault.{DiskFault}
 use Rattle.disk.specs.Disk.{Call, Attach, Read, Write, Sync, Booted, Done, Fault}
 use Rattle.torn_block.specs.Layout.{cluster_version}
-use Rattle.torn_block.specs.declared.layout.TheConstants.{HOSTS, ROW_LENGTH, LAST_SEQUENCE}
+use Rattle.torn_block.specs.declared.layout.TheConstants.{HOSTS, ROW_LENGTH, BLOCK_LENGTH, LAST_SEQUENCE}
 use Rattle.torn_block.specs.declared.block.Block128.{Block128}
 use Rattle.torn_block.specs.declared.write_steps.WriteCall.{WriteCall}
 use Rattle.torn_block.specs.Block.{next_sequence}
@@ -14,7 +14,7 @@ use Rattle.paxos_block.specs.Places.{image_length}
 use Rattle.standings.specs.declared.epoch.Epoch.{Epoch}
 use Rattle.standings.specs.Epochs.{base_of, standings_place, number_place}
 use Rattle.standings.specs.Reading.{zero_block, numbers_in, HasPassed}
-use Rattle.standings.specs.Past.{Past, made, reading, block_at, IsRow, IsSureOf, IsZeros, HasCleared, IsBeating}
+use Rattle.standings.specs.Past.{Made, Past, made, reading, block_at, IsRow, IsSureOf, IsZeros, HasCleared, IsBeating, WritesNumber}
 use Rattle.rounds.specs.Kept as rounds
 use Rattle.rounds.specs.declared.round.Stage.{Stage as RoundStage}
 use Rattle.rounds.specs.declared.round.Stage.TheVariants as call
@@ -83,7 +83,7 @@ IsDoneDue stage calls = ⊥
 
 -- WHAT IT KNOWS
 
--- A beat is under way. The plan of its write is of the block as it was read; over an odd number the host's blocks were cleared before.
+-- A beat is under way. The plan of its write is of the block as it was read. The number in that is smaller than the epoch's; over an odd one the host's blocks were cleared before.
 pub record IsWriting (c : Notes) (past : Past) : Type 0 where
   pub row : List ℕ
   pub block : Block128
@@ -91,6 +91,7 @@ pub record IsWriting (c : Notes) (past : Past) : Type 0 where
   pub reads : IsReading cluster_version (block_of cluster_version c.host row) block
   pub plan : c.round.steps ≡ record (plan_by cluster_version block beat_body) { due = Some due }
   pub beats : IsBeating (image_of c) c.epoch.area c.host c.round.boot.number row due past
+  pub smaller : numbers_in row c.host < c.epoch.number
   pub cleared : numbers_in row c.host % 2 ≡ 1 → c.is_cleared ≡ true
 
 -- the last that it did is what the round did so far
@@ -100,12 +101,26 @@ IsInRound call.Syncing c past = (before : Past) × (past ≡ before ++ made Atta
 IsInRound call.Reading c past = (before : Past) × (past ≡ before ++ made Attach (Booted c.round.boot.number) ∷ made (Sync c.round.boot.number) Done ∷ [])
 IsInRound call.Writing c past = IsWriting c past
 
--- Its number is surely an odd one, and under this boot number its blocks in the rows below this one are zeros.
+-- it reads, or writes a whole block
+abbrev pub IsOfClearing : Call → Type 0
+IsOfClearing (Read boot at len) = Unit {0}
+IsOfClearing (Write boot at from) = length from ≡ BLOCK_LENGTH
+IsOfClearing other = ⊥
+
+-- so does the last call
+pub record EndsInClearing (past : Past) : Type 0 where
+  pub before : Past
+  pub last : Made
+  pub is : past ≡ before ++ last ∷ []
+  pub clears : IsOfClearing last.call
+
+-- Its number is surely an odd one, and under this boot number its blocks in the rows below this one are zeros. No beat has begun since.
 pub record IsClearing (n area host boot row : ℕ) (past : Past) : Type 0 where
   pub number : ℕ
   pub sure : IsSureOf n area host number past
   pub odd : number % 2 ≡ 1
   pub zeros : (r : ℕ) → IsRow n r → r < row → IsZeros boot (block_at n area host r) past
+  pub ends : EndsInClearing past
 
 abbrev pub ClearsBelow : Notes → (row : ℕ) → Past → Type 0
 ClearsBelow c row past = IsClearing (image_of c) c.epoch.area c.host c.round.boot.number row past
@@ -169,6 +184,10 @@ pub record Knows (n host : ℕ) (past : Past) (c : Notes) : Type 0 where
   pub image : image_of c ≡ n
   pub own : c.host ≡ host
   pub kept : IsKept c past
+
+-- The call raises a number towards this epoch's, if it raises any: in the area of that one, and from a smaller number.
+abbrev pub RaisesTowards : (n host : ℕ) → Past → Notes → Call → Type 0
+RaisesTowards n host past c call = (w : WritesNumber n host past call) → (w.area ≡ c.epoch.area) × (numbers_in w.row host < c.epoch.number)
 
 -- it is the same host that comes to the same epoch
 pub record IsSame (old new : Notes) : Type 0 where

@@ -7,7 +7,7 @@ ghost use Rattle.attempt.specs.DeviceCalls.{IsWithin, device_call_of, device_ans
 ghost use Rattle.standings.specs.Epochs.{whole_length};
 ghost use Rattle.standings.specs.Past.{Past, MayCall, made};
 ghost use Rattle.coming.specs.Bound.{Tells, calls_left, calls_to_come, number_after};
-ghost use Rattle.coming.specs.Coming.{HasEnded, IsSame, Knows, call_due, image_of};
+ghost use Rattle.coming.specs.Coming.{HasEnded, IsSame, Knows, RaisesTowards, call_due, image_of};
 
 use crate::end::End;
 use crate::notes::Notes;
@@ -58,6 +58,8 @@ impl Coming {
         // It may be made beside epochs, whatever the host did on the disk that led here.
         ensures may { (n host : ℕ) (past : Past) → Knows n host past self.now →
             MayCall n host past (device_call_of cluster_version result) }
+        ensures rises { (n host : ℕ) (past : Past) → Knows n host past self.now →
+            RaisesTowards n host past self.now (device_call_of cluster_version result) }
         ensures range { IsWithin cluster_version (whole_length (image_of self.now)) result }
     {
         self.notes.call()

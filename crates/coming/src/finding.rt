@@ -5,7 +5,7 @@ ghost use Rattle.paxos_block.specs.Places.{image_length};
 ghost use Rattle.attempt.specs.Heard.{Fits};
 ghost use Rattle.attempt.specs.DeviceCalls.{IsWithin, call_of_need, device_answer, device_call_of, heard_of};
 ghost use Rattle.standings.specs.Epochs.{whole_length};
-ghost use Rattle.standings.specs.Past.{Past, MayCall, made};
+ghost use Rattle.standings.specs.Past.{Past, MayCall, WritesNumber, made};
 ghost use Rattle.coming.specs.Finding.{HasFound, IsSame, Knows, Pasts, and_made, calls_left, call_due, image_of};
 
 use crate::found::{Found, Readings};
@@ -53,6 +53,8 @@ impl Finding {
         ensures due { call_of_need cluster_version result ≡ call_due self.now }
         // It may be made beside epochs, whatever the host did on the disk.
         ensures may { (n host : ℕ) (past : Past) → MayCall n host past (device_call_of cluster_version result.call) }
+        ensures raises { (n host : ℕ) (past : Past) →
+            ¬ WritesNumber n host past (device_call_of cluster_version result.call) }
         ensures range { IsWithin cluster_version (whole_length (image_of self.now)) result.call }
         ensures disk { result.disk < self.now.disks }
     {

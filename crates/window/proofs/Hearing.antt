@@ -30,13 +30,13 @@ use Rattle.window.specs.declared.step.Step.TheVariants.{Row, Second}
 use Rattle.window.specs.declared.window.Window.{Window}
 use Rattle.window.specs.Calls.{Follows, IsOwn, due_for, length_of, sight_of, step_of}
 use Rattle.window.specs.Steps.{left_at, read_due}
-use Rattle.window.specs.Hearing.{Hears, SeesOn, FollowsOn}
+use Rattle.window.specs.Hearing.{Hears, SeesOn, FollowsOn, ShowsLast}
 use Rattle.window.specs.Knows.{Pasts, AddsCall, AreSaid, TellsNone, AreNumbers, HasRead, HasReadRow, KnowsOf, ShowsLater, sight_in}
 use Rattle.window.specs.Outcomes.{FailsAt, GoesOnAt, IsAfterReading, IsGood, IsHiddenBy, NoticesAt, passed_by}
 use Rattle.window.specs.Sights.{IsKnownUnder, IsSureUnder, IsSyncedUnder, IsUnder, Keeps}
 use Rattle.window.proofs.Following.{all_go_on, write_spares}
 use Rattle.window.proofs.Pasts.{knows_of_more}
-use Rattle.window.proofs.Steps.{IsRead, begun, due_is_read, read_spares, step_known}
+use Rattle.window.proofs.Steps.{IsRead, begun, due_is_read, has_begun, read_spares, step_known}
 
 -- an answer of the code, as it is heard
 pub heard_same : (h : code_heard.Heard (List ℕ)) → heard_of cluster_version h ≡ heard_in cluster_version (device_answer h)
@@ -54,6 +54,13 @@ no_read P r is = absurd cc
 
 pub keeps_same : (s : Option Sight) → Keeps s s
 keeps_same s = record { under = λ boot is. is; synced = λ boot is. is; sure = λ boot is. is; known = λ boot is. is }
+
+-- the core is to hear something, or another call is due
+not_over : {P : Type 0} → true ≡ false → P
+not_over none = absurd cc
+
+over : {P : Type 0} → false ≡ true → P
+over told = absurd cc
 
 -- CALLS THAT ARE NO READS
 
@@ -82,6 +89,9 @@ module _ (w : Window) (disk : ℕ) (answer : Answer) where
         cause = refl;
         sights = record { here = sees; others = others };
         notices = record { now = tt; before = λ so. so };
+        rests = λ told. refl;
+        last = λ none. not_over none;
+        at_once = tt;
       }
 
   pub sync_hears : (boot : ℕ) (sights : List (Option Sight)) → Fits (Sync boot) (heard_in cluster_version answer)
@@ -102,6 +112,9 @@ module _ (w : Window) (disk : ℕ) (answer : Answer) where
         cause = refl;
         sights = record { here = sees; others = others };
         notices = record { now = tt; before = λ so. so };
+        rests = λ told. refl;
+        last = λ none. not_over none;
+        at_once = tt;
       }
 
   -- a call of a write tells no boot number
@@ -128,6 +141,9 @@ module _ (w : Window) (disk : ℕ) (answer : Answer) where
         cause = refl;
         sights = record { here = keeps_same (sight_of w disk); others = λ other off. refl };
         notices = record { now = tt; before = λ so. so };
+        rests = λ told. refl;
+        last = λ none. not_over none;
+        at_once = tt;
       }
     where
       fits_moved : (answer : Answer) → Fits (Write boot (base + at) bytes) (heard_in cluster_version answer) → Fits (Write boot at bytes) (heard_in cluster_version answer)
@@ -215,6 +231,9 @@ module _ (w : Window) (disk at : ℕ) (boot : Boot) where
         cause = refl;
         sights = record { here = keeps_same (sight_of w disk); others = λ other off. refl };
         notices = record { now = tt; before = λ so. so };
+        rests = λ told. refl;
+        last = λ none. not_over none;
+        at_once = tt;
       }
 
   module _ (bytes : List ℕ) where
@@ -250,6 +269,9 @@ module _ (w : Window) (disk at : ℕ) (boot : Boot) where
           cause = subst (λ (s : Step). IsAfterReading w.standpoint.epoch w.standpoint.host s bytes None) (sym at_row) tt;
           sights = record { here = keeps_same (sight_of w disk); others = λ other off. refl };
           notices = record { now = subst (λ (s : Step). NoticesAt w.standpoint.epoch s bytes w.has_passed) (sym at_row) tt; before = λ so. so };
+          rests = λ told. over told;
+          last = λ none. record { reading = next; is = refl; here = refl; own = refl };
+          at_once = tt;
         }
       where
         fewer_left : (is_last : Bool) → left_at (Second first is_last) + 1 ≡ left_at (Row first is_last)
@@ -310,6 +332,9 @@ module _ (w : Window) (disk at : ℕ) (boot : Boot) where
             cause = fails;
             sights = record { here = keeps_same (sight_of w disk); others = λ other off. refl };
             notices = record { now = notes (passed_by why w.has_passed) (notices_by why w.has_passed is); before = stays_noticed why w.has_passed };
+            rests = λ told. refl;
+            last = λ none. not_over none;
+            at_once = tt;
           }
 
       -- it is good
@@ -350,6 +375,9 @@ module _ (w : Window) (disk at : ℕ) (boot : Boot) where
               cause = goes;
               sights = record { here = keeps; others = others };
               notices = record { now = notes; before = λ so. so };
+              rests = λ told. over told;
+              last = λ none. record { reading = next; is = refl; here = refl; own = refl };
+              at_once = tt;
             }
 
         -- no row is shown, for it was the last try
@@ -366,6 +394,9 @@ module _ (w : Window) (disk at : ℕ) (boot : Boot) where
               cause = fails;
               sights = record { here = keeps; others = others };
               notices = record { now = notes; before = λ so. so };
+              rests = λ told. refl;
+              last = λ none. not_over none;
+              at_once = tt;
             }
 
         -- the row is shown
@@ -377,25 +408,22 @@ module _ (w : Window) (disk at : ℕ) (boot : Boot) where
               same = refl;
               follows = follows_still row;
               answered =
-                  λ before after follows adds.
-                  (let has = subst (HasRead image w.standpoint.epoch boot.number at w.row (before disk)) at_second (known before follows) in
-                  inl (record {
-                    first = has.standings;
-                    row = w.row;
-                    second = bytes;
-                    early = has.early;
-                    before = has.before;
-                    between = [];
-                    is = read_so before after adds ∙ ap (λ (p : Past). p ++ reading image w.standpoint.epoch.area boot.number bytes ∷ []) has.is;
-                    clear = clear_of has.standings has.says;
-                    inside = good.inside;
-                    told = ap Told (is_masked ∙ masked_of has.standings has.says);
-                  }));
+                  λ before after follows adds. inl (shown_by_both before after follows adds).shown;
               fits = tt;
               fewer = tt;
               cause = subst (λ (s : Step). IsAfterReading w.standpoint.epoch w.standpoint.host s bytes (Some outcome.Row)) (sym at_second) (good, clear_by_second);
               sights = record { here = (keeps, sure, seen); others = others };
               notices = record { now = subst (λ (s : Step). NoticesAt w.standpoint.epoch s bytes w.has_passed) (sym at_second) (quiet w.has_passed); before = λ so. so };
+              rests = λ told. refl;
+              last = λ none. not_over none;
+              at_once = (let begun = has_begun w.reading (sight_of w disk) disk boot.number at first is_last at_second in
+                  record {
+                    was = record { reading = begun.reading; is = begun.is; here = begun.is_disk; own = ap₂ (λ (b a : ℕ). Read b a ROW_LENGTH) (sym begun.is_boot) (sym begun.is_at) };
+                    first = first;
+                    is_last = is_last;
+                    at_second = begun.is_step;
+                    shows = shown_by_both;
+                  });
             }
           where
             two : (host : ℕ) → host < HOSTS → slice_index numbers host ≡ numbers_in bytes host
@@ -413,3 +441,25 @@ module _ (w : Window) (disk at : ℕ) (boot : Boot) where
                 masked (λ host. slice_index_or (shown_in w.standpoint.epoch first numbers) host false) w.row ≡ masked (shown_by w.standpoint.epoch (numbers_in standings) (numbers_in bytes)) w.row
             masked_of standings is =
                 ap₂ (λ (f l : List ℕ). masked (λ host. slice_index_or (shown_in w.standpoint.epoch f l) host false) w.row) is.are says.are ∙ masked_by_rows w.standpoint.epoch standings bytes w.row
+
+            -- by the row and the standings right behind it
+            shown_by_both : (before after : Pasts) → Follows w before → AddsCall before after disk (made due (Told bytes)) → ShowsLast image w.standpoint.epoch w.standpoint.host boot.number at (before disk) (after disk) (Told row)
+            shown_by_both before after follows adds =
+                let has = subst (HasRead image w.standpoint.epoch boot.number at w.row (before disk)) at_second (known before follows) in
+                record {
+                  shown = record {
+                    first = has.standings;
+                    row = w.row;
+                    second = bytes;
+                    early = has.early;
+                    before = has.before;
+                    between = [];
+                    is = read_so before after adds ∙ ap (λ (p : Past). p ++ reading image w.standpoint.epoch.area boot.number bytes ∷ []) has.is;
+                    clear = clear_of has.standings has.says;
+                    inside = good.inside;
+                    told = ap Told (is_masked ∙ masked_of has.standings has.says);
+                  };
+                  at_once = refl;
+                  early = has.early ++ reading image w.standpoint.epoch.area boot.number has.standings ∷ has.before;
+                  last = has.is;
+                }

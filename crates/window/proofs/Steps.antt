@@ -83,3 +83,38 @@ module _ (n : ℕ) (e : Epoch) (host : ℕ) (past : Past) (row : List ℕ) (boot
             subst (HasRead n e boot at row past) (sym (cond-false (is_of r disk boot at) r.step first other))
             (first_known (numbers_under boot s) (under_of n e host past boot s is))
       ]
+
+-- WHERE THE STANDINGS ALONE ARE LEFT TO BE READ
+
+-- so no read begins
+not_first : (o : Option (List ℕ)) (first : List ℕ) (is_last : Bool) → first_step o ≡ Second first is_last → ⊥
+not_first None first is_last is = absurd cc
+not_first (Some numbers) first is_last is = absurd cc
+
+-- the read under way is this one
+pub record HasBegun (under_way : Option Reading) (disk boot at : ℕ) (step : Step) : Type 0 where
+  pub reading : Reading
+  pub is : under_way ≡ Some reading
+  pub is_disk : reading.disk ≡ disk
+  pub is_boot : reading.boot.number ≡ boot
+  pub is_at : reading.at ≡ at
+  pub is_step : reading.step ≡ step
+
+pub has_begun : (under_way : Option Reading) (s : Option Sight) (disk boot at : ℕ) (first : List ℕ) (is_last : Bool) →
+    step_by under_way s disk boot at ≡ Second first is_last → HasBegun under_way disk boot at (Second first is_last)
+has_begun None s disk boot at first is_last is = absurd (not_first (numbers_under boot s) first is_last is)
+has_begun (Some r) s disk boot at first is_last is =
+    let anew = first_step (numbers_under boot s) in
+    elim (cases_Bool (is_of r disk boot at)) [
+      | inl same ↦
+          (let t = first_of (r.disk == disk) (r.boot.number == boot) (r.at == at) same in
+          record {
+            reading = r;
+            is = refl;
+            is_disk = eqb-true r.disk disk t.0;
+            is_boot = eqb-true r.boot.number boot t.1;
+            is_at = eqb-true r.at at t.2;
+            is_step = sym (cond-true (is_of r disk boot at) r.step anew same) ∙ is;
+          })
+      | inr other ↦ absurd (not_first (numbers_under boot s) first is_last (sym (cond-false (is_of r disk boot at) r.step anew other) ∙ is))
+    ]

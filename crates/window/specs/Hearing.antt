@@ -1,13 +1,18 @@
 -- What follows when a window hears the answer to the device call that was due for a call of the core.
-use Rattle.std.specs.Prelude.{◌≡◌, ◌≢◌, ◌+◌, ℕ, true, Option, Some, None}
+use Rattle.std.specs.Prelude.{◌≡◌, ◌≢◌, ◌+◌, ℕ, Bool, true, List, [], ◌∷◌, ◌++◌, Option, Some, None, IsSome, IsNone}
 use Rattle.disk.specs.Disk.{Call, Attach, Read, Write, Sync, Answer, Booted, Told, Done}
 use Rattle.torn_block.specs.Layout.{cluster_version}
+use Rattle.torn_block.specs.declared.layout.TheConstants.{ROW_LENGTH}
 use Rattle.attempt.specs.Answers.{heard_in}
 use Rattle.attempt.specs.Heard.{Fits}
-use Rattle.standings.specs.Past.{made, IsAnswered, MayCallIn}
+use Rattle.standings.specs.declared.epoch.Epoch.{Epoch}
+use Rattle.standings.specs.Epochs.{base_of}
+use Rattle.standings.specs.Past.{Past, made, IsAnswered, IsShown, MayCallIn}
 use Rattle.window.specs.declared.outcome.Outcome.{Outcome}
 use Rattle.window.specs.declared.outcome.Outcome.TheVariants as outcome
 use Rattle.window.specs.declared.sight.Sight.{Sight}
+use Rattle.window.specs.declared.step.Reading.{Reading}
+use Rattle.window.specs.declared.step.Step.TheVariants.{Second}
 use Rattle.window.specs.declared.window.Window.{Window}
 use Rattle.window.specs.Knows.{Pasts, AddsCall, AddsCalls}
 use Rattle.window.specs.Sights.{IsKnownUnder, IsUnder, IsSyncedUnder, IsSureUnder, Keeps}
@@ -75,6 +80,43 @@ pub record Notices (old new : Window) (disk : ℕ) (wanted : Call) (answer : Ans
   pub now : IsNoticed old new disk wanted answer
   pub before : old.has_passed ≡ true → new.has_passed ≡ true
 
+-- WHAT IS UNDER WAY
+
+-- This read of the core has begun on this disk, and is not over.
+pub record IsUnderWay (w : Window) (disk : ℕ) (wanted : Call) : Type 0 where
+  pub reading : Reading
+  pub is : w.reading ≡ Some reading
+  pub here : reading.disk ≡ disk
+  pub own : wanted ≡ Read reading.boot.number reading.at ROW_LENGTH
+
+-- Once the core is to hear something, no read is.
+abbrev pub RestsAfter : Window → Option Outcome → Type 0
+RestsAfter new told = IsSome told → new.reading ≡ None
+
+-- Till then its own one is.
+abbrev pub GoesOnWith : Window → (disk : ℕ) → Call → Option Outcome → Type 0
+GoesOnWith new disk wanted told = IsNone told → IsUnderWay new disk wanted
+
+-- A row is shown by the two calls that were made on the disk last: it was read, and right behind it the standings.
+pub record ShowsLast (n : ℕ) (e : Epoch) (host boot at : ℕ) (before after : Past) (answer : Answer) : Type 0 where
+  pub shown : IsShown n e host boot at after answer
+  pub at_once : shown.between ≡ []
+  pub early : Past
+  pub last : before ≡ early ++ made (Read boot (base_of n e.area + at) ROW_LENGTH) (Told shown.row) ∷ []
+
+-- of a read for which the standings alone were left to be read
+pub record ShowsRow (old new : Window) (disk boot at : ℕ) (wanted : Call) (answer : Answer) : Type 0 where
+  pub was : IsUnderWay old disk wanted
+  pub first : List ℕ
+  pub is_last : Bool
+  pub at_second : was.reading.step ≡ Second first is_last
+  pub shows : (before after : Pasts) → Follows old before → AddsCall before after disk (made (due_for old disk wanted) answer)
+      → ShowsLast (length_of old) old.standpoint.epoch old.standpoint.host boot at (before disk) (after disk) (Told new.row)
+
+abbrev pub ShowsAtOnce : (old new : Window) (disk : ℕ) → Call → Answer → Option Outcome → Type 0
+ShowsAtOnce old new disk (Read boot at len) answer (Some outcome.Row) = ShowsRow old new disk boot at (Read boot at len) answer
+ShowsAtOnce old new disk wanted answer told = Unit {0}
+
 -- all of it
 pub record Hears (old new : Window) (disk : ℕ) (wanted : Call) (answer : Answer) (told : Option Outcome) : Type 0 where
   pub same : new.standpoint ≡ old.standpoint
@@ -85,6 +127,9 @@ pub record Hears (old new : Window) (disk : ℕ) (wanted : Call) (answer : Answe
   pub cause : HasCause old disk wanted answer told
   pub sights : SightsGoOn old new disk wanted answer told
   pub notices : Notices old new disk wanted answer
+  pub rests : RestsAfter new told
+  pub last : GoesOnWith new disk wanted told
+  pub at_once : ShowsAtOnce old new disk wanted answer told
 
 -- Other calls were made on a disk, and what was seen of it is forgotten.
 abbrev pub ForgetsOn : (old new : Window) (disk : ℕ) → Type 0

@@ -47,7 +47,7 @@ impl Window {
     ghost use Rattle.window.specs.Steps.{read_due};
     ghost use Rattle.window.specs.Outcomes.{IsGood, answer_by, passed_by};
     ghost use Rattle.window.specs.Sights.{IsKnownUnder, IsSureUnder, IsSyncedUnder, IsUnder, Keeps};
-    ghost use Rattle.window.specs.Hearing.{AnswersBy, FitsAs, FollowsOn, ForgetsOn, HasCause, HasOneFewer, Hears, MayWant, Notices, SightsGoOn};
+    ghost use Rattle.window.specs.Hearing.{AnswersBy, FitsAs, FollowsOn, ForgetsOn, GoesOnWith, HasCause, HasOneFewer, Hears, MayWant, Notices, RestsAfter, ShowsAtOnce, SightsGoOn};
 
     /// A window that has seen nothing: of a host, on disks whose areas have so many slots.
     pub fn new(host: u8, slots: u16, epoch: Epoch) -> Window
@@ -58,6 +58,7 @@ impl Window {
         ensures epoch { result.standpoint.epoch ≡ epoch }
         ensures nothing { (disk : ℕ) → sight_of result disk ≡ None }
         ensures passed { result.has_passed ≡ false }
+        ensures rests { result.reading ≡ None }
         ensures follows { (pasts : Pasts) → Follows result pasts }
     {
         Window {
@@ -169,6 +170,10 @@ impl Window {
             (device_answer heard.now) result }
         ensures notices { Notices self.old self.new wanted.now.disk (call_in wanted.now)
             (device_answer heard.now) }
+        ensures rests { RestsAfter self.new result }
+        ensures last { GoesOnWith self.new wanted.now.disk (call_in wanted.now) result }
+        ensures at_once { ShowsAtOnce self.old self.new wanted.now.disk (call_in wanted.now)
+            (device_answer heard.now) result }
     {
         match &wanted.call {
             DeviceCall::Attach => self.hear_attach(wanted.disk, heard),
@@ -370,6 +375,7 @@ impl Window {
         ensures others { (other : ℕ) → other ≢ disk → sight_of self.new other ≡ sight_of self.old
             other }
         ensures passed { self.new.has_passed ≡ self.old.has_passed }
+        ensures rests { self.new.reading ≡ None }
     {
         self.reading = None;
         self.sights[usize::from(disk)] = None;
