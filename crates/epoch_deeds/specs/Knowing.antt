@@ -112,7 +112,8 @@ abbrev pub RisesInTurn : Shape → (h : ℕ) → Deeds → (d : ℕ) → Call �
 RisesInTurn c h deeds d call =
     (w : WritesNumber (image_of c) h (past_on d deeds) call) → (order : ℕ) → epoch_by w.area (suc (numbers_in w.row h)) ≡ Some order → IsOpen c h order deeds
 
--- a host may submit a command of its own for which a client may ask, and any that carries a part of a table over
+-- A host may submit a command of its own for which a client may ask, and any that carries a part of a table over. This and the next definition stand in `world` too, which no program cites;
+-- `epoch_runs` proves that they agree.
 abbrev pub may_submit : ℕ → Command → Bool
 may_submit h command = is_carried command.action || (command.host == h && is_submittable command)
 

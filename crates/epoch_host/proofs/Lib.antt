@@ -1,3 +1,11 @@
+mod Beginning
+mod Carrying
+mod Due
+mod Going
+mod Hearing
+mod Leading
+mod Moving
+mod OneDeed
 mod Owning
 mod Spelling
 mod Staying

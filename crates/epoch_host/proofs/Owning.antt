@@ -28,15 +28,14 @@ use Rattle.attempt.proofs.Statuses.{due_is}
 use Rattle.attempt.proofs.Visitors.{waiting_is}
 use Rattle.attempt.proofs.Votes.{fills, own_votes, may_write_two, row_told}
 use Rattle.attempt_safety.proofs.Stages.{putting}
-use Rattle.rounds.specs.Status as rounds
 use Rattle.rounds.specs.Beat.Answers as beat_answers
 use Rattle.rounds.specs.Beat.Status as beat
 use Rattle.rounds.specs.Marking.Status as mark
 use Rattle.rounds.specs.Look.Status as look
-use Rattle.host.specs.Host.{Operation, Doing, Attempts, Looks, Beats, Marks, Memory, setup_of, beat_of, marking_of, look_of, input_of, next_doing, next_in as next_of}
+use Rattle.host.specs.Host.{Operation, Doing, Attempts, Looks, Beats, Marks, Memory, setup_of, beat_of, marking_of, look_of, input_of, next_doing}
 use Rattle.standings.specs.Past.{IsRow}
 use Rattle.window.specs.Calls.{IsOwn}
-use Rattle.epoch_host.specs.Working.{IsAt, TellVotes}
+use Rattle.epoch_host.specs.Working.{IsAt}
 
 -- ONE CALL
 

@@ -1,10 +1,9 @@
 -- What a host in an epoch keeps where its core begins something, and where the core hears an answer.
 use Rattle.std.specs.Prelude.{nat_lt, is_none, IfSome, if◌then◌else◌}
-use Rattle.std.proofs.Common.{◌≡◌, ◌<◌, ◌≤◌, ◌+◌, ℕ, Bool, true, false, List, [], ◌∷◌, ◌++◌, length, Option, Some, None, refl, sym, ◌∙◌, ap, subst, arith, true≢false}
+use Rattle.std.proofs.Common.{◌≡◌, ◌≤◌, ℕ, Bool, true, false, List, [], length, Option, Some, None, refl, sym, ◌∙◌, ap, subst, arith, true≢false}
 use Rattle.disk.specs.Disk as device
 use Rattle.paxos_block.specs.Shape.{Shape}
 use Rattle.lock_command.specs.declared.command.Command.{Command}
-use Rattle.host.specs.declared.answer.HostAnswer.{HostAnswer}
 use Rattle.host.specs.declared.task.Task.{Task}
 use Rattle.host.specs.declared.task.Task.TheVariants as task
 use Rattle.host.specs.Host.{Memory, Submitting, Recovering, Looks, Marks, begins, starts, hears_from, does}
@@ -196,7 +195,7 @@ module _ (over : Over) (what : Work) (old new : Kept) (works : IsWorking old) (b
 
 -- THE HOST IN AN EPOCH
 
-rests_in : (s : Stay) → IsSound s → s.doing ≡ Nothing → Rests s
+pub rests_in : (s : Stay) → IsSound s → s.doing ≡ Nothing → Rests s
 rests_in s is rests = subst (IsDoing s) rests is.doing
 
 -- where its core has begun something, all is sound again
@@ -242,7 +241,7 @@ module _ (s : Stay) (is : IsSound s) (rests : s.doing ≡ Nothing) (core : Kept)
 
 -- WHERE IT HEARS AN ANSWER
 
-works_in : (s : Stay) (what : Work) → IsSound s → s.doing ≡ Works what → CoreWorks s what
+pub works_in : (s : Stay) (what : Work) → IsSound s → s.doing ≡ Works what → CoreWorks s what
 works_in s what is works = subst (IsDoing s) works is.doing
 
 -- while the window makes another call
@@ -276,6 +275,16 @@ module _ (s : Stay) (what : Work) (window : Window) (core : Kept) (is : IsSound 
 
   same_shape_now : core.learner.shape ≡ s.config
   same_shape_now = heard.shape ∙ is.shape
+
+  -- the core is at work, or has answered
+  pub heard_working : IsWorking core
+  heard_working = heard.works
+
+  pub heard_host : core.learner.host ≡ s.host
+  heard_host = heard.host ∙ is.host
+
+  pub heard_shape : core.learner.shape ≡ s.config
+  heard_shape = same_shape_now
 
   -- the core's log has as many slots
   pub few_heard : (length core.prefix ≤ s.config.slots) × (s.config.slots ≤ SLOTS)

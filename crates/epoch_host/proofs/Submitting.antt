@@ -1,13 +1,11 @@
 -- What a core submits stays due, whatever it hears: a client's command behind all that carries the table over, and a command that carries a part of it over in its slot, until the core goes on
 -- to another.
-use Rattle.std.specs.Prelude.{nat_lt, nat_le, is_none, Contains, if◌then◌else◌}
-use Rattle.std.proofs.Common.{◌≡◌, ◌<◌, ◌≤◌, ◌+◌, ◌-◌, ℕ, Bool, true, false, List, [], ◌∷◌, ◌++◌, length, length-append, Option, Some, None, refl, sym, ◌∙◌, ap, subst, arith, true≢false}
+use Rattle.std.specs.Prelude.{nat_lt, nat_le, is_none, if◌then◌else◌}
+use Rattle.std.proofs.Common.{◌≡◌, ◌<◌, ◌≤◌, ◌+◌, ◌-◌, ℕ, Bool, true, false, List, [], ◌∷◌, ◌++◌, length, length-append, Option, Some, None, refl, arith, true≢false}
 use Rattle.std.proofs.lemmas.List.Elements.{Contains-append_left}
 use Rattle.disk.specs.Disk.{Answer}
-use Rattle.attempt.specs.Answers.{Answered, on, heard_as}
-use Rattle.attempt.specs.Status.{Status, Due, Ended, End, Committed, Decided, Empty, Outrun, NoMajority, BallotsSpent, status, taken}
+use Rattle.attempt.specs.Status.{Status, Due, Ended, End, Committed, Decided, Empty, Outrun, NoMajority, BallotsSpent}
 use Rattle.lock_command.specs.declared.command.Command.{Command}
-use Rattle.lock_command.specs.Command.{is_submittable}
 use Rattle.lock_command.specs.Reading.{decoded}
 use Rattle.rounds.specs.Beat.Answers as beat_answers
 use Rattle.rounds.specs.Beat.Status as beat
@@ -18,12 +16,12 @@ use Rattle.attempt.specs.declared.refusal.Refusal.TheVariants as refusal
 use Rattle.host.specs.declared.answer.HostAnswer.TheVariants.{Refused}
 use Rattle.host.specs.declared.task.Task.{Task}
 use Rattle.host.specs.declared.task.Task.TheVariants as task
-use Rattle.host.specs.Host.{Operation, Submitting, Recovering, Attempt, Looking, Marking, Doing, Attempts, Looks, Beats, Marks as MarksSlot, Memory, setup_of, says, does, begins, full_answer, goes_on, is_submitted, after_learning, learns, takes, with_floor, tries_again, ended, by_status, with_heard, hears_from, beat_by, beat_of, marking_by, marking_with, marking_of, look_by, look_of, looking_with, looks_on, takes_marked, starts, starts_marking}
+use Rattle.host.specs.Host.{Operation, Submitting, Recovering, Attempt, Looking, Marking, Doing, Attempts, Looks, Beats, Marks as MarksSlot, Memory, says, does, begins, full_answer, goes_on, is_submitted, after_learning, learns, takes, with_floor, tries_again, ended, by_status, with_heard, hears_from, beat_by, marking_by, marking_with, look_by, looking_with, looks_on, takes_marked, starts}
 use Rattle.epoch_host.specs.declared.over.Over.{Over}
 use Rattle.epoch_host.specs.declared.over.Over.TheVariants.{Unknown, Known}
 use Rattle.epoch_host.specs.declared.stay.Work.{Work}
 use Rattle.epoch_host.specs.declared.stay.Work.TheVariants.{Goes, Carries, Marks}
-use Rattle.epoch_host.specs.Submitting.{HasClients, Stands, IsClients, IsDueIn, StaysAt, SubmitsFor, MayCarryOut}
+use Rattle.epoch_host.specs.Submitting.{Stands, IsClients, IsDueIn, StaysAt, SubmitsFor, MayCarryOut}
 
 by_test : (P : Memory → Type 0) (b : Bool) (m n : Memory) → (b ≡ true → P m) → (b ≡ false → P n) → P (if b then m else n)
 by_test P true m n p q = p refl

@@ -10,7 +10,7 @@ use Rattle.attempt.specs.Answers.{Answered, Answers, on, heard_as}
 use Rattle.attempt.specs.Votes.{IsLong, ShowsVotes, TellsVotes}
 use Rattle.attempt.proofs.Votes.{votes_none, votes_more, row_shows}
 use Rattle.attempt.proofs.More.{on_more, by_disk}
-use Rattle.attempt.specs.Status.{Status, Due, Ended, End, Committed, Decided, Empty, Outrun, NoMajority, BallotsSpent, status, taken}
+use Rattle.attempt.specs.Status.{Status, Due, Ended, End, Committed, Decided, Empty, Outrun, NoMajority, BallotsSpent}
 use Rattle.lock_command.specs.declared.command.Command.{Command}
 use Rattle.lock_command.specs.Reading.{decoded}
 use Rattle.lock_command.proofs.Lengths.{spelling_long}
@@ -23,7 +23,7 @@ use Rattle.attempt.specs.declared.refusal.Refusal.TheVariants as refusal
 use Rattle.host.specs.declared.answer.HostAnswer.TheVariants.{Refused}
 use Rattle.host.specs.declared.task.Task.{Task}
 use Rattle.host.specs.declared.task.Task.TheVariants as task
-use Rattle.host.specs.Host.{Operation, Submitting, Recovering, Attempt, Looking, Marking, Doing, Attempts, Looks, Beats, Marks, Memory, setup_of, says, does, begins, full_answer, goes_on, is_submitted, after_learning, learns, takes, with_floor, tries_again, ended, by_status, with_heard, hears_from, beat_by, beat_of, marking_by, marking_with, marking_of, look_by, look_of, looking_with, looks_on, takes_marked, starts, starts_marking, is_idle, input_of}
+use Rattle.host.specs.Host.{Operation, Submitting, Recovering, Attempt, Looking, Marking, Doing, Attempts, Looks, Beats, Marks, Memory, says, does, begins, full_answer, goes_on, is_submitted, after_learning, learns, takes, with_floor, tries_again, ended, by_status, with_heard, hears_from, beat_by, marking_by, marking_with, look_by, looking_with, looks_on, takes_marked, starts, is_idle, input_of}
 use Rattle.epoch_host.specs.Working.{IsAt, IsSpelled, IsWhole, HasRoom, TellVotes}
 
 by_test : (P : Memory → Type 0) (b : Bool) (m n : Memory) → (b ≡ true → P m) → (b ≡ false → P n) → P (if b then m else n)

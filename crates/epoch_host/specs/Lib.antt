@@ -1,3 +1,4 @@
+pub mod Leading
 pub mod Staying
 pub mod Submitting
 pub mod Walking

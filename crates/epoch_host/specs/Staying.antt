@@ -77,7 +77,7 @@ pub record IsSound (s : Stay) : Type 0 where
   pub window : (s.window.standpoint.host ≡ s.host) × (s.window.standpoint.slots ≡ s.config.slots) × (s.window.standpoint.epoch ≡ epoch_of s.epoch)
   pub tries : 1 ≤ s.tries
   pub may : GivesTries s.task
-  pub asked : IsAsked s.task
+  pub asked : IsAsked s.host s.task
   pub spelled : IsSpelled s.task
   pub marks : (slot : ℕ) → s.task ≡ Mark slot → HasRoom s.task (learned_of s) s.config.slots
   pub doing : IsDoing s s.doing
@@ -90,11 +90,12 @@ pub record IsSame (old new : Stay) : Type 0 where
   pub errand : new.errand ≡ old.errand
   pub over : new.over ≡ old.over
 
--- a call is due, or the host leaves, or nothing is under way
-abbrev pub IsSoLeft : Option Leave → Doing → Type 0
-IsSoLeft None doing = IsBusy doing
-IsSoLeft (Some leave.Passed) doing = Unit {0}
-IsSoLeft (Some other) doing = doing ≡ Nothing
+-- A call is due, or the host leaves, or nothing is under way. It leaves a full epoch once all slots are learned.
+abbrev pub IsSoLeft : Option Leave → Stay → Type 0
+IsSoLeft None s = IsBusy s.doing
+IsSoLeft (Some leave.Passed) s = Unit {0}
+IsSoLeft (Some leave.Full) s = (s.doing ≡ Nothing) × (s.config.slots ≤ learned_of s)
+IsSoLeft (Some other) s = s.doing ≡ Nothing
 
 -- THE CALL THAT IS DUE
 

@@ -45,10 +45,10 @@ abbrev pub StaysAt : Work → (learned : ℕ) → Type 0
 StaysAt (Carries slot) learned = learned ≤ slot
 StaysAt other learned = Unit {0}
 
--- a client may ask for a command that is submitted as a task
-abbrev pub IsAsked : Task → Type 0
-IsAsked (Submit command tries) = is_submittable command ≡ true
-IsAsked other = Unit {0}
+-- a command that is submitted as a task is the host's own, and a client may ask for it
+abbrev pub IsAsked : (host : ℕ) → Task → Type 0
+IsAsked h (Submit command tries) = (command.host ≡ h) × (is_submittable command ≡ true)
+IsAsked h other = Unit {0}
 
 -- a task may be begun
 abbrev pub MayCarryOut : Over → List Command → Task → Type 0

@@ -1,10 +1,11 @@
 -- What is so at any time of a host on its way through the epochs.
-use Rattle.std.specs.Prelude.{◌≡◌, ◌<◌, ◌≤◌, ℕ, true, Option, Some, None}
+use Rattle.std.specs.Prelude.{◌≡◌, ◌≤◌, ℕ, true, Option, Some, None}
 use Rattle.disk.specs.Disk.{Call, Attach}
 use Rattle.torn_block.specs.Layout.{cluster_version}
 use Rattle.torn_block.specs.declared.layout.TheConstants.{DISKS}
 use Rattle.paxos_block.specs.Places.{image_length}
 use Rattle.lock_command.specs.Command.{is_submittable}
+use Rattle.coming.specs.declared.found.Found.{Found}
 use Rattle.coming.specs.declared.search.Search.{Search}
 use Rattle.coming.specs.Finding as finding
 use Rattle.epoch_host.specs.declared.task.EpochTask.{EpochTask}
@@ -44,6 +45,11 @@ pub record IsFinding (w : Walk) (search : Search) : Type 0 where
   pub going : search.end ≡ None
   pub slots : search.slots ≡ w.config.slots
   pub disks : search.disks ≡ w.config.disks
+
+-- the search has ended so
+pub record HasEnded (search : Search) (found : Found) : Type 0 where
+  pub is : search.end ≡ Some found
+  pub so : finding.HasFound search.disks search.readings found
 
 -- a call is due
 abbrev pub IsGoing : Walk → Whereabouts → Type 0

@@ -1,8 +1,9 @@
-ghost use Rattle.std.specs.Prelude.{◌≡◌, ◌<◌, None, IsSome, is_none};
+ghost use Rattle.std.specs.Prelude.{[], ◌≡◌, ◌<◌, None, IsSome, is_none};
 ghost use Rattle.torn_block.specs.Layout.{cluster_version};
 ghost use Rattle.attempt.specs.Heard.{Fits};
-ghost use Rattle.attempt.specs.DeviceCalls.{IsWithin, call_of_need, heard_of};
+ghost use Rattle.attempt.specs.DeviceCalls.{IsWithin, call_of_need, device_answer, heard_of};
 ghost use Rattle.standings.specs.Epochs.{whole_length};
+ghost use Rattle.epoch_host.specs.Leading.{LeadsTo, WalksBy, WalksOn};
 ghost use Rattle.epoch_host.specs.Walking.{IsSame, MayBegin, call_due, image_of};
 
 use crate::answer::EpochAnswer;
@@ -27,6 +28,7 @@ pub struct EpochHost {
 
 impl Model for EpochHost {
     ghost use Rattle.epoch_host.specs.declared.walk.Walk.{Walk};
+    ghost use Rattle.epoch_host.specs.Leading.{LeadsTo, WalksBy, WalksOn};
     ghost use Rattle.epoch_host.specs.Walking.{IsSound};
 
     ghost Value = { Walk };
@@ -41,6 +43,7 @@ impl EpochHost {
     pub fn new(alloc: Global, host: HostNumber, config: Config) -> EpochHost
         ensures idle { result.task ≡ None }
         ensures of { (result.host ≡ host) × (result.config ≡ config) }
+        ensures leads { LeadsTo config host [] result }
     {
         EpochHost {
             walk: Walk::new(alloc, host, config),
@@ -100,6 +103,7 @@ impl EpochHost {
         requires idle { self.old.task ≡ None }
         requires may { MayBegin self.old.host task }
         ensures same { IsSame self.old self.new }
+        ensures leads { WalksOn self.old self.new }
     {
         self.walk.begin(task)
     }
@@ -119,6 +123,7 @@ impl EpochHost {
         requires busy { IsSome self.old.task }
         requires fits { Fits (call_due self.old).1 (heard_of cluster_version heard.now) }
         ensures same { IsSame self.old self.new }
+        ensures makes { WalksBy self.old self.new (call_due self.old) (device_answer heard.now) }
     {
         self.walk.hear(heard)
     }

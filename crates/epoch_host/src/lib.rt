@@ -2,6 +2,7 @@
 #![tactic(auto)]
 
 mod answer;
+mod carried;
 mod epoch_host;
 mod over;
 mod place;

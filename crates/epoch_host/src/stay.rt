@@ -1,5 +1,5 @@
 // A host in one epoch.
-ghost use Rattle.std.specs.Prelude.{◌≡◌, ◌≤◌, ◌<◌, ◌↔◌, false, Some, IfOk, IfSome, IsNone, IsTrue};
+ghost use Rattle.std.specs.Prelude.{◌≡◌, ◌≤◌, ◌<◌, ◌↔◌, ℕ, false, Some, IfOk, IfSome, IsNone, IsTrue};
 ghost use Rattle.torn_block.specs.Layout.{cluster_version};
 ghost use Rattle.attempt.specs.Heard.{Fits};
 ghost use Rattle.torn_block.specs.declared.layout.TheConstants.{DISKS, HOSTS};
@@ -11,14 +11,16 @@ ghost use Rattle.window.specs.Calls.{IsOwn};
 ghost use Rattle.standings.specs.Epochs.{whole_length};
 ghost use Rattle.lock_command.specs.Command.{spelling};
 ghost use Rattle.lock_command.specs.Reading.{decoded};
-ghost use Rattle.host.specs.Host.{Submitting};
+ghost use Rattle.paxos_block.specs.Shape.{Shape};
+ghost use Rattle.host.specs.Host.{Memory, Submitting, next_in};
 ghost use Rattle.epoch_host.specs.declared.place.TheConstants.{EPOCHS};
+ghost use Rattle.epoch_host.specs.Leading.{GoesOnIn, IsReadyFor, MakesIn, StartsIn};
 ghost use Rattle.epoch_host.specs.Staying.{CoreWorks, IsBusy, IsFew, IsSame, IsSoLeft, IsSound, call_due, image_of, learned_of};
 ghost use Rattle.epoch_host.specs.Submitting.{IsAsked, IsDueIn, MayCarryOut, Stands, StaysAt};
 ghost use Rattle.epoch_host.specs.Working.{GivesTries, HasRoom, IsAnswer, IsSpelled, IsWhole, IsWorking};
 
 use crate::over::Over;
-use attempt::{Heard, Need, Refusal};
+use attempt::{DeviceCall, Heard, Need, Refusal};
 use coming::{Coming, End};
 use disk::NoMemory;
 use host::{HostAnswer, HostCore, Task};
@@ -116,12 +118,13 @@ impl Stay {
     ) -> Result<Stay, NoMemory>
         requires epoch { arrival.epoch ≤ EPOCHS }
         requires may { GivesTries task }
-        requires asked { IsAsked task }
+        requires asked { IsAsked host task }
         requires spelled { IsSpelled task }
         requires learns { HasRoom task 0 config.slots }
         ensures sound { IfOk result IsSound }
         ensures busy { IfOk result (λ stay. IsBusy stay.doing) }
         ensures of { IfOk result (λ stay. (stay.host ≡ host) × (stay.config ≡ config)) }
+        ensures starts { IfOk result (λ stay. StartsIn arrival stay) }
     {
         let Arrival {
             epoch,
@@ -174,12 +177,13 @@ impl Stay {
         requires sound { IsSound self.old }
         requires rests { self.old.doing ≡ Doing.Nothing }
         requires may { GivesTries task.now }
-        requires asked { IsAsked task.now }
+        requires asked { IsAsked self.old.host task.now }
         requires spelled { IsSpelled task.now }
         requires slot { (slot : _) → task.now ≡ Task.Mark slot → slot < self.old.config.slots }
         ensures sound { IsSound self.new }
-        ensures left { IsSoLeft result self.new.doing }
+        ensures left { IsSoLeft result self.new }
         ensures same { IsSame self.old self.new }
+        ensures leads { GoesOnIn self.old self.new }
     {
         if let Some(leave) = self.at_once(task) {
             return Some(leave);
@@ -193,7 +197,9 @@ impl Stay {
     // How a task ends for which nothing is to be done here, or nothing can be.
     fn at_once(&self, task: &Task) -> Option<Leave>
         requires learned { IsFew self.now }
+        requires rests { self.now.doing ≡ Doing.Nothing }
         requires slot { (slot : _) → task.now ≡ Task.Mark slot → slot < self.now.config.slots }
+        ensures left { IfSome result (λ leave. IsSoLeft (Some leave) self.now) }
         ensures room { IsNone result → HasRoom task.now (learned_of self.now) self.now.config.slots }
     {
         match task {
@@ -222,6 +228,7 @@ impl Stay {
         ensures sound { IsSound self.new }
         ensures busy { IsBusy self.new.doing }
         ensures same { IsSame self.old self.new }
+        ensures leads { GoesOnIn self.old self.new }
     {
         match self.next_missing(first) {
             Some(disk) => self.come_on(disk),
@@ -251,6 +258,7 @@ impl Stay {
         ensures sound { IsSound self.new }
         ensures busy { IsBusy self.new.doing }
         ensures same { IsSame self.old self.new }
+        ensures leads { GoesOnIn self.old self.new }
     {
         self.window.forget(disk);
         let coming = Coming::new(self.host.get(), self.config.slots(), Epoch::new(self.epoch));
@@ -265,6 +273,7 @@ impl Stay {
         ensures sound { IsSound self.new }
         ensures busy { IsBusy self.new.doing }
         ensures same { IsSame self.old self.new }
+        ensures leads { GoesOnIn self.old self.new }
     {
         let task = if self.is_ready() {
             self.task
@@ -276,7 +285,7 @@ impl Stay {
 
     // Whether the task may begin: a marking at once, a beat once the host is at work, and all else once the table is whole.
     fn is_ready(&self) -> bool
-        requires asked { IsAsked self.now.task }
+        requires asked { IsAsked self.now.host self.now.task }
         ensures may { IsTrue result → MayCarryOut self.now.over self.now.core.prefix self.now.task }
         ensures marks { (slot : _) → self.now.task ≡ Task.Mark slot → IsTrue result }
     {
@@ -292,12 +301,14 @@ impl Stay {
         requires sound { IsSound self.old }
         requires rests { self.old.doing ≡ Doing.Nothing }
         requires may { GivesTries task }
+        requires asked { IsAsked self.old.host task }
         requires spelled { IsSpelled task }
         requires submits { MayCarryOut self.old.over self.old.core.prefix task }
         requires room { HasRoom task (learned_of self.old) self.old.config.slots }
         ensures sound { IsSound self.new }
         ensures busy { IsBusy self.new.doing }
         ensures same { IsSame self.old self.new }
+        ensures leads { GoesOnIn self.old self.new }
     {
         self.core.begin(task);
         self.doing = Doing::Works(Work::Goes);
@@ -327,8 +338,9 @@ impl Stay {
         requires busy { IsBusy self.old.doing }
         requires fits { Fits (call_due self.old).1 (heard_of cluster_version heard.now) }
         ensures sound { IsSound self.new }
-        ensures left { IsSoLeft result self.new.doing }
+        ensures left { IsSoLeft result self.new }
         ensures same { IsSame self.old self.new }
+        ensures makes { MakesIn self.old self.new (call_due self.old) (device_answer heard.now) }
     {
         match &self.doing {
             Doing::Nothing | Doing::Leaves => unreachable!(),
@@ -346,12 +358,15 @@ impl Stay {
         requires comes { (disk : _) × (coming : _) × (self.old.doing ≡ Doing.Comes disk coming) }
         requires fits { Fits (call_due self.old).1 (heard_of cluster_version heard.now) }
         ensures sound { IsSound self.new }
-        ensures left { IsSoLeft result self.new.doing }
+        ensures left { IsSoLeft result self.new }
         ensures same { IsSame self.old self.new }
+        ensures makes { MakesIn self.old self.new (call_due self.old) (device_answer heard.now) }
     {
         let Doing::Comes { disk, coming } = &mut self.doing else {
             unreachable!()
         };
+        // Called for its contract only: the call may be made.
+        let _due = coming.call();
         coming.hear(heard);
         let disk = *disk;
         let end = coming.end()?;
@@ -371,8 +386,9 @@ impl Stay {
         requires works { self.old.doing ≡ Doing.Works work }
         requires fits { Fits (call_due self.old).1 (heard_of cluster_version heard.now) }
         ensures sound { IsSound self.new }
-        ensures left { IsSoLeft result self.new.doing }
+        ensures left { IsSoLeft result self.new }
         ensures same { IsSame self.old self.new }
+        ensures makes { MakesIn self.old self.new (call_due self.old) (device_answer heard.now) }
     {
         let outcome = self.window.hear(&wanted(&self.core), heard)?;
         let heard = *heard;
@@ -386,7 +402,7 @@ impl Stay {
                 None => unreachable!(),
             };
         }
-        if self.window.has_passed() || self.has_gone_on(work) {
+        if self.window.has_passed() || self.has_gone_on(work) || !self.may_call() {
             self.doing = Doing::Leaves;
             return Some(Leave::Passed);
         }
@@ -404,14 +420,34 @@ impl Stay {
         }
     }
 
+    // Whether the call that the core has due may be made: it writes only where the host's number is surely the epoch's. It cannot be otherwise, since it attaches, syncs and reads before it
+    // writes.
+    fn may_call(&self) -> bool
+        requires busy { is_idle self.now.core ≡ false }
+        requires works { IsWorking self.now.core }
+        requires host { self.now.core.learner.host < HOSTS }
+        requires few { self.now.core.learner.shape.disks ≤ DISKS }
+        ensures ready { IsTrue result → (c : Shape) (h : ℕ) (m : Memory) → cores.LeadsTo c h m self.now.core → IsReadyFor c h m self.now.window }
+    {
+        let due = wanted(&self.core);
+        match &due.call {
+            DeviceCall::Write { boot, .. } => self.window.is_sure(due.disk, *boot),
+            DeviceCall::Attach => true,
+            DeviceCall::Read { .. } => true,
+            DeviceCall::Sync { .. } => true,
+        }
+    }
+
     // The core has ended what it did.
+    #[tactic(auto, using(crate::proofs::Leading::stays_as))]
     fn ended(&mut self, work: Work, said: HostAnswer) -> Option<Leave>
         requires sound { IsSound self.old }
         requires rests { self.old.doing ≡ Doing.Nothing }
         requires told { IsAnswer self.old.config (learned_of self.old) (Some said) }
         ensures sound { IsSound self.new }
-        ensures left { IsSoLeft result self.new.doing }
+        ensures left { IsSoLeft result self.new }
         ensures same { IsSame self.old self.new }
+        ensures leads { GoesOnIn self.old self.new }
     {
         match said {
             HostAnswer::Refused(refusal) => self.refused(work, refusal),
@@ -433,16 +469,18 @@ impl Stay {
     }
 
     // The core was refused.
+    #[tactic(auto, using(crate::proofs::Leading::stays_as))]
     fn refused(&mut self, work: Work, refusal: Refusal) -> Option<Leave>
         requires sound { IsSound self.old }
         requires rests { self.old.doing ≡ Doing.Nothing }
         ensures sound { IsSound self.new }
-        ensures left { IsSoLeft result self.new.doing }
+        ensures left { IsSoLeft result self.new }
         ensures same { IsSame self.old self.new }
+        ensures leads { GoesOnIn self.old self.new }
     {
         if self.window.has_passed() {
             Some(Leave::Passed)
-        } else if refusal == Refusal::LogFull {
+        } else if refusal == Refusal::LogFull && self.is_full() {
             Some(Leave::Full)
         } else if work == Work::Marks {
             // A mark only spares others an attempt.
@@ -453,12 +491,14 @@ impl Stay {
     }
 
     // A look has ended.
+    #[tactic(auto, using(crate::proofs::Leading::stays_as))]
     fn looked(&mut self, said: HostAnswer) -> Option<Leave>
         requires sound { IsSound self.old }
         requires rests { self.old.doing ≡ Doing.Nothing }
         ensures sound { IsSound self.new }
-        ensures left { IsSoLeft result self.new.doing }
+        ensures left { IsSoLeft result self.new }
         ensures same { IsSame self.old self.new }
+        ensures leads { GoesOnIn self.old self.new }
     {
         if self.is_full() {
             return Some(Leave::Full);
@@ -476,12 +516,14 @@ impl Stay {
     }
 
     // A recovery has ended.
+    #[tactic(auto, using(crate::proofs::Leading::stays_as))]
     fn recovered(&mut self, said: HostAnswer) -> Option<Leave>
         requires sound { IsSound self.old }
         requires rests { self.old.doing ≡ Doing.Nothing }
         ensures sound { IsSound self.new }
-        ensures left { IsSoLeft result self.new.doing }
+        ensures left { IsSoLeft result self.new }
         ensures same { IsSame self.old self.new }
+        ensures leads { GoesOnIn self.old self.new }
     {
         if self.is_full() {
             return Some(Leave::Full);
@@ -501,14 +543,16 @@ impl Stay {
     }
 
     // The table is whole. What showed it may have been the task.
+    #[tactic(auto, using(crate::proofs::Leading::stays_as))]
     fn go_on(&mut self, said: HostAnswer, was_task: bool) -> Option<Leave>
         requires sound { IsSound self.old }
         requires rests { self.old.doing ≡ Doing.Nothing }
         requires whole { Stands self.old.over self.old.core.prefix }
         requires room { learned_of self.old < self.old.config.slots }
         ensures sound { IsSound self.new }
-        ensures left { IsSoLeft result self.new.doing }
+        ensures left { IsSoLeft result self.new }
         ensures same { IsSame self.old self.new }
+        ensures leads { GoesOnIn self.old self.new }
     {
         if was_task {
             return Some(Leave::Answered(said));
@@ -519,12 +563,14 @@ impl Stay {
     }
 
     // Submits what is due in the next slot, while there is something, and then carries the task out.
+    #[tactic(auto, using(crate::proofs::Leading::stays_as))]
     fn carry(&mut self) -> Option<Leave>
         requires sound { IsSound self.old }
         requires rests { self.old.doing ≡ Doing.Nothing }
         ensures sound { IsSound self.new }
-        ensures left { IsSoLeft result self.new.doing }
+        ensures left { IsSoLeft result self.new }
         ensures same { IsSame self.old self.new }
+        ensures leads { GoesOnIn self.old self.new }
     {
         if self.is_full() {
             return Some(Leave::Full);
@@ -554,6 +600,7 @@ impl Stay {
         ensures sound { IsSound self.new }
         ensures busy { IsBusy self.new.doing }
         ensures same { IsSame self.old self.new }
+        ensures leads { GoesOnIn self.old self.new }
     {
         self.core.submit(command, self.tries);
         self.doing = Doing::Works(Work::Carries { slot });
@@ -567,6 +614,7 @@ impl Stay {
         ensures sound { IsSound self.new }
         ensures busy { IsBusy self.new.doing }
         ensures same { IsSame self.old self.new }
+        ensures leads { GoesOnIn self.old self.new }
     {
         self.core.mark(slot);
         self.doing = Doing::Works(Work::Marks);
@@ -580,6 +628,7 @@ fn wanted(core: &HostCore) -> Need<'_>
     requires host { core.now.learner.host < HOSTS }
     requires few { core.now.learner.shape.disks ≤ DISKS }
     ensures due { call_of_need cluster_version result ≡ cores.due_call core.now }
+    ensures next { (c : Shape) (h : ℕ) (m : Memory) → cores.LeadsTo c h m core.now → next_in c h m ≡ Some (cores.due_call core.now) }
     ensures disk { result.disk < core.now.learner.shape.disks }
     ensures few { result.disk < DISKS }
     ensures own { IsOwn (image_length cluster_version core.now.learner.shape.slots) core.now.learner.host (device_call_of cluster_version result.call) }

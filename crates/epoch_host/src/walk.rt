@@ -1,16 +1,18 @@
 // A host on its way through the epochs.
-ghost use Rattle.std.specs.Prelude.{◌≡◌, ◌≤◌, ◌<◌, Some, None, IfSome, IsSome, OnOk, if◌then◌else◌};
+ghost use Rattle.std.specs.Prelude.{[], ◌≡◌, ◌≤◌, ◌<◌, Some, None, IfSome, IsSome, OnOk, if◌then◌else◌};
 ghost use Rattle.torn_block.specs.Layout.{cluster_version};
 ghost use Rattle.attempt.specs.Heard.{Fits};
-ghost use Rattle.attempt.specs.DeviceCalls.{IsWithin, call_of_need, heard_of};
+ghost use Rattle.attempt.specs.DeviceCalls.{IsWithin, call_of_need, device_answer, heard_of};
 ghost use Rattle.standings.specs.Epochs.{whole_length};
 ghost use Rattle.epoch_host.specs.declared.place.TheConstants.{EPOCHS};
+ghost use Rattle.epoch_host.specs.Leading.{CarriesOver, Enters, LeadsTo, WalksBy, WalksOn};
 ghost use Rattle.epoch_host.specs.Staying.{IsSoLeft};
 ghost use Rattle.epoch_host.specs.Submitting.{IsAsked};
-ghost use Rattle.epoch_host.specs.Walking.{HasFew, IsResting, IsSame, IsSound, IsStaying, MayBegin, call_due, image_of};
+ghost use Rattle.epoch_host.specs.Walking.{HasEnded, HasFew, IsResting, IsSame, IsSound, IsStaying, MayBegin, call_due, image_of};
 ghost use Rattle.epoch_host.specs.Working.{GivesTries, HasRoom, IsSpelled};
 
 use crate::answer::EpochAnswer;
+use crate::carried::carried_over;
 use crate::over::Over;
 use crate::place::{EPOCHS, place_of, slot_in};
 use crate::stay::{Arrival, Doing, Errand, Leave, Stay};
@@ -56,6 +58,7 @@ impl Walk {
         ensures sound { IsSound result }
         ensures idle { result.task ≡ None }
         ensures of { (result.host ≡ host) × (result.config ≡ config) }
+        ensures leads { LeadsTo config host [] result }
     {
         Walk {
             alloc,
@@ -86,6 +89,7 @@ impl Walk {
         requires may { MayBegin self.old.host task }
         ensures sound { IsSound self.new }
         ensures same { IsSame self.old self.new }
+        ensures leads { WalksOn self.old self.new }
     {
         let task = &task;
         self.task = Some(*task);
@@ -117,10 +121,27 @@ impl Walk {
         requires fits { Fits (call_due self.old).1 (heard_of cluster_version heard.now) }
         ensures sound { IsSound self.new }
         ensures same { IsSame self.old self.new }
+        ensures makes { WalksBy self.old self.new (call_due self.old) (device_answer heard.now) }
     {
-        let went = match &mut self.is {
-            Whereabouts::Nowhere => Ok(()),
+        let went = self.take(heard);
+        self.settle(went)
+    }
+
+    // Hears the answer where the host is.
+    fn take(&mut self, heard: &Heard<'_>) -> Result<(), NoMemory>
+        requires sound { IsSound self.old }
+        requires busy { IsSome self.old.task }
+        requires fits { Fits (call_due self.old).1 (heard_of cluster_version heard.now) }
+        ensures few { HasFew self.new }
+        ensures sound { OnOk result (IsSound self.new) }
+        ensures same { IsSame self.old self.new }
+        ensures makes { WalksBy self.old self.new (call_due self.old) (device_answer heard.now) }
+    {
+        match &mut self.is {
+            Whereabouts::Nowhere => unreachable!(),
             Whereabouts::Finds(finding) => {
+                // Called for its contract only: the call is on a disk of the cluster.
+                let _due = finding.call();
                 finding.hear(heard);
                 match finding.end() {
                     None => Ok(()),
@@ -131,8 +152,7 @@ impl Walk {
                 None => Ok(()),
                 Some(leave) => self.take_leave(leave),
             },
-        };
-        self.settle(went)
+        }
     }
 
     // Where memory was refused the host is nowhere, and has no task.
@@ -141,6 +161,7 @@ impl Walk {
         requires sound { OnOk went (IsSound self.old) }
         ensures sound { IsSound self.new }
         ensures same { IsSame self.old self.new }
+        ensures leads { WalksOn self.old self.new }
     {
         if went.is_err() {
             self.is = Whereabouts::Nowhere;
@@ -157,6 +178,7 @@ impl Walk {
         requires rests { IsResting self.old self.old.is }
         ensures sound { OnOk result (IsSound self.new) }
         ensures same { IsSame self.old self.new }
+        ensures leads { WalksOn self.old self.new }
     {
         let Whereabouts::In(stay) = &mut self.is else {
             self.find();
@@ -178,6 +200,7 @@ impl Walk {
         requires task { (task : _) × (self.old.task ≡ Some task) × MayBegin self.old.host task }
         ensures sound { IsSound self.new }
         ensures same { IsSame self.old self.new }
+        ensures leads { WalksOn self.old self.new }
     {
         self.is = Whereabouts::Nowhere;
         if let Some(EpochTask::Mark { .. }) = self.task {
@@ -192,6 +215,7 @@ impl Walk {
         ensures is { self.new.is ≡ self.old.is }
         ensures task { self.new.task ≡ (if result then self.old.task else None) }
         ensures same { IsSame self.old self.new }
+        ensures leads { WalksOn self.old self.new }
     {
         if self.moves < MOVES {
             self.moves += 1;
@@ -206,23 +230,20 @@ impl Walk {
     fn take_found(&mut self, found: Found) -> Result<(), NoMemory>
         requires few { HasFew self.old }
         requires task { (task : _) × (self.old.task ≡ Some task) × MayBegin self.old.host task }
+        requires finds { (search : _) × (self.old.is ≡ Whereabouts.Finds search) × HasEnded search found }
         ensures sound { OnOk result (IsSound self.new) }
         ensures same { IsSame self.old self.new }
+        ensures leads { WalksOn self.old self.new }
     {
         self.is = Whereabouts::Nowhere;
         let Found::Newest { order, .. } = found else {
             self.refuse(Refusal::NoMajority);
             return Ok(());
         };
-        let over = if order == 0 {
-            Over::Known(Vec::new(self.alloc))
-        } else {
-            Over::Unknown
-        };
         self.enter(Arrival {
             epoch: order,
             errand: Errand::Works,
-            over,
+            over: over_at_first(self.alloc, order),
         })
     }
 
@@ -230,9 +251,10 @@ impl Walk {
     fn take_leave(&mut self, leave: Leave) -> Result<(), NoMemory>
         requires few { HasFew self.old }
         requires task { (task : _) × (self.old.task ≡ Some task) × MayBegin self.old.host task }
-        requires stays { (stay : _) × (self.old.is ≡ Whereabouts.In stay) × IsStaying self.old stay × IsSoLeft (Some leave) stay.doing }
+        requires stays { (stay : _) × (self.old.is ≡ Whereabouts.In stay) × IsStaying self.old stay × IsSoLeft (Some leave) stay }
         ensures sound { OnOk result (IsSound self.new) }
         ensures same { IsSame self.old self.new }
+        ensures leads { WalksOn self.old self.new }
     {
         match leave {
             Leave::Answered(said) => {
@@ -254,19 +276,28 @@ impl Walk {
         requires rests { IsResting self.old self.old.is }
         ensures sound { IsSound self.new }
         ensures same { IsSame self.old self.new }
+        ensures leads { WalksOn self.old self.new }
     {
-        let epoch = match &self.is {
+        self.said = Some(answer_in(self.config, self.epoch(), said));
+        self.task = None;
+    }
+
+    // The epoch where the host is.
+    fn epoch(&self) -> u64
+        requires rests { IsResting self.now self.now.is }
+        ensures { result ≤ EPOCHS }
+    {
+        match &self.is {
             Whereabouts::In(stay) => stay.epoch,
             Whereabouts::Nowhere | Whereabouts::Finds(_) => 0,
-        };
-        self.said = Some(answer_in(self.config, epoch, said));
-        self.task = None;
+        }
     }
 
     fn refuse(&mut self, refusal: Refusal)
         ensures is { self.new.is ≡ self.old.is }
         ensures idle { self.new.task ≡ None }
         ensures same { IsSame self.old self.new }
+        ensures leads { WalksOn self.old self.new }
     {
         self.said = Some(EpochAnswer::Refused(refusal));
         self.task = None;
@@ -276,17 +307,16 @@ impl Walk {
     fn go_on(&mut self) -> Result<(), NoMemory>
         requires few { HasFew self.old }
         requires task { (task : _) × (self.old.task ≡ Some task) × MayBegin self.old.host task }
-        requires stays { (stay : _) × (self.old.is ≡ Whereabouts.In stay) × IsStaying self.old stay × (stay.doing ≡ Doing.Nothing) }
+        requires stays { (stay : _) × (self.old.is ≡ Whereabouts.In stay) × IsStaying self.old stay × IsSoLeft (Some Leave.Full) stay }
         ensures sound { OnOk result (IsSound self.new) }
         ensures same { IsSame self.old self.new }
+        ensures leads { WalksOn self.old self.new }
     {
         let Whereabouts::In(stay) = &self.is else {
             unreachable!()
         };
         let epoch = stay.epoch + 1;
-        let Ok(over) = stay.core.table().carried_over(self.alloc, &[]) else {
-            return Err(NoMemory);
-        };
+        let over = carried_over(self.alloc, stay.core.table())?;
         if usize::from(self.config.slots()) <= over.len() {
             // There would be no slot for anything else.
             self.refuse(Refusal::LogFull);
@@ -306,6 +336,7 @@ impl Walk {
         requires stays { (stay : _) × (self.old.is ≡ Whereabouts.In stay) × IsStaying self.old stay × (stay.doing ≡ Doing.Nothing) }
         ensures sound { OnOk result (IsSound self.new) }
         ensures same { IsSame self.old self.new }
+        ensures leads { WalksOn self.old self.new }
     {
         let Whereabouts::In(stay) = &self.is else {
             unreachable!()
@@ -325,6 +356,7 @@ impl Walk {
         requires rests { IsResting self.old self.old.is }
         ensures sound { OnOk result (IsSound self.new) }
         ensures same { IsSame self.old self.new }
+        ensures enters { Enters arrival self.old self.new }
     {
         let Some(own) = self.own_task() else {
             self.refuse(Refusal::NotLearned);
@@ -346,7 +378,7 @@ impl Walk {
     // The task under way, where it is the same in every epoch.
     fn own_task(&self) -> Option<Task>
         requires task { (task : _) × (self.now.task ≡ Some task) × MayBegin self.now.host task }
-        ensures given { IfSome result (λ own. GivesTries own × IsAsked own × IsSpelled own) }
+        ensures given { IfSome result (λ own. GivesTries own × IsAsked self.now.host own × IsSpelled own) }
         ensures room { IfSome result (λ own. (slots : _) → 1 ≤ slots → HasRoom own 0 slots) }
     {
         match &self.task {
@@ -356,10 +388,21 @@ impl Walk {
     }
 }
 
+// What carries the table over into an epoch that was found. Into the first one nothing does.
+fn over_at_first(alloc: Global, epoch: u64) -> Over
+    ensures { (c : _) (h : _) (deeds : _) → CarriesOver c h epoch deeds result }
+{
+    if epoch == 0 {
+        Over::Known(Vec::new(alloc))
+    } else {
+        Over::Unknown
+    }
+}
+
 // A task as it is in an epoch. None for the mark of a place that is not there.
 fn task_in(config: Config, epoch: u64, task: &EpochTask) -> Option<Task>
     requires { epoch ≤ EPOCHS }
-    ensures given { IfSome result (λ own. (h : _) → MayBegin h task.now → GivesTries own × IsAsked own × IsSpelled own) }
+    ensures given { IfSome result (λ own. (h : _) → MayBegin h task.now → GivesTries own × IsAsked h own × IsSpelled own) }
     ensures slot { IfSome result (λ own. (slot : _) → own ≡ Task.Mark slot → slot < config.slots) }
 {
     match task {
@@ -373,7 +416,7 @@ fn task_in(config: Config, epoch: u64, task: &EpochTask) -> Option<Task>
 // A task that is the same in every epoch. None for a marking.
 #[tactic(auto, using(crate::proofs::Spelling::reads_back))]
 fn apart_from_marks(task: &EpochTask) -> Option<Task>
-    ensures given { IfSome result (λ own. (h : _) → MayBegin h task.now → GivesTries own × IsAsked own × IsSpelled own) }
+    ensures given { IfSome result (λ own. (h : _) → MayBegin h task.now → GivesTries own × IsAsked h own × IsSpelled own) }
     ensures room { IfSome result (λ own. (slots : _) → 1 ≤ slots → HasRoom own 0 slots) }
 {
     match task {

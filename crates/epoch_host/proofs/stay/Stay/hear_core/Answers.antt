@@ -1,11 +1,22 @@
-use Rattle.std.proofs.Common.{◌≡◌, Some, sym, ◌∙◌, subst}
-use Rattle.attempt.specs.DeviceCalls.{device_answer}
-use Rattle.host.specs.declared.answer.HostAnswer.{HostAnswer}
+use Rattle.std.specs.Prelude.{is_some}
+use Rattle.std.proofs.Common.{◌<◌, Option, ap, sym, ◌∙◌, subst}
+use Rattle.attempt.specs.DeviceCalls.{device_answer, device_call_of}
+use Rattle.torn_block.specs.Layout.{cluster_version}
+use Rattle.paxos_block.specs.Shape.{Shape}
+use Rattle.standings.specs.Past.{made}
+use Rattle.window.specs.declared.outcome.Outcome.{Outcome}
+use Rattle.window.proofs.Calling.{may_want}
+use Rattle.epoch_deeds.specs.Deeds.{Deeds}
+use Rattle.epoch_host.specs.declared.stay.Doing.TheVariants.{Nothing}
+use Rattle.epoch_host.specs.Leading.{LeadsToStay, MakesAndGoesOn}
+use Rattle.epoch_host.specs.Staying.{call_due}
+use Rattle.epoch_host.proofs.Going.{makes_then}
+use Rattle.epoch_host.proofs.Hearing.{leads_by, leaves_led, own_here, rests_led, waits_led, works_led}
 use Rattle.host.specs.Kept.{due_call}
 use Rattle.epoch_host.specs.declared.stay.Doing.{Doing}
 use Rattle.epoch_host.specs.Staying.{IsSound}
 use Rattle.epoch_host.specs.Working.{IsAnswer}
-use Rattle.epoch_host.proofs.Staying.{few_heard, heard_answer, heard_leaves, heard_rests, heard_silent, heard_works, waits_sound}
+use Rattle.epoch_host.proofs.Staying.{few_heard, heard_answer, heard_leaves, heard_rests, heard_silent, heard_working, heard_works, waits_sound}
 use Rattle.epoch_host.proofs.stay.Stay.hear_core.Goals as goal
 
 pub returns-in_err-outcome-clause-sound : goal.returns-in_err-outcome-clause-sound
@@ -42,3 +53,57 @@ returns-clause-sound c =
     subst (λ (doing : Doing). IsSound (record c.args.self.now { window = c.hear.new.self; core = c.hear-2.new.self; doing = doing })) (sym c.requires.works)
     (heard_works c.args.self.now c.args.work c.hear.new.self c.hear-2.new.self c.requires.sound c.requires.works c.hear.ensures.same (due_call c.args.self.now.core).0 (device_answer c.answer-told.result)
     c.hear-2.ensures.leads c.is_whole.ensures (sym c.idle.ensures.idle ∙ c.if-idle.false) (c.has_gone_on.ensures.stays c.if-has_gone_on.false))
+
+-- WHAT IT DOES
+
+pub returns-in_err-outcome-clause-makes : goal.returns-in_err-outcome-clause-makes
+returns-in_err-outcome-clause-makes c k h deeds led =
+    let s = c.args.self.now in
+    let need = c.wanted.result in
+    waits_led k h deeds s led c.requires.sound c.args.work c.requires.works need.disk (device_call_of cluster_version need.call) c.wanted.ensures.due (device_answer c.args.heard.now)
+    c.hear.new.self c.hear.ensures.follows (c.hear.ensures.last (ap (λ (o : Option Outcome). is_some o) c.in_err-outcome.was))
+    (subst (λ (x : Shape). need.disk < x.disks) c.requires.sound.shape c.wanted.ensures.disk) (c.wanted.ensures.next k h)
+
+pub returns-then-idle-clause-makes : goal.returns-then-idle-clause-makes
+returns-then-idle-clause-makes c k h deeds led =
+    let s = c.args.self.now in
+    let need = c.wanted.result in
+    let answer = device_answer c.args.heard.now in
+    let call = device_call_of cluster_version need.call in
+    makes_then k h deeds (λ (after : Deeds). LeadsToStay k h after (record s { window = c.hear.new.self; core = c.hear-2.new.self; doing = Nothing })) (call_due s).0 (made (call_due s).1 answer) (λ (after : Deeds). LeadsToStay k h after c.ended.new.self)
+    (rests_led k h deeds s led c.requires.sound c.args.work c.requires.works need.disk call c.wanted.ensures.due answer
+    c.hear.new.self c.in_ok-outcome.outcome c.hear.result c.in_ok-outcome.was c.hear.ensures.follows c.hear.ensures.answered c.hear.ensures.cause c.hear.ensures.at_once c.hear.ensures.rests
+    (may_want s.window need.disk need.call (own_here s call c.requires.sound c.wanted.ensures.own)) (c.wanted.ensures.next k h)
+    c.hear-2.new.self (leads_by s.core c.hear-2.new.self need.disk call c.wanted.ensures.due (device_answer c.answer-told.result) _ c.answer-told.ensures.device c.hear-2.ensures.leads))
+    (λ after led. c.ended.ensures.leads k h after led)
+
+pub returns-then-has_passed-clause-makes : goal.returns-then-has_passed-clause-makes
+returns-then-has_passed-clause-makes c k h deeds led =
+    let s = c.args.self.now in
+    let need = c.wanted.result in
+    let answer = device_answer c.args.heard.now in
+    let call = device_call_of cluster_version need.call in
+    leaves_led k h deeds s led c.requires.sound c.args.work c.requires.works need.disk call c.wanted.ensures.due answer
+    c.hear.new.self c.in_ok-outcome.outcome c.hear.result c.in_ok-outcome.was c.hear.ensures.follows c.hear.ensures.answered c.hear.ensures.cause c.hear.ensures.at_once c.hear.ensures.rests
+    (may_want s.window need.disk need.call (own_here s call c.requires.sound c.wanted.ensures.own)) (c.wanted.ensures.next k h)
+    c.hear-2.new.self (leads_by s.core c.hear-2.new.self need.disk call c.wanted.ensures.due (device_answer c.answer-told.result) _ c.answer-told.ensures.device c.hear-2.ensures.leads)
+
+pub returns-clause-makes : goal.returns-clause-makes
+returns-clause-makes c k h deeds led =
+    let s = c.args.self.now in
+    let need = c.wanted.result in
+    let answer = device_answer c.args.heard.now in
+    let call = device_call_of cluster_version need.call in
+    subst (λ (doing : Doing). MakesAndGoesOn k h deeds (call_due s).0 (made (call_due s).1 answer) (λ after. LeadsToStay k h after (record s { window = c.hear.new.self; core = c.hear-2.new.self; doing = doing }))) (sym c.requires.works)
+    (works_led k h deeds s led c.requires.sound c.args.work c.requires.works need.disk call c.wanted.ensures.due answer
+    c.hear.new.self c.in_ok-outcome.outcome c.hear.result c.in_ok-outcome.was c.hear.ensures.follows c.hear.ensures.answered c.hear.ensures.cause c.hear.ensures.at_once c.hear.ensures.rests
+    (may_want s.window need.disk need.call (own_here s call c.requires.sound c.wanted.ensures.own)) (c.wanted.ensures.next k h)
+    c.hear-2.new.self (leads_by s.core c.hear-2.new.self need.disk call c.wanted.ensures.due (device_answer c.answer-told.result) _ c.answer-told.ensures.device c.hear-2.ensures.leads)
+    (c.has_gone_on.ensures.stays c.if-has_gone_on.false) (c.may_call.ensures.ready c.if-not-may_call.false))
+
+-- WHETHER IT MAY CALL
+
+pub may_call-requires-clause-works : goal.may_call-requires-clause-works
+may_call-requires-clause-works c =
+    heard_working c.args.self.now c.args.work c.hear.new.self c.hear-2.new.self c.requires.sound c.requires.works c.hear.ensures.same (due_call c.args.self.now.core).0 (device_answer c.answer-told.result)
+    c.hear-2.ensures.leads c.is_whole.ensures

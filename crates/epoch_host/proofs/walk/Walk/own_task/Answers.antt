@@ -1,7 +1,5 @@
-use Rattle.std.specs.Prelude.{IfSome}
-use Rattle.std.proofs.Common.{◌≡◌, Option, Some, sym, ◌∙◌, subst}
+use Rattle.std.proofs.Common.{◌≡◌, Some, sym, ◌∙◌, subst}
 use Rattle.host.specs.declared.task.Task.{Task}
-use Rattle.epoch_host.specs.declared.task.EpochTask.{EpochTask}
 use Rattle.epoch_host.specs.Submitting.{IsAsked}
 use Rattle.epoch_host.specs.Walking.{MayBegin}
 use Rattle.epoch_host.specs.Working.{GivesTries, IsSpelled}
@@ -14,5 +12,5 @@ returns-clause-given c =
     let host = c.args.self.now.host in
     let both : Some t.0 ≡ Some c.in-Some.task = sym t.1 ∙ c.in-Some.is in
     let same : t.0 ≡ c.in-Some.task = cc in
-    map_some (λ (own : Task). (h : _) → MayBegin h c.in-Some.task → GivesTries own × IsAsked own × IsSpelled own) (λ (own : Task). GivesTries own × IsAsked own × IsSpelled own) c.apart_from_marks.result
+    map_some (λ (own : Task). (h : _) → MayBegin h c.in-Some.task → GivesTries own × IsAsked h own × IsSpelled own) (λ (own : Task). GivesTries own × IsAsked host own × IsSpelled own) c.apart_from_marks.result
     (λ own given. given host (subst (MayBegin host) same t.2)) c.apart_from_marks.ensures.given

@@ -1,0 +1,9 @@
+use Rattle.std.proofs.Common.{◌≡◌, Some, subst}
+use Rattle.lock_command.specs.declared.command.Command.{Command}
+use Rattle.lock_command.specs.Command.{spelling}
+use Rattle.lock_command.specs.Reading.{decoded}
+use Rattle.epoch_host.proofs.Spelling.{reads_back}
+use Rattle.epoch_host.proofs.carried.lock_reads_back.Goals as goal
+
+pub returns : goal.returns
+returns c = subst (λ (command : Command). decoded (spelling command) ≡ Some command) c.carry_lock.ensures (reads_back c.carry_lock.result c.encode-bytes.ensures.fits)

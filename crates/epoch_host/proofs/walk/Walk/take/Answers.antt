@@ -1,0 +1,70 @@
+use Rattle.std.proofs.Common.{Option, refl, ◌∙◌, sym, subst}
+use Rattle.torn_block.specs.Layout.{cluster_version}
+use Rattle.attempt.specs.DeviceCalls.{call_of_need, device_answer}
+use Rattle.coming.specs.Finding as finding
+use Rattle.epoch_host.specs.declared.stay.Leave.{Leave}
+use Rattle.epoch_host.specs.declared.walk.Whereabouts.TheVariants.{Finds, In}
+use Rattle.epoch_host.specs.Staying as stay
+use Rattle.epoch_host.specs.Staying.{IsSoLeft}
+use Rattle.epoch_host.specs.Walking.{IsFinding, IsGoing, due_in}
+use Rattle.epoch_host.specs.declared.walk.Whereabouts.{Whereabouts}
+use Rattle.epoch_host.specs.Leading.{WalksBy}
+use Rattle.epoch_host.proofs.Moving.{asks_within, looks, makes_in, walks_by_then}
+use Rattle.epoch_host.proofs.Walking.{is_under_way}
+use Rattle.epoch_host.proofs.walk.Walk.take.Goals as goal
+
+pub unreachable-requires : goal.unreachable-requires
+unreachable-requires c = subst (IsGoing c.args.self.now) c.in-Nowhere.is (is_under_way c.args.self.now c.requires.sound c.requires.busy).going
+
+pub take_found-requires-clause-task : goal.take_found-requires-clause-task
+take_found-requires-clause-task c = let under = is_under_way c.args.self.now c.requires.sound c.requires.busy in (under.task, under.is, under.may)
+
+pub take_found-requires-clause-finds : goal.take_found-requires-clause-finds
+take_found-requires-clause-finds c = (c.hear.new.self, refl, record { is = sym c.end.ensures.told ∙ c.in-Some.is; so = c.in-Some.ensures.so })
+
+pub take_leave-requires-clause-task : goal.take_leave-requires-clause-task
+take_leave-requires-clause-task c = let under = is_under_way c.args.self.now c.requires.sound c.requires.busy in (under.task, under.is, under.may)
+
+pub take_leave-requires-clause-stays : goal.take_leave-requires-clause-stays
+take_leave-requires-clause-stays c =
+    let under = is_under_way c.args.self.now c.requires.sound c.requires.busy in
+    let stays = (subst (IsGoing c.args.self.now) c.in-In.is under.going).0 in (
+      c.hear-in-In.new.self,
+      refl,
+      record { sound = c.hear-in-In.ensures.sound; host = c.hear-in-In.ensures.same.host ∙ stays.host; config = c.hear-in-In.ensures.same.config ∙ stays.config },
+      subst (λ (o : Option Leave). IsSoLeft o c.hear-in-In.new.self) c.in-Some-hear.is c.hear-in-In.ensures.left,
+    )
+
+pub returns-in-None-clause-makes : goal.returns-in-None-clause-makes
+returns-in-None-clause-makes c =
+    let old = c.args.self.now in
+    let search = c.in-Finds.finding in
+    let going : IsFinding old search = subst (IsGoing old) c.in-Finds.is (is_under_way old c.requires.sound c.requires.busy).going in
+    subst (λ (place : Whereabouts). WalksBy old (record old { is = Finds c.hear.new.self }) (due_in place) (device_answer c.args.heard.now)) (sym c.in-Finds.is)
+    (looks old (record old { is = Finds c.hear.new.self }) search c.hear.new.self (device_answer c.args.heard.now) c.in-Finds.is refl refl refl
+    (asks_within search (call_of_need cluster_version c.call-due.result) old.config.disks c.call-due.ensures.due c.call-due.ensures.disk going.disks) c.hear.ensures.knows)
+
+pub returns-in-Some-clause-makes : goal.returns-in-Some-clause-makes
+returns-in-Some-clause-makes c =
+    let old = c.args.self.now in
+    let search = c.in-Finds.finding in
+    let between = record old { is = Finds c.hear.new.self } in
+    let going : IsFinding old search = subst (IsGoing old) c.in-Finds.is (is_under_way old c.requires.sound c.requires.busy).going in
+    subst (λ (place : Whereabouts). WalksBy old c.take_found.new.self (due_in place) (device_answer c.args.heard.now)) (sym c.in-Finds.is)
+    (walks_by_then old between c.take_found.new.self (finding.call_due search) (device_answer c.args.heard.now)
+    (looks old between search c.hear.new.self (device_answer c.args.heard.now) c.in-Finds.is refl refl refl
+    (asks_within search (call_of_need cluster_version c.call-due.result) old.config.disks c.call-due.ensures.due c.call-due.ensures.disk going.disks) c.hear.ensures.knows) c.take_found.ensures.leads)
+
+pub returns-in-None-hear-clause-makes : goal.returns-in-None-hear-clause-makes
+returns-in-None-hear-clause-makes c =
+    let old = c.args.self.now in
+    subst (λ (place : Whereabouts). WalksBy old (record old { is = In c.hear-in-In.new.self }) (due_in place) (device_answer c.args.heard.now)) (sym c.in-In.is)
+    (makes_in old (record old { is = In c.hear-in-In.new.self }) c.in-In.stay c.hear-in-In.new.self (stay.call_due c.in-In.stay) (device_answer c.args.heard.now) refl refl c.in-In.is refl c.hear-in-In.ensures.makes)
+
+pub returns-in-Some-hear-clause-makes : goal.returns-in-Some-hear-clause-makes
+returns-in-Some-hear-clause-makes c =
+    let old = c.args.self.now in
+    let between = record old { is = In c.hear-in-In.new.self } in
+    subst (λ (place : Whereabouts). WalksBy old c.take_leave.new.self (due_in place) (device_answer c.args.heard.now)) (sym c.in-In.is)
+    (walks_by_then old between c.take_leave.new.self (stay.call_due c.in-In.stay) (device_answer c.args.heard.now)
+    (makes_in old between c.in-In.stay c.hear-in-In.new.self (stay.call_due c.in-In.stay) (device_answer c.args.heard.now) refl refl c.in-In.is refl c.hear-in-In.ensures.makes) c.take_leave.ensures.leads)
