@@ -1,19 +1,17 @@
 -- Over shared disks each epoch is a run, but for the bytes that faults left: these are put in their place in all that is done.
-use Rattle.std.specs.Prelude.{map, take, slice_get, option_map}
-use Rattle.std.proofs.Common.{ℕ, zero, suc, ◌≡◌, ◌==◌, Bool, true, false, cond, Option, Some, None, List, [], ◌∷◌, length, refl, sym, ◌∙◌, ap, ap₂, subst, inl, inr}
-use Rattle.std.proofs.lemmas.Bool.{cases_Bool, eqb-true}
+use Rattle.std.specs.Prelude.{map, slice_get}
+use Rattle.std.proofs.Common.{ℕ, zero, suc, ◌≡◌, ◌==◌, Bool, true, false, cond, List, [], ◌∷◌, length, refl, sym, ◌∙◌, ap, ap₂, subst}
+use Rattle.std.proofs.lemmas.Bool.{eqb-true}
 use Rattle.lock_command.specs.declared.command.Command.{Command}
 use Rattle.lock_table.specs.Apply.{table_after}
 use Rattle.lock_table.specs.Picture.{IsPictureOf}
 use Rattle.paxos_block.specs.Shape.{Shape}
-use Rattle.host.specs.Host.{Attempt, Doing, Attempts, Looks, Beats, Marks, Memory, Host, Stopped, Running, learned_of}
-use Rattle.world.specs.Entry.{Filled, Start, Stop, Begin, Called, Torn, Crashed, Lost, Migrated, is_of, of_host, host_step, host_after}
+use Rattle.host.specs.Host.{Memory, Stopped}
+use Rattle.world.specs.Entry.{Filled, Start, Stop, Begin, Called, Torn, Crashed, Lost, Migrated}
 use Rattle.world.specs.World.{IsRun}
 use Rattle.world.specs.Chosen.{at, migrated}
-use Rattle.at_once.specs.AtOnce.{IsDeed, AreDeeds, bare, IsRunOf}
+use Rattle.at_once.specs.AtOnce.{AreDeeds, bare, IsRunOf}
 use Rattle.at_once.specs.Power.{entry_later, losses_with, renumbered_from, renumbered}
-use Rattle.at_once.proofs.Losses.{of_same}
-use Rattle.at_once.proofs.RenumberedHosts.{attempt_later, doing_later, memory_later, host_later, step_later}
 use Rattle.epochs.specs.Acts.{Act}
 use Rattle.epochs.specs.OneLog.{IsSharedOverLosses}
 use Rattle.epochs.proofs.OneLog.{epochs_are_runs, epochs_are_over_losses}
@@ -21,6 +19,7 @@ use Rattle.endless.specs.Epochs.{IsCallAt}
 use Rattle.endless.specs.Headline.{learned_in, CarriesInto, IsDue, SubmitsWhatIsDue, KeepsToEpochs}
 use Rattle.endless.specs.Lived.{Lived, In, Crash, Loss, part, now, RunsIn, IsWholeBy}
 use Rattle.endless.specs.WithoutEnd.{host_by, IsRunWithoutEnd, SharedHaveOneLog, raised_from, raised, IsOverLossesWithoutEnd, SharedOverLossesHaveOneLog}
+use Rattle.endless.proofs.Alike.{IsLike, like_same, like_later, knows_later, call_before, deeds_later}
 use Rattle.endless.proofs.Headline.{endless_headline}
 use Rattle.endless.proofs.WithoutEnd.{none_migrated, same_call}
 
@@ -120,22 +119,6 @@ places_same e (suc i) (In epoch entry ∷ lived) runs =
 
 -- WHAT HOSTS KEEP TO
 
--- one host is as the other: stopped, or it has learned the same and submits the same
-record IsLike (one other : Host) : Type 0 where
-  learned : learned_of other ≡ learned_of one
-  runs : (m : Memory) → one ≡ Running m → (n : Memory) × (other ≡ Running n) × (n.learned ≡ m.learned)
-  ran : (n : Memory) → other ≡ Running n → (m : Memory) × (one ≡ Running m) × (m.learned ≡ n.learned)
-  does : (n : Memory) (t : Attempt) → other ≡ Running n → n.doing ≡ Some (Attempts t) → (m : Memory) × (d : Attempt) × (one ≡ Running m) × (m.learned ≡ n.learned) × (m.doing ≡ Some (Attempts d)) × (d.operation ≡ t.operation)
-
-like_same : (one other : Host) → other ≡ one → IsLike one other
-like_same one other same =
-    record {
-      learned = ap learned_of same;
-      runs = λ m is. (m, same ∙ is, refl);
-      ran = λ n is. (n, sym same ∙ is, refl);
-      does = λ n t is doing. (n, t, sym same ∙ is, refl, doing, refl);
-    }
-
 module _ (c : Shape) (lived filled : List Lived) (places : (e i : ℕ) → now e i filled ≡ now e i lived) (like : (e i h : ℕ) → IsLike ((at c (part e lived) i).host h) ((at c (part e filled) i).host h))
     (calls : (e i h : ℕ) → IsCallAt (part e filled) i h → IsCallAt (part e lived) i h) (keeps : KeepsToEpochs c lived) where
   like_at : (i e h : ℕ) → IsLike ((at c (part e lived) (now e i lived)).host h) ((at c (part e filled) (now e i filled)).host h)
@@ -159,7 +142,7 @@ module _ (c : Shape) (lived filled : List Lived) (places : (e i : ℕ) → now e
 
   carries_too : (e : ℕ) (over : List Command) → CarriesInto c filled e over → SubmitsWhatIsDue c (part e filled) over
   carries_too e over into i h memory doing command called running does submits =
-      let did = (like e i h).does memory doing running does in
+      let did = (like e i h).did memory doing running does in
       let due = keeps.carries e over (carries_back e over into) i h did.0 did.1 command (calls e i h called) did.2 did.4 (did.5 ∙ submits) in
       subst (λ (l : List Command). IsDue (slice_get over (length l)) command) did.3 due
 
@@ -207,99 +190,6 @@ pub shared_have_one_log : SharedHaveOneLog
 shared_have_one_log c size acts lived shared keeps = is_run_without_end c lived (epochs_are_runs c size acts (λ e. part e lived) shared) shared.deeds keeps
 
 -- OVER LOSSES OF POWER
-
--- a host that hears later boot numbers is as one that does not
-running_back : (losses : ℕ → ℕ) (host : Host) (n : Memory) → host_later losses host ≡ Running n → (m : Memory) × (host ≡ Running m) × (memory_later losses m ≡ n)
-running_back losses Stopped n is = absurd (cc)
-running_back losses (Running m) n is = (m, refl, (let same : memory_later losses m ≡ n = cc in same))
-
-doing_back : (losses : ℕ → ℕ) (o : Option Doing) (t : Attempt) → option_map (doing_later losses) o ≡ Some (Attempts t) → (d : Attempt) × (o ≡ Some (Attempts d)) × (d.operation ≡ t.operation)
-doing_back losses None t is = absurd (cc)
-doing_back losses (Some (Attempts d)) t is = let same : attempt_later losses d ≡ t = cc in (d, refl, ap (λ (x : Attempt). x.operation) same)
-doing_back losses (Some (Looks d)) t is = absurd (cc)
-doing_back losses (Some (Beats d)) t is = absurd (cc)
-doing_back losses (Some (Marks d)) t is = absurd (cc)
-
-learned_later : (losses : ℕ → ℕ) (host : Host) → learned_of (host_later losses host) ≡ learned_of host
-learned_later losses Stopped = refl
-learned_later losses (Running m) = refl
-
-like_later : (losses : ℕ → ℕ) (one other : Host) → other ≡ host_later losses one → IsLike one other
-like_later losses one other same =
-    record {
-      learned = ap learned_of same ∙ learned_later losses one;
-      runs = λ m is. (memory_later losses m, same ∙ ap (host_later losses) is, refl);
-      ran = λ n is. let back = running_back losses one n (sym same ∙ is) in (back.0, back.1, ap (λ (x : Memory). x.learned) back.2);
-      does = λ n t is doing.
-          let back = running_back losses one n (sym same ∙ is) in
-          let did = doing_back losses back.0.doing t (ap (λ (x : Memory). x.doing) back.2 ∙ doing) in
-          (back.0, did.0, back.1, ap (λ (x : Memory). x.learned) back.2, did.1, did.2);
-    }
-
--- at each place it knows what it would know, under later numbers, as a loss of power stops it
-module _ (c : Shape) (h : ℕ) where
-  abbrev IsDark : Host → List Filled → Type 0
-  IsDark host es = (i k : ℕ) (left : List ℕ) → slice_get es i ≡ Some (Crashed k left) → host_after c h host (of_host h (take i es)) ≡ Stopped
-
-  counted : (losses : ℕ → ℕ) (host : Host) (e : Filled) (es : List Filled) → IsDark host (e ∷ es) → host_later (losses_with losses e) host ≡ host_later losses host
-  counted losses host (Crashed d left) es dark = let stopped : host ≡ Stopped = dark 0 d left refl in ap (host_later (losses_with losses (Crashed d left))) stopped ∙ ap (host_later losses) (sym stopped)
-  counted losses host other es dark = refl
-
-  counted_own : (losses : ℕ → ℕ) (host : Host) (e : Filled) → is_of h e ≡ true → host_later (losses_with losses e) host ≡ host_later losses host
-  counted_own losses host (Crashed d left) own = absurd (cc)
-  counted_own losses host other own = refl
-
-  knows_later : (i : ℕ) (losses : ℕ → ℕ) (host : Host) (es : List Filled) → IsDark host es
-      → (at_last : ℕ → ℕ) × (host_after c h (host_later losses host) (of_host h (take i (renumbered_from losses es))) ≡ host_later at_last (host_after c h host (of_host h (take i es))))
-  knows_later zero losses host es dark = (losses, refl)
-  knows_later (suc i) losses host [] dark = (losses, refl)
-  knows_later (suc i) losses host (e ∷ es) dark =
-      let x = entry_later losses e in
-      let mine = of_host h (take i es) in
-      let rest = of_host h (take i (renumbered_from (losses_with losses e) es)) in
-      elim (cases_Bool (is_of h e)) [
-        | inl is ↦
-            (let later_on = knows_later i (losses_with losses e) (host_step c h host e) es (λ j k left found. ap (λ (b : Bool). host_after c h host (cond b (e ∷ of_host h (take j es)) (of_host h (take j es)))) (sym is) ∙ dark (suc j) k left found) in
-            let one : host_later (losses_with losses e) (host_step c h host e) ≡ host_step c h (host_later losses host) x = counted_own losses (host_step c h host e) e is ∙ sym (step_later losses c h host e) in (
-              later_on.0,
-              ap (λ (b : Bool). host_after c h (host_later losses host) (cond b (x ∷ rest) rest)) (of_same losses h e ∙ is)
-                  ∙ ap (λ (k : Host). host_after c h k rest) (sym one)
-                  ∙ later_on.1
-                  ∙ ap (λ (b : Bool). host_later later_on.0 (host_after c h host (cond b (e ∷ mine) mine))) (sym is),
-            ))
-        | inr is ↦
-            (let later_on = knows_later i (losses_with losses e) host es (λ j k left found. ap (λ (b : Bool). host_after c h host (cond b (e ∷ of_host h (take j es)) (of_host h (take j es)))) (sym is) ∙ dark (suc j) k left found) in (
-              later_on.0,
-              ap (λ (b : Bool). host_after c h (host_later losses host) (cond b (x ∷ rest) rest)) (of_same losses h e ∙ is)
-                  ∙ ap (λ (k : Host). host_after c h k rest) (sym (counted losses host e es dark))
-                  ∙ later_on.1
-                  ∙ ap (λ (b : Bool). host_later later_on.0 (host_after c h host (cond b (e ∷ mine) mine))) (sym is),
-            ))
-      ]
-
--- a call under a later number is a call
-call_before : (losses : ℕ → ℕ) (es : List Filled) (i h : ℕ) → IsCallAt (renumbered_from losses es) i h → IsCallAt es i h
-call_before losses [] i h called = absurd (let none = called.4 in cc)
-call_before losses (e ∷ es) (suc i) h called = call_before (losses_with losses e) es i h called
-call_before losses (Called g disk call answer left ∷ es) zero h called =
-    let some = called.4 in
-    let same : g ≡ h = cc in
-    (disk, call, answer, left, ap (λ (n : ℕ). Some (Called n disk call answer left)) same)
-call_before losses (Start g ∷ es) zero h called = absurd (let some = called.4 in cc)
-call_before losses (Stop g ∷ es) zero h called = absurd (let some = called.4 in cc)
-call_before losses (Begin g task ∷ es) zero h called = absurd (let some = called.4 in cc)
-call_before losses (Torn g disk call left ∷ es) zero h called = absurd (let some = called.4 in cc)
-call_before losses (Crashed disk left ∷ es) zero h called = absurd (let some = called.4 in cc)
-call_before losses (Lost disk ∷ es) zero h called = absurd (let some = called.4 in cc)
-call_before losses (Migrated disks log ∷ es) zero h called = absurd (let some = called.4 in cc)
-
-deed_later : (losses : ℕ → ℕ) (e : Filled) → IsDeed e → IsDeed (entry_later losses e)
-deed_later losses (Migrated disks commands) is = absurd is
-deed_later losses other is = tt
-
-deeds_later : (losses : ℕ → ℕ) (es : List Filled) → AreDeeds es → AreDeeds (renumbered_from losses es)
-deeds_later losses [] are = tt
-deeds_later losses (e ∷ es) are = (deed_later losses e are.0, deeds_later (losses_with losses e) es are.1)
 
 -- an entry of one epoch
 later_either : (epoch e : ℕ) (entry : Filled) (log rest : List Filled) (losses : ℕ → ℕ → ℕ) (b : Bool) → (epoch == e) ≡ b → rest ≡ renumbered_from (cond b (losses_with (losses e) entry) (losses e)) log

@@ -11,16 +11,16 @@ use Rattle.lock_table.specs.Picture.{IsPictureOf}
 use Rattle.lock_table.proofs.Unique.{one_shown}
 use Rattle.paxos_block.specs.Shape.{Shape}
 use Rattle.host.specs.Host.{Attempts, Memory, Running, learned_of}
+use Rattle.world.specs.Entry.{Filled}
 use Rattle.world.specs.Headline.{prefix_at}
 use Rattle.world_safety.proofs.Claims.Renewing.{full_logs_are_final}
-use Rattle.at_once.specs.AtOnce.{AreDeeds, IsRunOf}
 use Rattle.endless.specs.Headline.{learned_in, CarriesInto, SubmitsWhatIsDue}
 use Rattle.endless.specs.Headline as keeping
 use Rattle.endless.specs.Lived.{Lived, part, now}
+use Rattle.endless.proofs.Alike.{AreAsRuns}
 use Rattle.endless.proofs.Logs.{carried_by_not}
 use Rattle.endless.proofs.Other.{long_epochs_have_room}
-use Rattle.endless.proofs.WithoutEnd.{none_migrated, same_call}
-use Rattle.epoch_deeds.specs.Knowing.{HasLearned, HasClients, Carries, IsDue, MaySubmit, SubmitsBy}
+use Rattle.epoch_deeds.specs.Knowing.{HasLearned, Carries, IsDue, MaySubmit, SubmitsBy}
 use Rattle.epoch_deeds.specs.Knowing as knowing
 use Rattle.epoch_runs.specs.Living.{lived_of, place_of, deeds_from}
 use Rattle.epoch_runs.specs.Submitting.{SubmitsByKnowing, AllSubmitByKnowing}
@@ -53,12 +53,16 @@ module _ (crashing : Crashing) (c : Shape) (entries : List Entry) (goes : Goes c
 
   -- RUNS
 
-  module _ (of : (e : ℕ) → IsRunOf c (part e (lived_of c entries))) (deeds : (e : ℕ) → AreDeeds (part e (lived_of c entries))) where
+  -- where each epoch is as a run, also as one whose disks tell other boot numbers
+  module _ (as_runs : AreAsRuns c (lived_of c entries)) where
     abbrev lived : List Lived
     lived = lived_of c entries
 
-    learned_run : (e i h : ℕ) → prefix_at c (of e).run i h ≡ prefix_at c (part e lived) i h
-    learned_run e i h = ap learned_of ((of e).hosts i h)
+    abbrev run : ℕ → List Filled
+    run = as_runs.run
+
+    learned_run : (e i h : ℕ) → prefix_at c (run e) i h ≡ prefix_at c (part e lived) i h
+    learned_run e i h = (as_runs.like e i h).learned
 
     -- of an epoch that two have learned whole they have learned the same
     whole_same : (e i j g h : ℕ) → length (learned_in c lived i e g) ≡ c.slots → length (learned_in c lived j e h) ≡ c.slots → learned_in c lived i e g ≡ learned_in c lived j e h
@@ -66,7 +70,7 @@ module _ (crashing : Crashing) (c : Shape) (entries : List Entry) (goes : Goes c
         let first = learned_run e (now e i lived) g in
         let second = learned_run e (now e j lived) h in
         sym first
-        ∙ full_logs_are_final c (of e).run (of e).is (now e i lived) (now e j lived) g h (ap (λ (l : List Command). length l) first ∙ one) (ap (λ (l : List Command). length l) second ∙ two)
+        ∙ full_logs_are_final c (run e) (as_runs.is e) (now e i lived) (now e j lived) g h (ap (λ (l : List Command). length l) first ∙ one) (ap (λ (l : List Command). length l) second ∙ two)
         ∙ second
 
     over_same : (e : ℕ) (over other : List Command) → CarriesInto c lived e over → CarriesInto c lived e other → over ≡ other
@@ -93,22 +97,26 @@ module _ (crashing : Crashing) (c : Shape) (entries : List Entry) (goes : Goes c
         inl (subst (λ (l : List Command). keeping.IsDue (slice_get l (length learned)) command) (over_same e own over (carries_into j h e own carries) into) (due_same (slice_get own (length learned)) command due))
     by_knowing e over into j h learned command (inr clients) = inr clients
 
-    submits_so : (e : ℕ) (over : List Command) → CarriesInto c lived e over → AllSubmitByKnowing c (of e).run over
+    submits_so : (e : ℕ) (over : List Command) → CarriesInto c lived e over → AllSubmitByKnowing c (run e) over
     submits_so e over into i h memory doing command called running does operation =
-        let due = calls_are_due crashing c entries goes e i h (same_call (of e).run (part e lived) (of e).same i h called) in
-        let core : Running memory ≡ Running due.due.memory = sym running ∙ (of e).hosts i h ∙ due.same ∙ due.due.runs in
-        let same : memory ≡ due.due.memory = cc in
-        let doing_same : due.due.memory.doing ≡ Some (Attempts doing) = ap (λ (m : Memory). m.doing) (sym same) ∙ does in
-        let by : knowing.SubmitsWhatIsDue c h e (deeds_from no_deeds due.entry entries h) due.due.memory.learned (Some (Attempts doing)) =
+        let here = (as_runs.like e i h).did memory doing running does in
+        let due = calls_are_due crashing c entries goes e i h (as_runs.called e i h called) in
+        let core : Running here.0 ≡ Running due.due.memory = sym here.2 ∙ due.same ∙ due.due.runs in
+        let same : here.0 ≡ due.due.memory = cc in
+        let doing_same : due.due.memory.doing ≡ Some (Attempts here.1) = ap (λ (m : Memory). m.doing) (sym same) ∙ here.4 in
+        let by : knowing.SubmitsWhatIsDue c h e (deeds_from no_deeds due.entry entries h) due.due.memory.learned (Some (Attempts here.1)) =
         subst (knowing.SubmitsWhatIsDue c h e (deeds_from no_deeds due.entry entries h) due.due.memory.learned) doing_same due.due.submits in
-        let may : MaySubmit c h e (deeds_from no_deeds due.entry entries h) due.due.memory.learned command = subst (SubmitsBy c h e (deeds_from no_deeds due.entry entries h) due.due.memory.learned) operation by in
-        subst (λ (m : Memory). SubmitsByKnowing over m.learned command) (sym same) (by_knowing e over into due.entry h due.due.memory.learned command may)
+        let may : MaySubmit c h e (deeds_from no_deeds due.entry entries h) due.due.memory.learned command =
+        subst (SubmitsBy c h e (deeds_from no_deeds due.entry entries h) due.due.memory.learned) (here.5 ∙ operation) by in
+        subst (λ (l : List Command). SubmitsByKnowing over l command) (ap (λ (m : Memory). m.learned) (sym same) ∙ here.3) (by_knowing e over into due.entry h due.due.memory.learned command may)
 
     -- so each submits what is due
     pub carries_first : (e : ℕ) (over : List Command) → CarriesInto c lived e over → SubmitsWhatIsDue c (part e lived) over
     carries_first e over into i h memory doing command called running does operation =
-        what_is_due c (of e).run over (of e).is (none_migrated (of e).run (part e lived) (of e).same (deeds e)) (carried e over into) (submits_so e over into) i h memory doing command
-        (same_call (part e lived) (of e).run (sym (of e).same) i h called) ((of e).hosts i h ∙ running) does operation
+        let there = (as_runs.like e i h).does memory doing running does in
+        let due = what_is_due c (run e) over (as_runs.is e) (as_runs.fresh e) (carried e over into) (submits_so e over into) i h there.0 there.1 command
+        (as_runs.calls e i h called) there.2 there.4 (there.5 ∙ operation) in
+        subst (λ (l : List Command). keeping.IsDue (slice_get over (length l)) command) there.3 due
 
     pub has_room : LOCKS + CLIENTS ≤ c.slots → (e : ℕ) (over : List Command) → CarriesInto c lived e over → length over ≤ c.slots
     has_room long e over into = long_epochs_have_room c lived e over long into

@@ -16,6 +16,7 @@ use Rattle.epoch_deeds.specs.Deeds.{Deed, Deeds, Calls, CallsIn, Starts, Begins,
 use Rattle.epoch_deeds.specs.Knowing.{HasDue, MayBeGiven}
 use Rattle.epoch_runs.specs.World.{Entry, Does, Breaks, BreaksIn, Ends, Crashes, Loses, World, no_deeds, with_deeds, deeds_after, after, Crashing, MayFollow, GoesFrom, Goes}
 use Rattle.epoch_runs.specs.World as worlds
+use Rattle.epoch_runs.specs.Laws.{TasksAreTheSame}
 use Rattle.epoch_runs.specs.Living.{is_row, Showing, showing_by, showing_next, shows_row, below, stops_below, has_stopped, others_stop, lived_at, lived_from, lived_of, shown_to, core_now}
 use Rattle.epoch_runs.proofs.Lists.{of_host_both, does_both, core_more, deeds_here, same_self}
 use Rattle.epoch_runs.proofs.Pending.{is_by, deeds_of_others, next_of_others, IsPending, pending, pending_reads, not_pending}
@@ -173,6 +174,16 @@ given_same c h (task.Recover tries) may = may
 given_same c h task.Look may = may
 given_same c h task.Beat may = may
 given_same c h (task.Mark slot) may = may
+
+given_back : (c : Shape) (h : ℕ) (given : Task) → one_world.MayBeGiven c h given → MayBeGiven c h given
+given_back c h (task.Submit command tries) may = may
+given_back c h (task.Recover tries) may = may
+given_back c h task.Look may = may
+given_back c h task.Beat may = may
+given_back c h (task.Mark slot) may = may
+
+pub tasks_are_the_same : TasksAreTheSame
+tasks_are_the_same c h given = (given_same c h given, given_back c h given)
 
 due_next : (c : Shape) (h e : ℕ) (deeds : Deeds) (d : ℕ) (call : Call) → HasDue c h e deeds d call → next_of c h (core_in c h e deeds) ≡ Some (d, call)
 due_next c h e deeds d call due = ap (next_of c h) due.runs ∙ due.next

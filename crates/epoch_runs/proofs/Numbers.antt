@@ -22,8 +22,7 @@ use Rattle.standings.specs.Reading.{moved, numbers_in}
 use Rattle.standings.specs.Past.{Made, Past, reading, block_at, IsRow, number_write, WritesNumber, MayCall, MayCallIn}
 use Rattle.at_once.specs.Power.{LosesPower}
 use Rattle.epochs.specs.Acts.{IsModelCrash}
-use Rattle.epochs.proofs.Beats.{InBlock, write_in}
-use Rattle.epochs.proofs.Bytes.{blocks_apart, lies_on, off_area}
+use Rattle.epochs.proofs.Blocks.{blocks_apart, lies_on, off_area, InBlock, write_in}
 use Rattle.epochs.proofs.Numbers.{tried}
 use Rattle.epochs.proofs.Pasts.{Lives, block_fits, due_is}
 use Rattle.epoch_runs.proofs.Lists.{last_same}

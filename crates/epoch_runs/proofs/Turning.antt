@@ -18,7 +18,7 @@ use Rattle.host.specs.Host.{Memory, Host, Stopped, Running, fresh, is_stopped}
 use Rattle.world.specs.World.{Tears}
 use Rattle.epochs.specs.Pasts as served
 use Rattle.epochs.proofs.Deeds.{Known, known_first, one}
-use Rattle.epochs.proofs.Bytes.{lies_on}
+use Rattle.epochs.proofs.Blocks.{lies_on}
 use Rattle.epochs.proofs.Numbers.{zeros_are_none}
 use Rattle.epochs.proofs.Pasts.{Lives, read_number}
 use Rattle.endless.specs.Lived.{IsWholeBy, RunsIn}

@@ -1,16 +1,18 @@
--- Of the headline. What hosts of all epochs do, over disks that serve them, is one log without an end.
+-- What hosts of all epochs do, over disks that serve them, is one log without an end.
 use Rattle.std.specs.Prelude.{◌≡◌, ◌+◌, ◌<◌, ◌≤◌, ◌^◌, ℕ, suc, List, length, drop, slice_get, Some}
 use Rattle.lock_command.specs.declared.record.TheConstants.{LOCKS}
 use Rattle.lock_table.specs.declared.clients.TheConstants.{CLIENTS}
 use Rattle.paxos_block.specs.Shape.{Shape}
 use Rattle.standings.specs.Epochs.{whole_length}
+use Rattle.host.specs.declared.task.Task.{Task}
 use Rattle.host.specs.Host.{Memory, Running}
+use Rattle.world.specs.World as one_world
 use Rattle.epochs.specs.Acts.{Act}
 use Rattle.epochs.specs.OneLog.{IsShared, IsSharedOverLosses}
 use Rattle.endless.specs.Headline.{KeepsToEpochs}
 use Rattle.endless.specs.Lived.{Lived, part, now, RunsIn}
 use Rattle.endless.specs.WithoutEnd.{host_by, IsRunWithoutEnd, IsOverLossesWithoutEnd}
-use Rattle.epoch_deeds.specs.Knowing.{image_of}
+use Rattle.epoch_deeds.specs.Knowing.{image_of, MayBeGiven}
 use Rattle.epoch_runs.specs.Living.{lived_at, lived_of, place_of, deeds_from, core_now}
 use Rattle.epoch_runs.specs.World.{Entry, no_deeds, Crashing, model_crashes, power_losses, Goes}
 
@@ -34,6 +36,10 @@ abbrev pub KeptDeedsHaveOneLogOverLosses : Type 0
 KeptDeedsHaveOneLogOverLosses =
     (c : Shape) (entries : List Entry) → Goes power_losses c entries → ((e : ℕ) → length (part e (lived_of c entries)) < 2 ^ 62) → KeepsToEpochs c (lived_of c entries) → IsOverLossesWithoutEnd c (lived_of c entries)
 
+-- A host of all epochs may be given just the tasks that one of the world may be given.
+abbrev pub TasksAreTheSame : Type 0
+TasksAreTheSame = (c : Shape) (h : ℕ) (task : Task) → (MayBeGiven c h task → one_world.MayBeGiven c h task) × (one_world.MayBeGiven c h task → MayBeGiven c h task)
+
 -- Hosts keep to the epochs, where an epoch has room for what carries a table over.
 abbrev pub HostsKeepToEpochs : Type 0
 HostsKeepToEpochs = (c : Shape) (entries : List Entry) → LOCKS + CLIENTS ≤ c.slots → Goes model_crashes c entries → KeepsToEpochs c (lived_of c entries)
@@ -41,6 +47,15 @@ HostsKeepToEpochs = (c : Shape) (entries : List Entry) → LOCKS + CLIENTS ≤ c
 -- So all that they do is one log without an end.
 abbrev pub HostsHaveOneLog : Type 0
 HostsHaveOneLog = (c : Shape) (entries : List Entry) → LOCKS + CLIENTS ≤ c.slots → Goes model_crashes c entries → IsRunWithoutEnd c (lived_of c entries)
+
+-- So it is over losses of power, each of which finds every host stopped, if not too much is done.
+abbrev pub HostsKeepToEpochsOverLosses : Type 0
+HostsKeepToEpochsOverLosses =
+    (c : Shape) (entries : List Entry) → LOCKS + CLIENTS ≤ c.slots → Goes power_losses c entries → ((e : ℕ) → length (part e (lived_of c entries)) < 2 ^ 62) → KeepsToEpochs c (lived_of c entries)
+
+abbrev pub HostsHaveOneLogOverLosses : Type 0
+HostsHaveOneLogOverLosses =
+    (c : Shape) (entries : List Entry) → LOCKS + CLIENTS ≤ c.slots → Goes power_losses c entries → ((e : ℕ) → length (part e (lived_of c entries)) < 2 ^ 62) → IsOverLossesWithoutEnd c (lived_of c entries)
 
 -- THE ORDER
 

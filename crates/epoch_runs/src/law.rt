@@ -1,5 +1,5 @@
 // What hosts of all epochs do, over disks that serve them.
-ghost use Rattle.epoch_runs.specs.Laws.{DeedsAreShared, DeedsAreSharedOverLosses, HostsHaveOneLog, HostsKeepToEpochs, KeptDeedsHaveOneLog, KeptDeedsHaveOneLogOverLosses, OrderIsKept};
+ghost use Rattle.epoch_runs.specs.Laws.{DeedsAreShared, DeedsAreSharedOverLosses, HostsHaveOneLog, HostsHaveOneLogOverLosses, HostsKeepToEpochs, HostsKeepToEpochsOverLosses, KeptDeedsHaveOneLog, KeptDeedsHaveOneLogOverLosses, OrderIsKept, TasksAreTheSame};
 ghost use Rattle.epoch_runs.specs.World.{model_crashes, power_losses};
 
 /// Hosts of all epochs do what they may, each by what it did since its start, and disks serve their calls. Then each disk has served all
@@ -11,6 +11,8 @@ pub fn deeds_are_shared()
     // So all of it is one log without an end, where hosts keep to the epochs.
     ensures one_log { KeptDeedsHaveOneLog }
     ensures one_log_on { KeptDeedsHaveOneLogOverLosses }
+    // What `epoch_deeds` lets a host be given is what the world lets it be given.
+    ensures tasks { TasksAreTheSame }
 {}
 
 /// What is lived is lived in the order in which it is done, and each core is then what the deeds of its host make of it.
@@ -25,4 +27,7 @@ pub fn hosts_have_one_log()
     // They keep to the epochs: each comes to one when that before it is whole, and carries its table over first.
     ensures keeps { HostsKeepToEpochs }
     ensures one_log { HostsHaveOneLog }
+    // So it is over losses of power, each of which finds every host stopped.
+    ensures keeps_on { HostsKeepToEpochsOverLosses }
+    ensures one_log_on { HostsHaveOneLogOverLosses }
 {}

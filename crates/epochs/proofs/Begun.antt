@@ -14,7 +14,7 @@ use Rattle.standings.specs.Past.{Made, Past, made, reading, IsRow, WritesIn, IsS
 use Rattle.epochs.specs.Acts.{epoch_of}
 use Rattle.epochs.specs.Numbers.{IsNumber}
 use Rattle.epochs.specs.Pasts.{Calls, CallsIn, Pasts, no_pasts, with_past, IsShownLater, Begins, HostsMayBegin}
-use Rattle.epochs.proofs.Bytes.{lies_on}
+use Rattle.epochs.proofs.Blocks.{lies_on}
 use Rattle.epochs.proofs.Numbers.{zeros_are_none, syncs_make_sure, others_leave_numbers}
 use Rattle.epochs.proofs.Pasts.{read_number}
 

@@ -1,22 +1,20 @@
--- Numbers in rows of standings through all that is done to a disk: what is told of its bytes alone are acts.
-use Rattle.std.specs.Prelude.{◌⊎◌, ◌-◌, ◌%◌, ◌&&◌, nat_lt, if◌then◌else◌, replicate}
-use Rattle.std.proofs.Common.{ℕ, zero, suc, ◌≡◌, ◌+◌, ◌≤◌, ◌<◌, ◌==◌, Bool, true, false, true≢false, List, [], ◌∷◌, length, get_or, refl, sym, ◌∙◌, ap, subst, inl, inr, arith}
-use Rattle.std.proofs.lemmas.Bool.{cases_lt, cases_order, eq-eqb, lt-ltb}
-use Rattle.std.proofs.lemmas.Bool.Decides.{nat_tests}
+-- Numbers in rows of standings through what is done once to a disk: what is told of its bytes alone is an act.
+use Rattle.std.specs.Prelude.{◌⊎◌, ◌%◌, ◌&&◌, if◌then◌else◌, replicate}
+use Rattle.std.proofs.Common.{ℕ, ◌≡◌, ◌+◌, ◌≤◌, ◌<◌, ◌==◌, Bool, true, false, true≢false, List, [], ◌∷◌, length, get_or, refl, sym, ◌∙◌, ap, subst, inl, inr, arith}
+use Rattle.std.proofs.lemmas.Bool.{cases_lt, eq-eqb}
 use Rattle.std.proofs.lemmas.List.{get_or-replicate, length-replicate, ext_get_or}
 use Rattle.disk.specs.declared.fault.DiskFault.TheVariants.{Reset, Failed, Gone}
-use Rattle.disk.specs.Disk.{DiskState, Call, Attach, Read, Write, Sync, Answer, Booted, Told, Done, Fault, Step, FailureLeaves, KeepsSynced, written, synced, lost, put_at, done_by}
-use Rattle.disk.specs.Crash.{IsWhole, MayLeave}
-use Rattle.disk.specs.Simulated.{fresh_disk}
+use Rattle.disk.specs.Disk.{DiskState, Call, Attach, Read, Write, Sync, Answer, Booted, Told, Done, Fault, Step, FailureLeaves, KeepsSynced, written, synced, lost, done_by}
+use Rattle.disk.specs.Crash.{MayLeave}
 use Rattle.disk.specs.Steps.{HasShape}
-use Rattle.disk.proofs.CrashLemmas.{length-put, put-below, put-inside, put-above, may_leave_now, may_leave_synced, may_leave_written}
+use Rattle.disk.proofs.CrashLemmas.{length-put, put-below, put-above, may_leave_now, may_leave_synced, may_leave_written}
 use Rattle.disk.proofs.StepLemmas.{shape_written}
-use Rattle.torn_block.specs.Layout.{cluster_version, body_length}
+use Rattle.torn_block.specs.Layout.{cluster_version}
 use Rattle.torn_block.specs.declared.write_steps.WriteCall.{WriteCall}
 use Rattle.torn_block.specs.declared.write_steps.WriteCall.TheVariants.{CloseGate, SyncClosed, PutBody, SyncBody, OpenGate, SyncOpened}
 use Rattle.torn_block.specs.Block.{is_open, copy_of, target_of, next_sequence}
 use Rattle.torn_block.specs.Place.{offset_of}
-use Rattle.torn_block.specs.Register.{IsOutside, LiesOn}
+use Rattle.torn_block.specs.Register.{IsOutside}
 use Rattle.torn_block.specs.Stage.{Write128, gate_of, closing, new_tail, call_of, IsPlaced, IsDue}
 use Rattle.torn_block.proofs.PlaceLaws.{block_elsewhere, offset_fits, length-tail_with}
 use Rattle.torn_block.proofs.StageLaws.{reads_closed, reads_same}
@@ -24,155 +22,14 @@ use Rattle.heartbeat.specs.Beat.{beat_body, counter_at, counter_of}
 use Rattle.paxos_block.specs.Shape.{Shape}
 use Rattle.world.specs.Entry.{Filled, Start, Stop, Begin, Called, Crashed, Lost, Migrated}
 use Rattle.world.specs.Entry as entries
-use Rattle.at_once.specs.AtOnce.{Serves}
-use Rattle.at_once.specs.Power.{LosesPower, ServesOn}
 use Rattle.epochs.specs.Showing.{host_at, moved, masked_in, IsCleared}
 use Rattle.epochs.specs.Numbers.{write_over, IsTried}
-use Rattle.epochs.specs.Acts.{Epoch, epoch_of, is_same, base_of, Shared, fresh_shared, Act, In, Beside, Turns, Ends, part, sure_by, IsShown, IsInside, MayMake, WritesBeside, IsTurned, IsTurning, IsModelCrash, GoesBy, ServesAll, GoesThrough, HasNoCrash, shown_by, AreClear}
-use Rattle.epochs.specs.Bytes.{number_place, number_of, IsSurely, AreShown, AreInside, MayCall, IsAnswered, IsUntold, IsCutOff, HappensIn, IsBeat, IsApart, GoesTo, ServesCalls, CallsServe, CallsServeOn, GoesAlong, read_on, ReadBytesShow}
-use Rattle.epochs.proofs.Numbers.{zeros_are_none, tried}
-use Rattle.epochs.proofs.Readings.{Rises, readings_show, through_rises}
-use Rattle.epochs.proofs.Serving.{areas_serve, areas_serve_on}
+use Rattle.epochs.specs.Acts.{Epoch, base_of, Shared, Act, In, Beside, Turns, Ends, sure_by, IsShown, IsInside, MayMake, WritesBeside, IsTurned, IsTurning, GoesBy}
+use Rattle.epochs.specs.Bytes.{number_place, number_of, IsSurely, AreShown, AreInside, MayCall, IsAnswered, IsUntold, IsCutOff, HappensIn, IsBeat, IsApart, GoesTo}
+use Rattle.epochs.proofs.Numbers.{tried}
 use Rattle.epochs.proofs.Standings.{cleared_written, cleared_lost}
-
--- NUMBERS OF ALL HOSTS
-
--- hosts that have no block have number 0
-numbers : ℕ → List ℕ → ℕ → ℕ → ℕ
-numbers n bytes area host = if nat_lt area 2 then (if nat_lt host 16 then number_of n area host bytes else 0) else 0
-
-not_below : (m most : ℕ) → most ≤ m → nat_lt m most ≡ false
-not_below m most above = grind (arith, nat_tests, above)
-
-numbers_is : (n : ℕ) (bytes : List ℕ) (area host : ℕ) → area < 2 → host < 16 → numbers n bytes area host ≡ number_of n area host bytes
-unfolding numbers
-numbers_is n bytes area host is_area is_host =
-    ap (λ (b : Bool). if b then (if nat_lt host 16 then number_of n area host bytes else 0) else 0) (lt-ltb area 2 is_area)
-    ∙ ap (λ (b : Bool). if b then number_of n area host bytes else 0) (lt-ltb host 16 is_host)
-
-no_area : (n : ℕ) (bytes : List ℕ) (area host : ℕ) → 2 ≤ area → numbers n bytes area host ≡ 0
-unfolding numbers
-no_area n bytes area host above = ap (λ (b : Bool). if b then (if nat_lt host 16 then number_of n area host bytes else 0) else 0) (not_below area 2 above)
-
-no_host : (n : ℕ) (bytes : List ℕ) (area host : ℕ) → area < 2 → 16 ≤ host → numbers n bytes area host ≡ 0
-unfolding numbers
-no_host n bytes area host is_area above =
-    ap (λ (b : Bool). if b then (if nat_lt host 16 then number_of n area host bytes else 0) else 0) (lt-ltb area 2 is_area)
-    ∙ ap (λ (b : Bool). if b then number_of n area host bytes else 0) (not_below host 16 above)
-
-same_at : (n : ℕ) (one other : List ℕ) (area host : ℕ) → (area < 2 → host < 16 → number_of n area host one ≡ number_of n area host other) → numbers n one area host ≡ numbers n other area host
-same_at n one other area host same =
-    elim (cases_lt area 2) [
-      | inl is_area ↦
-          elim (cases_lt host 16) [
-            | inl is_host ↦ numbers_is n one area host is_area is_host ∙ same is_area is_host ∙ sym (numbers_is n other area host is_area is_host)
-            | inr above ↦ no_host n one area host is_area above ∙ sym (no_host n other area host is_area above)
-          ]
-      | inr above ↦ no_area n one area host above ∙ sym (no_area n other area host above)
-    ]
-
-same_numbers : (n : ℕ) (one other : List ℕ) → ((area host : ℕ) → area < 2 → host < 16 → number_of n area host one ≡ number_of n area host other) → numbers n one ≡ numbers n other
-same_numbers n one other same = λ i area host. same_at n one other area host (same area host) i
-
--- the body of a beat is as long as a body is
-pub body_fits : length beat_body ≡ body_length cluster_version
-unfolding beat_body
-body_fits = refl
-
--- two blocks of standings are one, or have no byte in common
-pub blocks_apart : (n a g area host : ℕ) → a < 2 → g < 16 → area < 2 → host < 16 →
-    ((a ≡ area) × (g ≡ host)) ⊎ (number_place n a g + 256 ≤ number_place n area host) ⊎ (number_place n area host + 256 ≤ number_place n a g)
-blocks_apart n a g area host is_a is_g is_area is_host =
-    elim (cases_order a area) [
-      | inl same ↦
-          elim (cases_order g host) [
-            | inl own ↦ inl (same, own)
-            | inr (inl below) ↦ inr (inl (omega (arith, same, below)))
-            | inr (inr above) ↦ inr (inr (omega (arith, same, above)))
-          ]
-      | inr (inl below) ↦ inr (inl (omega (arith, below, is_g)))
-      | inr (inr above) ↦ inr (inr (omega (arith, above, is_host)))
-    ]
-
--- WHAT IS KEPT
-
--- a flag in a range that was written
-flag_inside : (old : List Bool) (at n p : ℕ) → at + length (replicate n true) ≤ length old → at ≤ p → p < at + n → get_or (put_at old at (replicate n true)) p false ≡ true
-flag_inside old at n p fits from_there inside =
-    let j = p - at in
-    let a : at + j ≡ p = omega (arith, from_there) in
-    let below : j < n = omega (arith, from_there, inside) in
-    ap (λ (i : ℕ). get_or (put_at old at (replicate n true)) i false) (sym a)
-    ∙ put-inside old at (replicate n true) fits false j (omega (arith, below, length-replicate n true))
-    ∙ get_or-replicate n j true false below
-
--- what was there at the last sync may still be what a crash leaves
-kept_written : (disk : DiskState) (kept : List ℕ) (at : ℕ) (from : List ℕ) → IsWhole disk → at + length from ≤ length disk.bytes → MayLeave disk kept → MayLeave (written disk at from) kept
-kept_written disk kept at from marked fits may =
-    let flags = replicate (length from) true in
-    let many : length flags ≡ length from = length-replicate (length from) true in
-    let flags_fit : at + length flags ≤ length disk.unsynced = omega (arith, fits, many, marked) in
-    record {
-      as_many = may.as_many ∙ sym (length-put disk.bytes at from fits 0);
-      same = λ p flag. elim (cases_lt p at) [
-        | inl before ↦ may.same p (sym (put-below disk.unsynced at flags flags_fit false p before) ∙ flag) ∙ sym (put-below disk.bytes at from fits 0 p before)
-        | inr from_there ↦ elim (cases_lt p (at + length from)) [
-          | inl inside ↦ absurd (true≢false (sym (flag_inside disk.unsynced at (length from) p flags_fit from_there inside) ∙ flag))
-          | inr behind ↦
-              may.same p (sym (put-above disk.unsynced at flags flags_fit false p (omega (arith, behind, many))) ∙ flag) ∙ sym (put-above disk.bytes at from fits 0 p behind)
-        ]
-      ];
-    }
-
--- a host's number may be the next one after a crash: then it is sure what it is now, and with an odd one its blocks are cleared
-IsReady : (n area host : ℕ) → DiskState → List ℕ → Type 0
-IsReady n area host whole kept =
-    (number_of n area host whole.bytes ≡ number_of n area host kept) × (number_of n area host kept % 2 ≡ 1 → IsCleared n (base_of n area) host whole)
-
--- what a host's number may be after a crash
-IsOutcome : (n area host : ℕ) → DiskState → List ℕ → List ℕ → Type 0
-IsOutcome n area host whole kept bytes =
-    (number_of n area host bytes ≡ number_of n area host kept)
-    ⊎ (number_of n area host bytes ≡ number_of n area host whole.bytes)
-    ⊎ ((number_of n area host bytes ≡ number_of n area host whole.bytes + 1) × IsReady n area host whole kept)
-
-pub record Ties (n : ℕ) (whole : DiskState) (kept : List ℕ) : Type 0 where
-  row : 4096 ≤ n
-  room : 4096 + n + n ≤ length whole.bytes
-  marked : IsWhole whole
-  may : MayLeave whole kept
-  left : (area host : ℕ) → area < 2 → host < 16 → (bytes : List ℕ) → MayLeave whole bytes → IsOutcome n area host whole kept bytes
-
--- the same as acts see it
-shared : ℕ → DiskState → List ℕ → Shared
-shared n whole kept = record { whole = whole; seen = numbers n whole.bytes; sure = numbers n kept }
-
-pub lies_on : (n area host : ℕ) (whole : DiskState) → area < 2 → host < 16 → 4096 ≤ n → 4096 + n + n ≤ length whole.bytes → LiesOn cluster_version (number_place n area host) whole
-lies_on n area host whole is_area is_host row room = omega (arith, is_area, is_host, row, room)
-
-area_room : (n area size : ℕ) → area < 2 → 4096 + n + n ≤ size → base_of n area + n ≤ size
-area_room n zero size is_area room = omega (arith, room)
-area_room n (suc area) size is_area room = omega (arith, room)
-
-few_at : (p : ℕ) → host_at p < 16
-few_at p = omega arith
-
--- rows of standings are in no area
-off_rows : (n area at len p : ℕ) → area < 2 → n ≤ at → at + len ≤ n + 8192 → 4096 ≤ p → p < n → (base_of n area + p < at) ⊎ (at + len ≤ base_of n area + p)
-off_rows n zero at len p is_area from_there ends high below = inl (omega (arith, below, from_there))
-off_rows n (suc area) at len p is_area from_there ends high below = inr (omega (arith, ends, high))
-
--- what is written in an area is in no row of standings, and of no other area
-pub off_area : (n area at len : ℕ) → area < 2 → 4096 ≤ at → at + len ≤ n → (base_of n area + at + len ≤ n) ⊎ (n + 4096 + 4096 ≤ base_of n area + at)
-off_area n zero at len is_area high ends = inl (omega (arith, ends))
-off_area n (suc area) at len is_area high ends = inr (omega (arith, high))
-
-within_area : (n area at len a p : ℕ) → area < 2 → a < 2 → 4096 ≤ at → at + len ≤ n → 4096 ≤ p → p < n → base_of n area + at ≤ base_of n a + p → base_of n a + p < base_of n area + at + len → (a ≡ area) × (at ≤ p) × (p < at + len)
-within_area n zero at len zero p is_area is_a high ends p_high p_below from_there within = (refl, omega (arith, from_there), omega (arith, within))
-within_area n zero at len (suc a) p is_area is_a high ends p_high p_below from_there within = absurd (omega (arith, within, ends))
-within_area n (suc area) at len zero p is_area is_a high ends p_high p_below from_there within = absurd (omega (arith, from_there, p_below))
-within_area n (suc area) at len (suc a) p is_area is_a high ends p_high p_below from_there within =
-    ((let one : suc a ≡ suc area = omega (arith, is_area, is_a) in one), omega (arith, from_there), omega (arith, within))
+use Rattle.epochs.proofs.Blocks.{body_fits, blocks_apart, lies_on, area_room, few_at, off_rows, off_area, within_area}
+use Rattle.epochs.proofs.Ties.{numbers, numbers_is, no_area, no_host, same_at, same_numbers, kept_written, IsReady, IsOutcome, Ties, shared}
 
 -- DISKS THAT ARE WRITTEN
 
@@ -364,15 +221,15 @@ module _ (n : ℕ) (whole : DiskState) (kept : List ℕ) (ties : Ties n whole ke
 
   module _ (IsCrash : DiskState → DiskState → Type 0) (c : Shape) (k : ℕ) where
     -- the act, perhaps behind the turn of a number
-    GoesOver : Act → Shared → Type 0
+    unfoldable pub GoesOver : Act → Shared → Type 0
     GoesOver act new =
         GoesBy IsCrash c k n (shared n whole kept) act new
         ⊎ ((mid : Shared) × (area : ℕ) × (host : ℕ) × GoesBy IsCrash c k n (shared n whole kept) (Turns area host) mid × GoesBy IsCrash c k n mid act new)
 
-    record Follows (act : Act) (new : DiskState) : Type 0 where
-      kept_then : List ℕ
-      ties_then : Ties n new kept_then
-      goes : GoesOver act (shared n new kept_then)
+    pub record Follows (act : Act) (new : DiskState) : Type 0 where
+      pub kept_then : List ℕ
+      pub ties_then : Ties n new kept_then
+      pub goes : GoesOver act (shared n new kept_then)
 
     -- AN EPOCH'S
 
@@ -812,7 +669,7 @@ module _ (n : ℕ) (whole : DiskState) (kept : List ℕ) (ties : Ties n whole ke
     -- ONE ACT
 
     module _ (leaves : (new : DiskState) → IsCrash whole new → KeepsSynced whole.unsynced whole.bytes new.bytes × (new.unsynced ≡ replicate (length whole.bytes) false)) where
-      goes_to : (act : Act) (new : DiskState) → GoesTo IsCrash c k n whole act new → Follows act new
+      pub goes_to : (act : Act) (new : DiskState) → GoesTo IsCrash c k n whole act new → Follows act new
       goes_to (In e shown entry) new goes = happens e goes.0 goes.1 shown entry new goes.2
       goes_to (Beside call answer) new goes = elim goes.0 [ inl beat ↦ goes_beat call answer new beat goes.1 | inr apart ↦ goes_apart call answer new apart goes.1 ]
       goes_to (Turns area host) new goes = absurd goes
@@ -824,187 +681,3 @@ module _ (n : ℕ) (whole : DiskState) (kept : List ℕ) (ties : Ties n whole ke
       goes_to (Ends (Called h d call answer left)) new goes = absurd goes
       goes_to (Ends (entries.Torn h d call left)) new goes = absurd goes
       goes_to (Ends (Migrated disks log)) new goes = absurd goes
-
--- ALL OF IT
-
--- what is done to the image of an epoch does not depend on what is done beside
-part_more : (e : Epoch) (act : Act) (one other : List Act) → part e one ≡ part e other → part e (act ∷ one) ≡ part e (act ∷ other)
-part_more e (In epoch shown entry) one other same = ap (λ (l : List Filled). if is_same epoch e then entry ∷ l else l) same
-part_more e (Beside call answer) one other same = same
-part_more e (Turns area host) one other same = same
-part_more e (Ends entry) one other same = ap (λ (l : List Filled). entry ∷ l) same
-
-module _ (IsCrash : DiskState → DiskState → Type 0) (leaves : (old new : DiskState) → IsCrash old new → KeepsSynced old.unsynced old.bytes new.bytes × (new.unsynced ≡ replicate (length old.bytes) false)) (c : Shape) (k n : ℕ) where
-  calls_are_acts : (calls : List Act) (whole : DiskState) (kept : List ℕ) → Ties n whole kept → ServesCalls IsCrash c k n whole calls →
-      (acts : List Act) × ServesAll IsCrash c k n (shared n whole kept) acts × ((e : Epoch) → part e acts ≡ part e calls)
-  unfolding GoesOver
-  calls_are_acts [] whole kept ties all = ([], tt, λ e. refl)
-  calls_are_acts (act ∷ calls) whole kept ties all =
-      let by = goes_to n whole kept ties IsCrash c k (leaves whole) act all.0 all.1 in
-      let rest = calls_are_acts calls all.0 by.kept_then by.ties_then all.2 in
-      elim by.goes [
-        | inl goes ↦ (act ∷ rest.0, (shared n all.0 by.kept_then, goes, rest.1), λ e. part_more e act rest.0 calls (rest.2 e))
-        | inr turns ↦ (
-          Turns turns.1 turns.2 ∷ act ∷ rest.0,
-          (turns.0, turns.3, (shared n all.0 by.kept_then, turns.4, rest.1)),
-          λ e. part_more e act rest.0 calls (rest.2 e),
-        )
-      ]
-
--- the same from one disk to another
-record Along (IsCrash : DiskState → DiskState → Type 0) (c : Shape) (k n : ℕ) (old : Shared) (calls : List Act) (last : DiskState) : Type 0 where
-  kept_last : List ℕ
-  ties_last : Ties n last kept_last
-  acts : List Act
-  goes : GoesThrough IsCrash c k n old acts (shared n last kept_last)
-  none : HasNoCrash calls → HasNoCrash acts
-
-none_more : (act : Act) (one other : List Act) → (HasNoCrash one → HasNoCrash other) → HasNoCrash (act ∷ one) → HasNoCrash (act ∷ other)
-none_more (In e shown entry) one other more none = more none
-none_more (Beside call answer) one other more none = more none
-none_more (Turns area host) one other more none = more none
-none_more (Ends (Crashed d left)) one other more none = absurd none
-none_more (Ends (Lost d)) one other more none = more none
-none_more (Ends (Start h)) one other more none = more none
-none_more (Ends (Stop h)) one other more none = more none
-none_more (Ends (Begin h task)) one other more none = more none
-none_more (Ends (Called h d call answer left)) one other more none = more none
-none_more (Ends (entries.Torn h d call left)) one other more none = more none
-none_more (Ends (Migrated disks log)) one other more none = more none
-
-module _ (IsCrash : DiskState → DiskState → Type 0) (leaves : (old new : DiskState) → IsCrash old new → KeepsSynced old.unsynced old.bytes new.bytes × (new.unsynced ≡ replicate (length old.bytes) false)) (c : Shape) (k n : ℕ) where
-  goes_along : (calls : List Act) (whole : DiskState) (kept : List ℕ) (last : DiskState) → Ties n whole kept → GoesAlong IsCrash c k n whole calls last → Along IsCrash c k n (shared n whole kept) calls last
-  unfolding GoesOver
-  goes_along [] whole kept last ties all =
-      record {
-        kept_last = kept;
-        ties_last = subst (λ (d : DiskState). Ties n d kept) (sym all) ties;
-        acts = [];
-        goes = ap (λ (d : DiskState). shared n d kept) all;
-        none = λ none. none;
-      }
-  goes_along (act ∷ calls) whole kept last ties all =
-      let by = goes_to n whole kept ties IsCrash c k (leaves whole) act all.0 all.1 in
-      let rest = goes_along calls all.0 by.kept_then last by.ties_then all.2 in
-      elim by.goes [
-        | inl goes ↦ record {
-          kept_last = rest.kept_last;
-          ties_last = rest.ties_last;
-          acts = act ∷ rest.acts;
-          goes = (shared n all.0 by.kept_then, goes, rest.goes);
-          none = none_more act calls rest.acts rest.none;
-        }
-        | inr turns ↦ record {
-          kept_last = rest.kept_last;
-          ties_last = rest.ties_last;
-          acts = Turns turns.1 turns.2 ∷ act ∷ rest.acts;
-          goes = (turns.0, turns.3, (shared n all.0 by.kept_then, turns.4, rest.goes));
-          none = none_more act calls rest.acts rest.none;
-        }
-      ]
-
--- at first
-no_number : (n size area host : ℕ) → number_of n area host (fresh_disk size).bytes ≡ 0
-no_number n size area host = (zeros_are_none (number_place n area host) size).now
-
-ties_first : (n size : ℕ) → 4096 ≤ n → 4096 + n + n ≤ size → Ties n (fresh_disk size) (fresh_disk size).bytes
-unfolding fresh_disk IsOutcome
-ties_first n size row fits =
-    let long = length-replicate {A = ℕ} size 0 in
-    record {
-      row = row;
-      room = omega (arith, fits, long);
-      marked = length-replicate size false ∙ sym long;
-      may = may_leave_now (fresh_disk size);
-      left = λ area host is_area is_host bytes may. elim ((zeros_are_none (number_place n area host) size).left bytes may) [
-        | inl none ↦ inl (none ∙ sym (no_number n size area host))
-        | inr (inl none) ↦ inl (none ∙ sym (no_number n size area host))
-        | inr (inr more) ↦ absurd (true≢false (sym more.1))
-      ];
-    }
-
-numbers_first : (n size : ℕ) → numbers n (fresh_disk size).bytes ≡ (λ area host. 0)
-unfolding numbers
-numbers_first n size = λ i area host. zero_at area host i
-  where
-    zero_at : (area host : ℕ) → numbers n (fresh_disk size).bytes area host ≡ 0
-    zero_at area host =
-        elim (cases_lt area 2) [
-          | inl is_area ↦
-              elim (cases_lt host 16) [
-                | inl is_host ↦ numbers_is n (fresh_disk size).bytes area host is_area is_host ∙ no_number n size area host
-                | inr above ↦ no_host n (fresh_disk size).bytes area host is_area above
-              ]
-          | inr above ↦ no_area n (fresh_disk size).bytes area host above
-        ]
-
-shared_first : (n size : ℕ) → shared n (fresh_disk size) (fresh_disk size).bytes ≡ fresh_shared size
-unfolding shared
-shared_first n size = λ i. record { whole = fresh_disk size; seen = numbers_first n size i; sure = numbers_first n size i }
-
-pub calls_are_all : (IsCrash : DiskState → DiskState → Type 0) → ((old new : DiskState) → IsCrash old new → KeepsSynced old.unsynced old.bytes new.bytes × (new.unsynced ≡ replicate (length old.bytes) false)) → (c : Shape) (k n size : ℕ) (calls : List Act) → 4096 ≤ n → 4096 + n + n ≤ size →
-    ServesCalls IsCrash c k n (fresh_disk size) calls → (acts : List Act) × ServesAll IsCrash c k n (fresh_shared size) acts × ((e : Epoch) → part e acts ≡ part e calls)
-calls_are_all IsCrash leaves c k n size calls row fits all =
-    let by = calls_are_acts IsCrash leaves c k n calls (fresh_disk size) (fresh_disk size).bytes (ties_first n size row fits) all in
-    (by.0, subst (λ (s : Shared). ServesAll IsCrash c k n s by.0) (shared_first n size) by.1, by.2)
-
-pub calls_serve : CallsServe
-calls_serve c k n size e calls row fits all =
-    let by = calls_are_all IsModelCrash (λ old new crash. (crash.1.bytes, crash.1.unsynced)) c k n size calls row fits all in
-    subst (Serves c k (fresh_disk n)) (by.2 (epoch_of e)) (areas_serve c k n size e by.0 fits by.1)
-
-pub calls_serve_on : CallsServeOn
-calls_serve_on c k n size e calls row fits all =
-    let by = calls_are_all LosesPower (λ old new crash. (crash.bytes, crash.unsynced)) c k n size calls row fits all in
-    subst (ServesOn c k (fresh_disk n)) (by.2 (epoch_of e)) (areas_serve_on c k n size e by.0 fits by.1)
-
--- READINGS
-
-read_bytes_show : (IsCrash : DiskState → DiskState → Type 0) → ((old new : DiskState) → IsCrash old new → KeepsSynced old.unsynced old.bytes new.bytes × (new.unsynced ≡ replicate (length old.bytes) false)) → ReadBytesShow IsCrash
-unfolding shared
-read_bytes_show IsCrash leaves c k n size e first row second early before behind e_area row_fits fits from_first to_row none_before to_second none_behind clear host few =
-    let start = goes_along IsCrash leaves c k n early (fresh_disk size) (fresh_disk size).bytes first (ties_first n size row_fits fits) from_first in
-    let one = goes_along IsCrash leaves c k n before first start.kept_last row start.ties_last to_row in
-    let two = goes_along IsCrash leaves c k n behind row one.kept_last second one.ties_last to_second in
-    let is : (whole : DiskState) (g : ℕ) → g < 16 → numbers n whole.bytes e.area g ≡ number_of n e.area g whole.bytes = (λ whole g is_g. numbers_is n whole.bytes e.area g e_area is_g) in
-    let clear_acts : AreClear e (numbers n first.bytes e.area) (numbers n second.bytes e.area) = (λ g is_g.
-    let now = is second g is_g in
-    let most = (clear g is_g).0 in
-    (omega (arith, now, most), λ own. is first g is_g ∙ (clear g is_g).1 (sym now ∙ own))) in
-    let shows = readings_show IsCrash c k n e (shared n first start.kept_last) (shared n row one.kept_last) (shared n second two.kept_last) one.acts two.acts one.goes (one.none none_before) two.goes (two.none none_behind) clear_acts host few in
-    let same : shown_by e (numbers n first.bytes e.area) (numbers n second.bytes e.area) host ≡ shown_by e (read_on n e first) (read_on n e second) host = (λ i. (is first host few i == e.number) && (is second host few i == e.number)) in
-    elim shows [
-      | inl with_it ↦ inl (sym same ∙ with_it.0, sym (is row host few) ∙ with_it.1)
-      | inr without ↦ (let here = is row host few in let less = without.1 in inr (sym same ∙ without.0, omega (arith, here, less)))
-    ]
-
-pub read_model_bytes_show : ReadBytesShow IsModelCrash
-read_model_bytes_show = read_bytes_show IsModelCrash (λ old new crash. (crash.1.bytes, crash.1.unsynced))
-
-pub read_file_bytes_show : ReadBytesShow LosesPower
-read_file_bytes_show = read_bytes_show LosesPower (λ old new crash. (crash.bytes, crash.unsynced))
-
--- ONE ACT MORE
-
--- a disk whose numbers are known so
-abbrev pub Tied : ℕ → DiskState → Type 0
-Tied n whole = (kept : List ℕ) × Ties n whole kept
-
-pub tied_first : (n size : ℕ) → 4096 ≤ n → 4096 + n + n ≤ size → Tied n (fresh_disk size)
-tied_first n size row fits = ((fresh_disk size).bytes, ties_first n size row fits)
-
-module _ (IsCrash : DiskState → DiskState → Type 0) (leaves : (old new : DiskState) → IsCrash old new → KeepsSynced old.unsynced old.bytes new.bytes × (new.unsynced ≡ replicate (length old.bytes) false)) (c : Shape) (k n : ℕ) (act : Act) (whole new : DiskState) (goes : GoesTo IsCrash c k n whole act new) (tied : Tied n whole) where
-  along : Along IsCrash c k n (shared n whole tied.0) (act ∷ []) new
-  along = goes_along IsCrash leaves c k n (act ∷ []) whole tied.0 new tied.1 (new, goes, refl)
-
-  pub tied_on : Tied n new
-  tied_on = (along.kept_last, along.ties_last)
-
-  -- while the disk does not crash numbers only rise
-  pub numbers_rise : HasNoCrash (act ∷ []) → (area host : ℕ) → area < 2 → host < 16 → number_of n area host whole.bytes ≤ number_of n area host new.bytes
-  unfolding shared Rises
-  numbers_rise none area host is_area is_host =
-      let rises = through_rises IsCrash c k n along.acts (shared n whole tied.0) (shared n new along.kept_last) along.goes (along.none none) area host in
-      let was = numbers_is n whole.bytes area host is_area is_host in
-      let now = numbers_is n new.bytes area host is_area is_host in
-      omega (arith, rises, was, now)

@@ -25,10 +25,19 @@ use Rattle.epochs.specs.Acts.{Epoch, epoch_of, Act, In, Beside, Ends, part, IsMo
 use Rattle.epochs.specs.Bytes.{IsSurely, AreShown, AreInside, IsBeat, IsApart, GoesTo, ServesCalls}
 use Rattle.epochs.specs.Bytes as telling
 use Rattle.epochs.specs.Pasts.{Deed, Calls, CallsIn, Breaks, BreaksIn, Stops, Crash, Loss, done_in, Pasts, no_pasts, with_past, pasts_after, ahead, IsShownLater, Hears, MayBe, ServesPasts, PastsAreActs, PastsServe, PastsServeOn}
-use Rattle.epochs.proofs.Beats.{InBlock, write_in, model_leaves, power_leaves}
-use Rattle.epochs.proofs.Bytes.{lies_on, Tied, tied_first, tied_on, numbers_rise, calls_are_all}
+use Rattle.epochs.proofs.Along.{Tied, tied_first, tied_on, numbers_rise, calls_are_all}
+use Rattle.epochs.proofs.Blocks.{lies_on, InBlock, write_in}
 use Rattle.epochs.proofs.Serving.{areas_serve, areas_serve_on}
 use Rattle.epochs.proofs.Pasts.{leaves_step, leaves_crashed, leaves_lost, Later, later_same, later_on, Passes, Does, Lives, lives_first, lives_passes, lives_does, number_row, block_row, block_is, block_fits, read_number, sure_is, due_is, cleared_is, read_below}
+
+-- CRASHES
+
+-- what was synced stays, all is synced then, and the boot number is the next one, or as it was
+pub model_leaves : (old new : DiskState) → IsModelCrash old new → KeepsSynced old.unsynced old.bytes new.bytes × (new.unsynced ≡ replicate (length old.bytes) false) × ((new.boot ≡ old.boot + 1) ⊎ (new.boot ≡ old.boot))
+model_leaves old new crash = (crash.1.bytes, crash.1.unsynced, inl crash.1.boot)
+
+pub power_leaves : (old new : DiskState) → LosesPower old new → KeepsSynced old.unsynced old.bytes new.bytes × (new.unsynced ≡ replicate (length old.bytes) false) × ((new.boot ≡ old.boot + 1) ⊎ (new.boot ≡ old.boot))
+power_leaves old new crash = (crash.bytes, crash.unsynced, inr (crash.after ∙ sym crash.before))
 
 -- ITS OWN BLOCKS
 

@@ -1,13 +1,14 @@
-pub mod Beats
+pub mod Along
 pub mod Begun
+pub mod Blocks
 pub mod Bytes
 pub mod Deeds
 pub mod Numbers
 pub mod OneLog
 pub mod Pasts
 pub mod Readings
-pub mod Rounds
 pub mod Serving
 pub mod Showing
 pub mod Standings
 pub mod Steps
+pub mod Ties

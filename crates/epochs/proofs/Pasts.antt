@@ -27,7 +27,7 @@ use Rattle.standings.specs.Past.{Made, Past, made, Spares, AllSpare, reading, Is
 use Rattle.epochs.specs.Showing.{host_at, IsCleared}
 use Rattle.epochs.specs.Bytes.{IsSurely}
 use Rattle.epochs.proofs.Showing.{part_is, length-part}
-use Rattle.epochs.proofs.Bytes.{body_fits}
+use Rattle.epochs.proofs.Blocks.{body_fits}
 
 -- WHAT LEAVES A RANGE
 

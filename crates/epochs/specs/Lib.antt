@@ -1,9 +1,7 @@
 pub mod Acts
-pub mod Beats
 pub mod Bytes
 pub mod Laws
 pub mod Numbers
 pub mod OneLog
 pub mod Pasts
-pub mod Rounds
 pub mod Showing

@@ -1,13 +1,11 @@
 // Areas of disks that are used again for each epoch: what an area shows, the numbers of hosts, and what hosts of all epochs do.
 ghost use Rattle.at_once.specs.Power.{LosesPower};
 ghost use Rattle.epochs.specs.Acts.{AreasServe, AreasServeOn, IsModelCrash, ReadingsShow};
-ghost use Rattle.epochs.specs.Beats.{BeatsServe, BeatsServeOn, ReadBeatsShow};
 ghost use Rattle.epochs.specs.Bytes.{CallsServe, CallsServeOn, ReadBytesShow};
 ghost use Rattle.epochs.specs.Laws.{OwnCallsAreSteps, OwnTearsAreTears, OthersLeaveIt, CrashesAreCrashes, LossesAreLosses, StandingsChangeNothing, FreshDisksShowNothing, NobodyShowsNothing};
 ghost use Rattle.epochs.specs.Numbers.{ZerosAreNone, OthersLeaveNumbers, SyncsMakeSure, CrashesLeaveOne, WritesAreNext, WritesRaise};
 ghost use Rattle.epochs.specs.OneLog.{EpochsAreAtOnce, EpochsAreOverLosses, EpochsAreRuns, PastsAreShared, PastsAreSharedOverLosses};
 ghost use Rattle.epochs.specs.Pasts.{HostsMayBegin, PastsAreActs, PastsServe, PastsServeOn};
-ghost use Rattle.epochs.specs.Rounds.{RoundsMakeTheseCalls};
 
 /// For each epoch an area of a disk shows an image. What hosts of the epoch do is done to that image; what is done for other epochs
 /// is not; and it is no matter when a host comes or leaves.
@@ -53,19 +51,6 @@ pub fn calls_serve()
     // To whom a row may be shown follows from what two readings of the standings give.
     ensures readings { ReadBytesShow IsModelCrash }
     ensures readings_on { ReadBytesShow LosesPower }
-{}
-
-/// The same of hosts whose calls in rows of standings are those that their beats have due, each by what its host heard alone: an attach, a
-/// sync, a read of the row, and six calls that write the host's block.
-pub fn beats_serve()
-    ensures serves { BeatsServe }
-    // So it is with a file, over losses of power.
-    ensures power { BeatsServeOn }
-    // Two readings of the standings show the same.
-    ensures readings { ReadBeatsShow IsModelCrash }
-    ensures readings_on { ReadBeatsShow LosesPower }
-    // A round that beats there makes these calls.
-    ensures rounds { RoundsMakeTheseCalls }
 {}
 
 /// The same of hosts each of which makes the calls that its own past on the disk allows: what it called there since it started, and how

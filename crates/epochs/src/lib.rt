@@ -4,6 +4,5 @@
 mod law;
 
 pub use law::{
-    areas_serve, areas_show_images, beats_serve, calls_serve, epochs_are_runs, numbers_are_bytes,
-    pasts_serve,
+    areas_serve, areas_show_images, calls_serve, epochs_are_runs, numbers_are_bytes, pasts_serve,
 };

@@ -1,4 +1,4 @@
-use Rattle.epochs.proofs.Bytes.{calls_serve, calls_serve_on, read_model_bytes_show, read_file_bytes_show}
+use Rattle.epochs.proofs.Along.{calls_serve, calls_serve_on, read_model_bytes_show, read_file_bytes_show}
 use Rattle.epochs.proofs.law.calls_serve.Goals as goal
 
 pub returns : goal.returns
