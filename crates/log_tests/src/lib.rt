@@ -1,4 +1,4 @@
-//! Tests of attempts, files, blocks, and devices with sectors: a crate with tests is proved twice, and this one has little to prove.
+//! Tests of attempts, files, blocks, headers of logs without an end, and devices with sectors: a crate with tests is proved twice, and this one has little to prove.
 #![tactic(auto)]
 
 #[cfg(test)]
@@ -11,5 +11,7 @@ mod changing;
 mod devices;
 #[cfg(test)]
 mod driven;
+#[cfg(test)]
+mod endless_images;
 #[cfg(test)]
 mod files;
