@@ -1,5 +1,5 @@
 -- The device call that is due, as C is told it, and what C says that it was answered.
-use Rattle.std.specs.Prelude.{◌≡◌, ◌==◌, ◌<◌, ℕ, List, length, take, Option, Some, None, if◌then◌else◌}
+use Rattle.std.specs.Prelude.{◌≡◌, ◌==◌, ◌<◌, ◌++◌, ℕ, List, length, drop, Option, Some, None, if◌then◌else◌}
 use Rattle.disk.specs.Disk.{Call, Attach, Read, Write, Sync, Answer, Booted, Told, Done, Fault}
 use Rattle.disk.specs.declared.fault.DiskFault.TheVariants.{Reset, Failed, Gone}
 use Rattle.torn_block.specs.declared.layout.TheConstants.{COPY_LENGTH}
@@ -14,18 +14,22 @@ plain_call kind disk boot = record { boot = boot; at = 0; length = 0; kind = kin
 abbrev pub no_call : DueCall
 no_call = plain_call 0 0 0
 
--- this call is told: its kind, its boot number and its range; and what is written, in the room for it
-abbrev pub TellsCall : DueCall → List ℕ → Call → Type 0
-TellsCall view written Attach = view.kind ≡ 1
-TellsCall view written (Sync boot) = (view.kind ≡ 2) × (view.boot ≡ boot)
-TellsCall view written (Read boot at len) = (view.kind ≡ 3) × (view.boot ≡ boot) × (view.at ≡ at) × (view.length ≡ len)
-TellsCall view written (Write boot at from) =
-    (view.kind ≡ 4) × (view.boot ≡ boot) × (view.at ≡ at) × (view.length ≡ length from) × (take (length from) written ≡ from)
+-- a call on this disk as C is told it; what its kind has no use for is 0
+abbrev pub told_call : ℕ → Call → DueCall
+told_call disk Attach = plain_call 1 disk 0
+told_call disk (Sync boot) = plain_call 2 disk boot
+told_call disk (Read boot at len) = record (plain_call 3 disk boot) { at = at; length = len }
+told_call disk (Write boot at from) = record (plain_call 4 disk boot) { at = at; length = length from }
 
--- The call that is due is told, and its disk.
-pub record TellsDue (view : DueCall) (written : List ℕ) (due : ℕ × Call) : Type 0 where
-  pub disk : view.disk ≡ due.0
-  pub call : TellsCall view written due.1
+-- the room for what a call writes begins with that; all else in it stays
+abbrev pub room_after : Call → List ℕ → List ℕ
+room_after (Write boot at from) room = from ++ drop (length from) room
+room_after call room = room
+
+-- The call that is due is told, with its disk and what it writes.
+pub record TellsDue (view : DueCall) (old new : List ℕ) (due : ℕ × Call) : Type 0 where
+  pub call : view ≡ told_call due.0 due.1
+  pub written : new ≡ room_after due.1 old
 
 -- it writes more bytes than a block's copy has; none that a host makes does
 abbrev pub IsTooLong : Call → Type 0

@@ -96,20 +96,25 @@ pub record HasAttached (boot : ℕ) (old new : OpenHost) : Type 0 where
 abbrev pub Attaches : ℕ → OpenHost → OpenHost → Type 0
 Attaches boot old new = HasAttached boot old new ⊎ ((IsAttachDue old.core → ⊥) × (new ≡ old))
 
--- C is told this call, and its disk, unless it writes more bytes than there is room for: then no call
-abbrev pub TellsCallDue : ℕ × Call → DueCall → List ℕ → ℤ → Type 0
-TellsCallDue due call written status = ((status ≡ done) × TellsDue call written due) ⊎ ((status ≡ no_room) × IsTooLong due.1 × (call ≡ no_call))
+-- no call is told, and nothing to be written
+abbrev pub TellsNoCall : DueCall → (before after : List ℕ) → Type 0
+TellsNoCall call before after = (call ≡ no_call) × (after ≡ before)
+
+-- C is told this call, unless it writes more bytes than there is room for: then no call
+abbrev pub TellsCallDue : ℕ × Call → DueCall → (before after : List ℕ) → ℤ → Type 0
+TellsCallDue due call before after status =
+    ((status ≡ done) × TellsDue call before after due) ⊎ ((status ≡ no_room) × IsTooLong due.1 × TellsNoCall call before after)
 
 -- C is told the call that is due, or that none is.
-abbrev pub TellsNext : OpenHost → DueCall → List ℕ → ℤ → Type 0
-TellsNext host call written status =
-    ((is_idle host.core ≡ false) × TellsCallDue (due_call host.core) call written status)
-    ⊎ ((is_idle host.core ≡ true) × (status ≡ nothing_due) × (call ≡ no_call))
+abbrev pub TellsNext : OpenHost → DueCall → (before after : List ℕ) → ℤ → Type 0
+TellsNext host call before after status =
+    ((is_idle host.core ≡ false) × TellsCallDue (due_call host.core) call before after status)
+    ⊎ ((is_idle host.core ≡ true) × (status ≡ nothing_due) × TellsNoCall call before after)
 
 -- The same, after an attach that was due.
-pub record CallsNext (boot : ℕ) (old new : OpenHost) (call : DueCall) (written : List ℕ) (status : ℤ) : Type 0 where
+pub record CallsNext (boot : ℕ) (old new : OpenHost) (call : DueCall) (before after : List ℕ) (status : ℤ) : Type 0 where
   pub attaches : Attaches boot old new
-  pub tells : TellsNext new call written status
+  pub tells : TellsNext new call before after status
 
 -- The host heard the answer that C told, and nothing else.
 pub record HasHeardTold (told : ToldAnswer) (row : List ℕ) (old new : OpenHost) : Type 0 where
@@ -126,15 +131,15 @@ pub record HearsNothing (told : ToldAnswer) (row : List ℕ) (old new : OpenHost
       ((status ≡ nothing_due) × (is_idle old.core ≡ true)) ⊎ ((status ≡ bad_argument) × (answer_in (due_call old.core).1 told row ≡ None))
 
 -- It heard the answer, and C is told the next call.
-pub record HeardGoesOn (told : ToldAnswer) (row : List ℕ) (old new : OpenHost) (call : DueCall) (written : List ℕ) (status : ℤ) : Type 0 where
+pub record HeardGoesOn (told : ToldAnswer) (row : List ℕ) (old new : OpenHost) (call : DueCall) (before after : List ℕ) (status : ℤ) : Type 0 where
   pub between : OpenHost
   pub heard : HasHeardTold told row old between
-  pub next : CallsNext told.boot between new call written status
+  pub next : CallsNext told.boot between new call before after status
 
 -- where it heard nothing, C is told no call
-abbrev pub GoesOn : ToldAnswer → List ℕ → OpenHost → OpenHost → DueCall → List ℕ → ℤ → Type 0
-GoesOn told row old new call written status =
-    HeardGoesOn told row old new call written status ⊎ (HearsNothing told row old new status × (call ≡ no_call))
+abbrev pub GoesOn : ToldAnswer → List ℕ → OpenHost → OpenHost → DueCall → (before after : List ℕ) → ℤ → Type 0
+GoesOn told row old new call before after status =
+    HeardGoesOn told row old new call before after status ⊎ (HearsNothing told row old new status × TellsNoCall call before after)
 
 -- ALL OF THEM
 

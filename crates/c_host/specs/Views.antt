@@ -1,5 +1,5 @@
 -- What C is shown of a host and of its lock table.
-use Rattle.std.specs.Prelude.{◌<◌, ◌-◌, ℕ, List, Some, slice_get, take, drop, replicate, min, ◌++◌, ◌≡◌, length}
+use Rattle.std.specs.Prelude.{◌<◌, ◌-◌, ℕ, List, Some, slice_get, take, drop, replicate, min, ◌++◌, ◌≡◌, length, pos}
 use Rattle.lock_command.specs.declared.record.LockRecord.{LockRecord}
 use Rattle.lock_table.specs.declared.known_client.KnownClient.{KnownClient}
 use Rattle.lock_command.specs.declared.command.Command.{Command}
@@ -21,6 +21,7 @@ pub record ShowsHost (view : HostView) (host : OpenHost) : Type 0 where
   pub disks : view.disks ≡ host.config.disks
   pub slots : view.slots ≡ host.config.slots
   pub cluster : view.cluster ≡ host.cluster
+  pub unused : view.unused ≡ 0
 
 -- The view shows this lock.
 pub record ShowsLock (view : LockView) (r : LockRecord) : Type 0 where
@@ -37,6 +38,7 @@ pub record ShowsClient (view : ClientView) (k : KnownClient) : Type 0 where
   pub request : view.request ≡ k.request
   pub reply : view.reply ≡ (answer_of 0 k.reply).reply
   pub refusal : view.refusal ≡ status_of k.reply
+  pub unused : view.unused ≡ pos 0
 
 -- the list has a lock of this number at this place
 pub record IsAt (locks : List LockRecord) (number at : ℕ) (found : LockRecord) : Type 0 where
@@ -78,16 +80,18 @@ pub record ShowsText (learned : List Command) (old new : List ℕ) (size : ℕ) 
 abbrev pub ShowBelow : {V R : Type 0} → (V → R → Type 0) → List V → List R → ℕ → Type 0
 ShowBelow {V} {R} Shows views records n = (k : ℕ) (view : V) (r : R) → k < n → slice_get views k ≡ Some view → slice_get records k ≡ Some r → Shows view r
 
--- The buffer begins with the locks of the table after these commands, as many as it has room for, and this is how many there are.
-pub record ShowsLocks (learned : List Command) (views : List LockView) (count : ℕ) : Type 0 where
+-- The buffer begins with the locks of the table after these commands, as many as it has room for, and this is how many there are. What stands after them stays.
+pub record ShowsLocks (learned : List Command) (old new : List LockView) (count : ℕ) : Type 0 where
   pub picture : Shown
   pub of_table : IsPictureOf picture (table_after learned)
   pub counted : count ≡ length picture.locks
-  pub shown : ShowBelow ShowsLock views picture.locks (length views)
+  pub shown : ShowBelow ShowsLock new picture.locks (length new)
+  pub rest : drop (length picture.locks) new ≡ drop (length picture.locks) old
 
 -- The same of its clients.
-pub record ShowsClients (learned : List Command) (views : List ClientView) (count : ℕ) : Type 0 where
+pub record ShowsClients (learned : List Command) (old new : List ClientView) (count : ℕ) : Type 0 where
   pub picture : Shown
   pub of_table : IsPictureOf picture (table_after learned)
   pub counted : count ≡ length picture.clients
-  pub shown : ShowBelow ShowsClient views picture.clients (length views)
+  pub shown : ShowBelow ShowsClient new picture.clients (length new)
+  pub rest : drop (length picture.clients) new ≡ drop (length picture.clients) old

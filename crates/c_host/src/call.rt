@@ -44,8 +44,9 @@ impl DueCall {
     /// The call that is due, unless it writes more bytes than there is room for.
     pub fn of(need: &Need<'_>, written: &mut Written) -> Option<DueCall>
         ensures told { IfSome result (λ view.
-            TellsDue view written.new.bytes (call_of_need cluster_version need.now)) }
+            TellsDue view written.old.bytes written.new.bytes (call_of_need cluster_version need.now)) }
         ensures long { result ≡ None → IsTooLong (call_of_need cluster_version need.now).1 }
+        ensures untold { result ≡ None → written.new.bytes ≡ written.old.bytes }
     {
         let disk = u32::from(need.disk);
         match &need.call {
@@ -75,8 +76,9 @@ impl DueCall {
     }
 
     fn write(disk: u32, boot: Boot, at: u64, from: &[u8], written: &mut Written) -> Option<DueCall>
-        ensures told { IfSome result (λ view. TellsDue view written.new.bytes (disk, Write boot.number at from.now)) }
+        ensures told { IfSome result (λ view. TellsDue view written.old.bytes written.new.bytes (disk, Write boot.number at from.now)) }
         ensures long { result ≡ None → COPY_LENGTH < length from.now }
+        ensures untold { result ≡ None → written.new.bytes ≡ written.old.bytes }
     {
         let long = from.len();
         if long > COPY_LENGTH {

@@ -110,7 +110,7 @@ impl OpenHost {
     // Inlined: else each answer would save and restore registers twice.
     #[inline(always)]
     pub fn call(&mut self, boot: u64, call: &mut DueCall, written: &mut Written) -> i32
-        ensures { CallsNext boot self.old self.new call.new written.new.bytes result }
+        ensures { CallsNext boot self.old self.new call.new written.old.bytes written.new.bytes result }
     {
         if self.core.idle() {
             *call = DueCall::none();
@@ -132,7 +132,7 @@ impl OpenHost {
         call: &mut DueCall,
         written: &mut Written,
     ) -> i32
-        ensures { GoesOn told.now row.now.bytes self.old self.new call.new written.new.bytes result }
+        ensures { GoesOn told.now row.now.bytes self.old self.new call.new written.old.bytes written.new.bytes result }
     {
         match self.hear(told, row) {
             Ok(()) => self.call(told.boot, call, written),
@@ -179,7 +179,7 @@ impl OpenHost {
     }
 
     fn due(&self, call: &mut DueCall, written: &mut Written) -> i32
-        ensures { TellsNext self.now call.new written.new.bytes result }
+        ensures { TellsNext self.now call.new written.old.bytes written.new.bytes result }
     {
         if self.core.idle() {
             *call = DueCall::none();
@@ -201,7 +201,7 @@ impl OpenHost {
 
 /// Tells a call, unless it writes more bytes than there is room for.
 fn tell(need: &Need<'_>, call: &mut DueCall, written: &mut Written) -> i32
-    ensures { TellsCallDue (call_of_need cluster_version need.now) call.new written.new.bytes result }
+    ensures { TellsCallDue (call_of_need cluster_version need.now) call.new written.old.bytes written.new.bytes result }
 {
     match DueCall::of(need, written) {
         Some(due) => {

@@ -1,4 +1,4 @@
-ghost use Rattle.std.specs.Prelude.{◌≡◌, ◌⊎◌, ℕ, IfOk, IfErr, MatchOption, length};
+ghost use Rattle.std.specs.Prelude.{◌≡◌, ◌⊎◌, ℕ, IfOk, IfErr, MatchOption, drop, length};
 ghost use Rattle.lock_command.specs.declared.record.LockRecord.{LockRecord};
 ghost use Rattle.lock_table.specs.Apply.{table_after};
 ghost use Rattle.lock_table.specs.Picture.{IsPictureOf};
@@ -30,6 +30,7 @@ impl OpenHost {
     pub fn lock(&self, alloc: Global, lock: u32, into: &mut LockView) -> Result<(), Fault>
         ensures found { IfOk result (λ _. FindsLock self.now.core.prefix lock into.new) }
         ensures lacks { IfErr result (λ fault. ((fault ≡ Fault.NoSuchLock) × LacksLock self.now.core.prefix lock) ⊎ (fault ≡ Fault.NoMemory)) }
+        ensures unshown { IfErr result (λ _. into.new ≡ into.old) }
     {
         let picture = self.picture(alloc)?;
         match place_of(picture.locks(), lock) {
@@ -45,6 +46,7 @@ impl OpenHost {
     pub fn value(&self, alloc: Global, lock: u32, into: &mut ValueView) -> Result<(), Fault>
         ensures found { IfOk result (λ _. FindsValue self.now.core.prefix lock into.new) }
         ensures lacks { IfErr result (λ fault. ((fault ≡ Fault.NoSuchLock) × LacksLock self.now.core.prefix lock) ⊎ (fault ≡ Fault.NoMemory)) }
+        ensures unshown { IfErr result (λ _. into.new ≡ into.old) }
     {
         let picture = self.picture(alloc)?;
         match place_of(picture.locks(), lock) {
@@ -63,8 +65,9 @@ impl OpenHost {
         into: &mut [LockView],
         count: &mut usize,
     ) -> Result<(), Fault>
-        ensures shown { IfOk result (λ _. ShowsLocks self.now.core.prefix into.new count.new) }
+        ensures shown { IfOk result (λ _. ShowsLocks self.now.core.prefix into.old into.new count.new) }
         ensures fault { IfErr result (λ fault. fault ≡ Fault.NoMemory) }
+        ensures unshown { IfErr result (λ _. (into.new ≡ into.old) × (count.new ≡ count.old)) }
     {
         let picture = self.picture(alloc)?;
         *count = picture.locks().len();
@@ -79,8 +82,9 @@ impl OpenHost {
         into: &mut [ClientView],
         count: &mut usize,
     ) -> Result<(), Fault>
-        ensures shown { IfOk result (λ _. ShowsClients self.now.core.prefix into.new count.new) }
+        ensures shown { IfOk result (λ _. ShowsClients self.now.core.prefix into.old into.new count.new) }
         ensures fault { IfErr result (λ fault. fault ≡ Fault.NoMemory) }
+        ensures unshown { IfErr result (λ _. (into.new ≡ into.old) × (count.new ≡ count.old)) }
     {
         let picture = self.picture(alloc)?;
         *count = picture.clients().len();
@@ -92,6 +96,7 @@ impl OpenHost {
     pub fn text(&self, alloc: Global, into: &mut [u8], length: &mut usize) -> Result<(), Fault>
         ensures shown { IfOk result (λ _. ShowsText self.now.core.prefix into.old into.new length.new) }
         ensures fault { IfErr result (λ fault. fault ≡ Fault.NoMemory) }
+        ensures unshown { IfErr result (λ _. (into.new ≡ into.old) × (length.new ≡ length.old)) }
     {
         let picture = self.picture(alloc)?;
         let mut text = Vec::new(alloc);
@@ -127,7 +132,8 @@ fn place_of(locks: &[LockRecord], lock: u32) -> Option<usize>
 
 /// Shows locks, as many as there is room for.
 fn show_locks(locks: &[LockRecord], into: &mut [LockView])
-    ensures { ShowBelow ShowsLock into.new locks.now (length into.new) }
+    ensures shown { ShowBelow ShowsLock into.new locks.now (length into.new) }
+    ensures rest { drop (length locks.now) into.new ≡ drop (length locks.now) into.old }
 {
     for place in 0..locks.len().min(into.len()) {
         into[place] = LockView::of(&locks[place]);
@@ -136,7 +142,8 @@ fn show_locks(locks: &[LockRecord], into: &mut [LockView])
 
 /// Shows clients, as many as there is room for.
 fn show_clients(clients: &[KnownClient], into: &mut [ClientView])
-    ensures { ShowBelow ShowsClient into.new clients.now (length into.new) }
+    ensures shown { ShowBelow ShowsClient into.new clients.now (length into.new) }
+    ensures rest { drop (length clients.now) into.new ≡ drop (length clients.now) into.old }
 {
     for place in 0..clients.len().min(into.len()) {
         into[place] = ClientView::of(&clients[place]);

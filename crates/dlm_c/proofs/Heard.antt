@@ -20,21 +20,21 @@ GoesOn old new = IsOnSame old new × StaysAsked old new
 
 pub keeps : (old new : Claim) → Keeps old new → GoesOn old new
 keeps old new k = (
-  record { host = k.host; shares = k.shares; name = k.name; mode = k.mode; request = k.request; over = k.over },
+  record { host = k.host; shares = k.shares; name = k.name; mode = k.mode; request = k.request; over = k.over; paced = k.paced },
   record { lock = k.lock; asked = k.asked; unasked = k.unasked },
 )
 
 -- where the images that were opened last are others
 pub opens : (old new : Claim) (newest : ℕ) → Keeps (record old { newest = newest }) new → GoesOn old new
 opens old new newest k = (
-  record { host = k.host; shares = k.shares; name = k.name; mode = k.mode; request = k.request; over = k.over },
+  record { host = k.host; shares = k.shares; name = k.name; mode = k.mode; request = k.request; over = k.over; paced = k.paced },
   record { lock = k.lock; asked = k.asked; unasked = k.unasked },
 )
 
 -- where a slot was told
 pub tells : (old new : Claim) (slot : Option ℕ) → Keeps old (record new { slot = slot }) → GoesOn old new
 tells old new slot k = (
-  record { host = k.host; shares = k.shares; name = k.name; mode = k.mode; request = k.request; over = k.over },
+  record { host = k.host; shares = k.shares; name = k.name; mode = k.mode; request = k.request; over = k.over; paced = k.paced },
   record { lock = k.lock; asked = k.asked; unasked = k.unasked },
 )
 

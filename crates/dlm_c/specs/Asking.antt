@@ -63,6 +63,7 @@ KeepsNew numbers name mode waits = KeepsOne (IsNewOf numbers name mode waits) ((
 -- The claim is to this lock, which a former run left in these images. No operation on it is under way.
 pub record IsLeftClaim (asking number : ℕ) (bytes : List ℕ) (wanted : Mode) (images : ℕ) (c : Claim) : Type 0 where
   pub host : c.host ≡ asking
+  pub shares : c.shares ≡ false
   pub lock : c.lock ≡ number
   pub name : c.name ≡ bytes
   pub mode : c.mode ≡ wanted
@@ -124,7 +125,7 @@ pub record BeginsGoal (numbers : AskerNumbers) (number : ℕ) (bytes : List ℕ)
   pub stands : StandsFor goal old.standing new.standing
   pub value : StoresFor goal (stored number bytes) old new
   pub only : OnlyBegins goal (asker_of numbers) old new
-  pub keeps : Keeps (record old { over = new.over }) new
+  pub keeps : Keeps (record old { over = new.over; pace = new.pace }) new
   pub release : KeepsRelease old new
 
 -- there is no such asker, or nothing has that number, or a release with another value may be in the log

@@ -105,6 +105,7 @@ pub record ShowsClaim (view : ClaimView) (c : Claim) : Type 0 where
   pub lock : view.lock ≡ c.lock
   pub slot : view.slot ≡ slot_number c.slot
   pub standing : view.standing ≡ standing_number c.standing
+  pub unused : view.unused ≡ 0
 
 -- WHAT IS HEARD
 
@@ -187,9 +188,10 @@ pub record Rests (old new : Claim) : Type 0 where
   pub keeps : Keeps old new
   pub release : KeepsRelease old new
 
--- the failure of this number, if one has it
-abbrev pub IsFailureOf : ℤ → Failure → Type 0
-IsFailureOf status failed = (known : Failure) → failure_number known ≡ status → failed ≡ known
+-- The failure of this number. Where none has it, the library is in no state that it should be in.
+pub record IsFailureOf (status : ℤ) (failed : Failure) : Type 0 where
+  pub known : (known : Failure) → failure_number known ≡ status → failed ≡ known
+  pub numbered : (failure_number failed ≡ status) ⊎ (failed ≡ failure.Broken)
 
 -- What C says where no host is open: 2 that a pause is over, 3 that a sign of life cannot be had, else why the folder could not be opened.
 abbrev pub HearsAlone : ℕ → ℤ → Claim → Claim → Type 0

@@ -81,10 +81,15 @@ pub record HasPassedAll (n : CleanupNumbers) (ours : List ℕ) (learned : List C
   pub of_table : IsPictureOf picture (table_after learned)
   pub all : AllPassed picture cleanup.host cleanup.kind ours cleanup.from
 
-abbrev pub TellsNextLeft : CleanupNumbers → List ℕ → List Command → LockView → ℤ → Type 0
-TellsNextLeft n ours learned view status =
-    ((status ≡ done) × ShowsNext n ours learned view) ⊎ ((status ≡ nothing_due) × HasPassedAll n ours learned) ⊎ (status ≡ no_memory)
-    ⊎ ((status ≡ bad_argument) × IsNoCleanup n)
+-- no lock is shown, and why
+abbrev pub TellsNoneLeft : CleanupNumbers → List ℕ → List Command → ℤ → Type 0
+TellsNoneLeft n ours learned status =
+    ((status ≡ nothing_due) × HasPassedAll n ours learned) ⊎ (status ≡ no_memory) ⊎ ((status ≡ bad_argument) × IsNoCleanup n)
+
+-- The lock is shown; or none is, and the view is as it was.
+abbrev pub TellsNextLeft : CleanupNumbers → List ℕ → List Command → (old new : LockView) → ℤ → Type 0
+TellsNextLeft n ours learned old new status =
+    ((status ≡ done) × ShowsNext n ours learned new) ⊎ (TellsNoneLeft n ours learned status × (new ≡ old))
 
 -- the lock counts as released, or as one that stays for this reason
 abbrev pub settled : CleanupNumbers → ℕ → Option Why → CleanupNumbers

@@ -13,13 +13,15 @@ IsOpenedIn images number None told = ⊥
 IsOpenedIn images number (Some new) told = IsOpened images number new told
 
 -- Nothing is changed, and C is told why, and of which image.
-pub record IsNotOpened (images : Images) (number : ℕ) (old new : Option OpenHost) (status disk : ℤ) : Type 0 where
+pub record IsNotOpened (images : Images) (number : ℕ) (old new : Option OpenHost) (before after : Opened) (status disk : ℤ) : Type 0 where
   pub fault : Fault
   pub may : MayRefuse images number old fault
   pub same : new ≡ old
+  pub untold : after ≡ before
   pub told : status ≡ fault_number fault
   pub image : disk ≡ disk_number fault
 
-abbrev pub OpensIn : Images → ℕ → Option OpenHost → Option OpenHost → Opened → ℤ → ℤ → Type 0
-OpensIn images number old new told status disk =
-    ((status ≡ done) × (disk ≡ no_disk) × (old ≡ None) × IsOpenedIn images number new told) ⊎ IsNotOpened images number old new status disk
+abbrev pub OpensIn : Images → ℕ → (old new : Option OpenHost) → (before after : Opened) → (status disk : ℤ) → Type 0
+OpensIn images number old new before after status disk =
+    ((status ≡ done) × (disk ≡ no_disk) × (old ≡ None) × IsOpenedIn images number new after)
+    ⊎ IsNotOpened images number old new before after status disk

@@ -6,16 +6,22 @@ use Rattle.c_host.specs.declared.view.ValueView.{ValueView}
 use Rattle.c_host.specs.Numbers.{done, no_such_lock, no_memory}
 use Rattle.c_host.specs.Views.{FindsLock, FindsValue, LacksLock}
 
--- The lock is shown, or the table has none of this number, or memory was refused.
-abbrev pub TellsLock : List Command → ℕ → LockView → ℤ → Type 0
-TellsLock learned number view status =
-    ((status ≡ done) × FindsLock learned number view) ⊎ ((status ≡ no_such_lock) × LacksLock learned number) ⊎ (status ≡ no_memory)
+-- The table has no lock of this number, or memory was refused.
+abbrev pub TellsNoLock : List Command → ℕ → ℤ → Type 0
+TellsNoLock learned number status = ((status ≡ no_such_lock) × LacksLock learned number) ⊎ (status ≡ no_memory)
 
--- Its value is shown, or the table has no such lock, or memory was refused.
-abbrev pub TellsValue : List Command → ℕ → ValueView → ℤ → Type 0
-TellsValue learned number view status =
-    ((status ≡ done) × FindsValue learned number view) ⊎ ((status ≡ no_such_lock) × LacksLock learned number) ⊎ (status ≡ no_memory)
+-- The lock is shown; or it is not, and why is told, and the view is as it was.
+abbrev pub TellsLock : List Command → ℕ → (old new : LockView) → ℤ → Type 0
+TellsLock learned number old new status = ((status ≡ done) × FindsLock learned number new) ⊎ (TellsNoLock learned number status × (new ≡ old))
 
--- This is shown, or memory was refused.
-abbrev pub Tells : Type 0 → ℤ → Type 0
-Tells IsShown status = ((status ≡ done) × IsShown) ⊎ (status ≡ no_memory)
+-- The same of its value.
+abbrev pub TellsValue : List Command → ℕ → (old new : ValueView) → ℤ → Type 0
+TellsValue learned number old new status = ((status ≡ done) × FindsValue learned number new) ⊎ (TellsNoLock learned number status × (new ≡ old))
+
+-- nothing is put into the buffer, and C is told that there is nothing
+abbrev pub ShowsNothing : {T : Type 0} → (old new : T) → (count : ℕ) → Type 0
+ShowsNothing old new count = (new ≡ old) × (count ≡ 0)
+
+-- This is shown; or memory was refused, and nothing is.
+abbrev pub Tells : (IsShown IsNothing : Type 0) → ℤ → Type 0
+Tells IsShown IsNothing status = ((status ≡ done) × IsShown) ⊎ ((status ≡ no_memory) × IsNothing)

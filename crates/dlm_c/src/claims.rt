@@ -167,8 +167,9 @@ fn stop(claim: &mut Claim, told: bool)
 /// Tells what is to be done next.
 #[unsafe(no_mangle)]
 pub extern "C" fn dlm_c_order(alloc: Global, handle: &mut ClaimHandle, into: &mut DueOrder) -> i32
-    ensures { InHandle (λ old new. (new ≡ old) × (result ≡ done) × (into.new ≡ told_order (order_of old.step old.pace.outrun)))
+    ensures tells { InHandle (λ old new. (new ≡ old) × (result ≡ done) × (into.new ≡ told_order (order_of old.step old.pace.outrun)))
         handle.old.held.value handle.new.held.value result }
+    ensures none { handle.old.held.value ≡ None → into.new ≡ into.old }
 {
     let Some(claim) = handle.take(alloc) else {
         return CLOSED;
@@ -385,7 +386,8 @@ pub struct ClaimView {
 /// Shows the claim.
 #[unsafe(no_mangle)]
 pub extern "C" fn dlm_c_show(alloc: Global, handle: &mut ClaimHandle, into: &mut ClaimView) -> i32
-    ensures { InHandle (λ old new. (new ≡ old) × (result ≡ done) × ShowsClaim into.new old) handle.old.held.value handle.new.held.value result }
+    ensures shows { InHandle (λ old new. (new ≡ old) × (result ≡ done) × ShowsClaim into.new old) handle.old.held.value handle.new.held.value result }
+    ensures none { handle.old.held.value ≡ None → into.new ≡ into.old }
 {
     let Some(claim) = handle.take(alloc) else {
         return CLOSED;

@@ -91,8 +91,9 @@ pub extern "C" fn dlm_c_next_left(
     ours: &[u32],
     into: &mut LockView,
 ) -> i32
-    ensures { InHandle (λ old new. (new ≡ old) × TellsNextLeft numbers.now ours.now old.core.prefix into.new result)
+    ensures tells { InHandle (λ old new. (new ≡ old) × TellsNextLeft numbers.now ours.now old.core.prefix into.old into.new result)
         handle.old.held.value handle.new.held.value result }
+    ensures none { handle.old.held.value ≡ None → into.new ≡ into.old }
 {
     let Some(host) = handle.take(alloc) else {
         return CLOSED;
@@ -109,7 +110,7 @@ fn next_left(
     ours: &[u32],
     into: &mut LockView,
 ) -> i32
-    ensures { TellsNextLeft numbers.now ours.now host.now.core.prefix into.new result }
+    ensures { TellsNextLeft numbers.now ours.now host.now.core.prefix into.old into.new result }
 {
     let Some(cleanup) = numbers.cleanup() else {
         return BAD_ARGUMENT;

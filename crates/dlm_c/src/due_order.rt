@@ -1,4 +1,4 @@
-ghost use Rattle.std.specs.Prelude.{◌≡◌};
+ghost use Rattle.std.specs.Prelude.{◌≡◌, ◌⊎◌};
 ghost use Rattle.dlm_c.specs.Claims.{ended_as, failure_number, of_kind, told_order, why_number};
 
 use crate::marking::is_waited_for;
@@ -139,9 +139,10 @@ fn failure_number(failure: Failure) -> i32
     }
 }
 
-/// The failure of this number.
+/// The failure of this number; `Broken`, if none has it.
 pub fn failure_of(number: i32) -> Failure
-    ensures { (known : Failure) → failure_number known ≡ number → result ≡ known }
+    ensures known { (known : Failure) → failure_number known ≡ number → result ≡ known }
+    ensures numbered { (failure_number result ≡ number) ⊎ (result ≡ Failure.Broken) }
 {
     match number {
         6 => Failure::Outrun,

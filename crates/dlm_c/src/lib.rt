@@ -8,12 +8,12 @@ ghost use Rattle.c_host.specs.Calls.{no_call};
 ghost use Rattle.c_host.specs.Headers.{LaysOut};
 ghost use Rattle.c_host.specs.Images.{MayRefuse};
 ghost use Rattle.c_host.specs.Numbers.{done, closed, fault_number};
-ghost use Rattle.c_host.specs.Steps.{Submits, Recovers, Looks, Marks, CallsNext, GoesOn};
+ghost use Rattle.c_host.specs.Steps.{Submits, Recovers, Looks, Marks, CallsNext, GoesOn, TellsNoCall};
 ghost use Rattle.c_host.specs.Told.{answer_told, status_told};
 ghost use Rattle.c_host.specs.Views.{ShowsHost, ShowsLocks, ShowsClients, ShowsText};
 ghost use Rattle.dlm_c.specs.Handles.{InHandle};
 ghost use Rattle.dlm_c.specs.Opening.{IsOpenedIn, OpensIn};
-ghost use Rattle.dlm_c.specs.Showing.{TellsLock, TellsValue, Tells};
+ghost use Rattle.dlm_c.specs.Showing.{ShowsNothing, TellsLock, TellsValue, Tells};
 
 mod asker;
 mod claim_handle;
@@ -70,7 +70,7 @@ pub extern "C" fn dlm_c_open(
     told: &mut Opened,
     disk: &mut i32,
 ) -> i32
-    ensures { OpensIn images.now number handle.old.held.value handle.new.held.value told.new result disk.new }
+    ensures { OpensIn images.now number handle.old.held.value handle.new.held.value told.old told.new result disk.new }
 {
     *disk = -1;
     match open(alloc, images, number, handle, told) {
@@ -91,7 +91,7 @@ fn open(
 ) -> Result<(), Fault>
     ensures opened { IfOk result (λ _. (handle.old.held.value ≡ None) × IsOpenedIn images.now number handle.new.held.value told.new) }
     ensures refused { IfErr result (MayRefuse images.now number handle.old.held.value) }
-    ensures unchanged { IfErr result (λ _. handle.new.held.value ≡ handle.old.held.value) }
+    ensures unchanged { IfErr result (λ _. (handle.new.held.value ≡ handle.old.held.value) × (told.new ≡ told.old)) }
 {
     if let Some(host) = handle.take(alloc) {
         handle.keep(host);
@@ -183,8 +183,8 @@ pub extern "C" fn dlm_c_call(
     call: &mut DueCall,
     written: &mut Written,
 ) -> i32
-    ensures next { InHandle (λ old new. CallsNext boot old new call.new written.new.bytes result) handle.old.held.value handle.new.held.value result }
-    ensures none { handle.old.held.value ≡ None → call.new ≡ no_call }
+    ensures next { InHandle (λ old new. CallsNext boot old new call.new written.old.bytes written.new.bytes result) handle.old.held.value handle.new.held.value result }
+    ensures none { handle.old.held.value ≡ None → TellsNoCall call.new written.old.bytes written.new.bytes }
 {
     let Some(mut host) = handle.take(alloc) else {
         return no_host(call);
@@ -204,9 +204,9 @@ pub extern "C" fn dlm_c_next(
     call: &mut DueCall,
     written: &mut Written,
 ) -> i32
-    ensures next { InHandle (λ old new. GoesOn told.now row.now.bytes old new call.new written.new.bytes result)
+    ensures next { InHandle (λ old new. GoesOn told.now row.now.bytes old new call.new written.old.bytes written.new.bytes result)
         handle.old.held.value handle.new.held.value result }
-    ensures none { handle.old.held.value ≡ None → call.new ≡ no_call }
+    ensures none { handle.old.held.value ≡ None → TellsNoCall call.new written.old.bytes written.new.bytes }
 {
     let Some(mut host) = handle.take(alloc) else {
         return no_host(call);
@@ -228,8 +228,9 @@ fn no_host(call: &mut DueCall) -> i32
 /// Tells how the last operation ended.
 #[unsafe(no_mangle)]
 pub extern "C" fn dlm_c_answer(alloc: Global, handle: &mut Handle, answer: &mut Answer) -> i32
-    ensures { InHandle (λ old new. (new ≡ old) × (answer.new ≡ answer_told old.core.said) × (result ≡ status_told old.core.said))
+    ensures answers { InHandle (λ old new. (new ≡ old) × (answer.new ≡ answer_told old.core.said) × (result ≡ status_told old.core.said))
         handle.old.held.value handle.new.held.value result }
+    ensures none { handle.old.held.value ≡ None → answer.new ≡ answer.old }
 {
     let Some(host) = handle.take(alloc) else {
         return CLOSED;
@@ -242,7 +243,8 @@ pub extern "C" fn dlm_c_answer(alloc: Global, handle: &mut Handle, answer: &mut 
 /// Shows the host.
 #[unsafe(no_mangle)]
 pub extern "C" fn dlm_c_host(alloc: Global, handle: &mut Handle, into: &mut HostView) -> i32
-    ensures { InHandle (λ old new. (new ≡ old) × (result ≡ done) × ShowsHost into.new old) handle.old.held.value handle.new.held.value result }
+    ensures shows { InHandle (λ old new. (new ≡ old) × (result ≡ done) × ShowsHost into.new old) handle.old.held.value handle.new.held.value result }
+    ensures none { handle.old.held.value ≡ None → into.new ≡ into.old }
 {
     let Some(host) = handle.take(alloc) else {
         return CLOSED;
@@ -260,8 +262,9 @@ pub extern "C" fn dlm_c_lock(
     lock: u32,
     into: &mut LockView,
 ) -> i32
-    ensures { InHandle (λ old new. (new ≡ old) × TellsLock old.core.prefix lock into.new result)
+    ensures tells { InHandle (λ old new. (new ≡ old) × TellsLock old.core.prefix lock into.old into.new result)
         handle.old.held.value handle.new.held.value result }
+    ensures none { handle.old.held.value ≡ None → into.new ≡ into.old }
 {
     let Some(host) = handle.take(alloc) else {
         return CLOSED;
@@ -279,8 +282,9 @@ pub extern "C" fn dlm_c_value(
     lock: u32,
     into: &mut ValueView,
 ) -> i32
-    ensures { InHandle (λ old new. (new ≡ old) × TellsValue old.core.prefix lock into.new result)
+    ensures tells { InHandle (λ old new. (new ≡ old) × TellsValue old.core.prefix lock into.old into.new result)
         handle.old.held.value handle.new.held.value result }
+    ensures none { handle.old.held.value ≡ None → into.new ≡ into.old }
 {
     let Some(host) = handle.take(alloc) else {
         return CLOSED;
@@ -298,8 +302,9 @@ pub extern "C" fn dlm_c_locks(
     into: &mut [LockView],
     count: &mut usize,
 ) -> i32
-    ensures { InHandle (λ old new. (new ≡ old) × Tells (ShowsLocks old.core.prefix into.new count.new) result)
+    ensures tells { InHandle (λ old new. (new ≡ old) × Tells (ShowsLocks old.core.prefix into.old into.new count.new) (ShowsNothing into.old into.new count.new) result)
         handle.old.held.value handle.new.held.value result }
+    ensures none { handle.old.held.value ≡ None → ShowsNothing into.old into.new count.new }
 {
     *count = 0;
     let Some(host) = handle.take(alloc) else {
@@ -318,8 +323,9 @@ pub extern "C" fn dlm_c_clients(
     into: &mut [ClientView],
     count: &mut usize,
 ) -> i32
-    ensures { InHandle (λ old new. (new ≡ old) × Tells (ShowsClients old.core.prefix into.new count.new) result)
+    ensures tells { InHandle (λ old new. (new ≡ old) × Tells (ShowsClients old.core.prefix into.old into.new count.new) (ShowsNothing into.old into.new count.new) result)
         handle.old.held.value handle.new.held.value result }
+    ensures none { handle.old.held.value ≡ None → ShowsNothing into.old into.new count.new }
 {
     *count = 0;
     let Some(host) = handle.take(alloc) else {
@@ -338,8 +344,9 @@ pub extern "C" fn dlm_c_text(
     into: &mut [u8],
     length: &mut usize,
 ) -> i32
-    ensures { InHandle (λ old new. (new ≡ old) × Tells (ShowsText old.core.prefix into.old into.new length.new) result)
+    ensures tells { InHandle (λ old new. (new ≡ old) × Tells (ShowsText old.core.prefix into.old into.new length.new) (ShowsNothing into.old into.new length.new) result)
         handle.old.held.value handle.new.held.value result }
+    ensures none { handle.old.held.value ≡ None → ShowsNothing into.old into.new length.new }
 {
     *length = 0;
     let Some(host) = handle.take(alloc) else {

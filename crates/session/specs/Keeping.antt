@@ -1,12 +1,13 @@
 -- What an operation on a claim leaves as it is.
 use Rattle.std.specs.Prelude.{◌≡◌, ◌≤◌, ◌⊎◌, ℕ, None, Some}
 use Rattle.session.specs.Outcomes.{IsOut}
+use Rattle.session.specs.Pauses.{KeepsPace}
 use Rattle.session.specs.declared.claim.Claim.{Claim}
 use Rattle.session.specs.declared.claim.Standing.TheVariants.{Unasked}
 use Rattle.session.specs.declared.learned.Learned.{Learned}
 
 -- The lock is wanted on the same name, in the same mode, through the same host. The session's last request is no lower. The operation is to end soon for the
--- same reason, or not yet.
+-- same reason, or not yet, and pauses as long as before.
 pub record IsOnSame (old new : Claim) : Type 0 where
   pub host : new.host ≡ old.host
   pub shares : new.shares ≡ old.shares
@@ -14,6 +15,7 @@ pub record IsOnSame (old new : Claim) : Type 0 where
   pub mode : new.mode ≡ old.mode
   pub request : old.request ≤ new.request
   pub over : new.over ≡ old.over
+  pub paced : KeepsPace old new
 
 -- It is also the same lock, asked for by the same command. What was asked for stays asked for. The images count as others only if they are those that were
 -- opened last; and the slot of that command is the same, unless it is one of the images before.
@@ -24,6 +26,7 @@ pub record Keeps (old new : Claim) : Type 0 where
   pub mode : new.mode ≡ old.mode
   pub request : old.request ≤ new.request
   pub over : new.over ≡ old.over
+  pub paced : KeepsPace old new
   pub lock : new.lock ≡ old.lock
   pub asked : new.asked ≡ old.asked
   pub slot : (new.slot ≡ old.slot) ⊎ (new.slot ≡ None)

@@ -7,3 +7,4 @@ pub mod Moves
 pub mod Numbers
 pub mod Orders
 pub mod Outcomes
+pub mod Pauses

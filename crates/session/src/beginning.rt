@@ -1,5 +1,5 @@
 ghost use Rattle.std.specs.Prelude.{◌≡◌, ◌≤◌, ◌⊎◌, IsTrue, None, Some, false, true};
-ghost use Rattle.session.specs.Beginnings.{AsksAs, Begins, IsAnotherValue, IsNewClaim, OnlyBegins};
+ghost use Rattle.session.specs.Beginnings.{AsksAs, Begins, IsAnotherValue, IsNewClaim, OnlyBegins, first_pace};
 ghost use Rattle.session.specs.Bounds.{IsPause, is_leaving, orders_left};
 ghost use Rattle.session.specs.Keeping.{Keeps, KeepsRelease};
 ghost use Rattle.session.specs.Moves.{GoesOn, KeepsGoal, KeepsValue};
@@ -58,7 +58,7 @@ impl Claim {
     pub fn left(host: HostNumber, lock: LockNumber, name: LockName, mode: Mode, set: u64) -> Claim
         ensures lock { result.lock ≡ lock }
         ensures standing { result.standing ≡ Standing.Left }
-        ensures of { (result.host ≡ host) × (result.name ≡ name) × (result.mode ≡ mode) × (result.set ≡ set) }
+        ensures of { (result.host ≡ host) × (result.shares ≡ false) × (result.name ≡ name) × (result.mode ≡ mode) × (result.set ≡ set) }
         ensures idle { result.step ≡ Step.Ended (Outcome.Failed Why.Waits) }
         ensures unknown { (result.asked ≡ None) × (result.slot ≡ None) × (result.release ≡ None) }
         ensures nothing { (result.value ≡ None) × (result.over ≡ None) × (result.since ≡ 0) × (result.newest ≡ 0) × (result.request ≡ 0) }
@@ -86,7 +86,7 @@ impl Claim {
         ensures opens { self.new.step ≡ Step.Opening }
         ensures stands { self.new.standing ≡ self.old.standing }
         ensures value { self.new.value ≡ self.old.value }
-        ensures keeps { Keeps (record self.old { over = None }) self.new }
+        ensures keeps { Keeps (record self.old { over = None; pace = first_pace asker.now.interval }) self.new }
         ensures release { KeepsRelease self.old self.new }
     {
         self.begin(asker, Goal::Take { waits });
@@ -103,7 +103,7 @@ impl Claim {
         ensures looks { is_leaving self.new.standing ≡ false }
         ensures held { is_leaving self.old.standing ≡ true → self.new.standing ≡ Standing.Held }
         ensures value { self.new.value ≡ self.old.value }
-        ensures keeps { Keeps (record self.old { over = None }) self.new }
+        ensures keeps { Keeps (record self.old { over = None; pace = first_pace asker.now.interval }) self.new }
         ensures release { KeepsRelease self.old self.new }
     {
         self.begin(asker, Goal::Check);
@@ -124,7 +124,7 @@ impl Claim {
         ensures opens { IsTrue result → self.new.step ≡ Step.Opening }
         ensures value { IsTrue result → self.new.value ≡ value }
         ensures same { IsTrue result → (self.old.release ≡ None) ⊎ (self.old.value ≡ value) }
-        ensures keeps { Keeps (record self.old { over = self.new.over }) self.new }
+        ensures keeps { Keeps (record self.old { over = self.new.over; pace = self.new.pace }) self.new }
         ensures release { KeepsRelease self.old self.new }
     {
         if self.release.is_some() && self.value != value {
@@ -145,7 +145,7 @@ impl Claim {
         ensures leaves { self.new.standing ≡ Standing.Leaving }
         ensures opens { self.new.step ≡ Step.Opening }
         ensures value { self.old.release ≡ None → self.new.value ≡ None }
-        ensures keeps { Keeps (record self.old { over = None }) self.new }
+        ensures keeps { Keeps (record self.old { over = None; pace = first_pace asker.now.interval }) self.new }
         ensures release { KeepsRelease self.old self.new }
     {
         self.begin(asker, Goal::GiveUp(Why::Gone));
@@ -160,7 +160,7 @@ impl Claim {
         ensures step { self.new.step ≡ self.old.step }
         ensures stands { self.new.standing ≡ self.old.standing }
         ensures value { self.new.value ≡ self.old.value }
-        ensures keeps { Keeps (record self.old { over = None }) self.new }
+        ensures keeps { Keeps (record self.old { over = None; pace = first_pace asker.now.interval }) self.new }
         ensures release { KeepsRelease self.old self.new }
     {
         self.goal = goal;

@@ -1,4 +1,4 @@
-ghost use Rattle.std.specs.Prelude.{◌≡◌, ◌+◌, ◌*◌, ◌%◌, ◌≤◌, ◌↔◌, ◌⊎◌, IfSome, IsTrue, None, min};
+ghost use Rattle.std.specs.Prelude.{◌≡◌, ◌≢◌, ◌+◌, ◌-◌, ◌*◌, ◌%◌, ◌^◌, ◌<◌, ◌≤◌, ◌↔◌, IfSome, IsTrue, None, min};
 ghost use Rattle.session.specs.Beginnings.{first_pace};
 
 use crate::outcome::Failure;
@@ -51,9 +51,10 @@ impl Pace {
     pub fn next_pause(&mut self) -> u16
         ensures pause { result ≡ self.old.pause }
         ensures within { self.new.pause ≤ self.old.interval }
-        ensures grows { (self.new.pause ≡ 2 * self.old.pause) ⊎ (self.new.pause ≡ self.old.interval) }
-        ensures interval { self.new.interval ≡ self.old.interval }
-        ensures quiet { self.old.quiet ≤ self.new.quiet }
+        ensures doubles { 2 * self.old.pause + 1 < self.old.interval → self.new.pause ≡ 2 * self.old.pause }
+        ensures longest { self.old.interval ≤ 2 * self.old.pause + 1 → self.new.pause ≡ self.old.interval }
+        ensures quiet { self.new.quiet ≡ min (2 ^ 32 - 1) (self.old.quiet + self.old.pause) }
+        ensures rest { self.new ≡ record self.old { quiet = self.new.quiet; pause = self.new.pause } }
     {
         let pause = self.pause;
         self.quiet = self.quiet.saturating_add(u32::from(pause));
@@ -70,6 +71,7 @@ impl Pace {
         ensures pause { IfSome result (λ pause. pause ≡ LONG_PAUSE) }
         ensures away { IfSome result (λ pause. self.new ≡ record self.old { away = self.old.away + pause }) }
         ensures patience { result ≡ None → PATIENCE ≤ self.old.away }
+        ensures same { result ≡ None → self.new ≡ self.old }
     {
         if self.away >= PATIENCE {
             return None;
@@ -82,8 +84,9 @@ impl Pace {
     pub fn hear(&mut self, learned: usize)
         ensures away { self.new.away ≡ 0 }
         ensures learned { self.new.learned ≡ learned }
-        ensures kept { (self.new.pause ≡ self.old.pause) × (self.new.interval ≡ self.old.interval) × (self.new.outrun ≡ self.old.outrun) }
+        ensures news { self.old.learned ≢ learned → self.new.quiet ≡ 0 }
         ensures quiet { self.old.learned ≡ learned → self.new.quiet ≡ self.old.quiet }
+        ensures rest { self.new ≡ record self.old { away = self.new.away; learned = self.new.learned; quiet = self.new.quiet } }
     {
         self.away = 0;
         if learned != self.learned {

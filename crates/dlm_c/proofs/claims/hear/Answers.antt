@@ -206,7 +206,7 @@ returns-in-Some-Refused-clause-moves c =
       keeps = c.refused.ensures.keeps;
       told = c.refused.ensures.told;
     } in
-    let is : IsFailureOf (operation_number c.in-Some-Refused.refusal) c.failure_of.result = search rules in
+    let is : IsFailureOf (operation_number c.in-Some-Refused.refusal) c.failure_of.result = record { known = search rules; numbered = search rules } in
     (l, by, inr (inr (inl (search rules, rw (← c.in-Some-Refused.ensures.said, c.in-Some-Refused.field-0-is) (c.failure_of.result, is, refused)))))
 
 pub returns-in_default-answer-clause-moves : goal.returns-in_default-answer-clause-moves
@@ -243,7 +243,8 @@ returns-in-4-clause-moves c =
       told = c.refused-in-4.ensures.told;
     } in
     let is : IsFailureOf c.args.status c.failure_of-in-4.result
-    = subst (λ (status : ℤ). IsFailureOf status c.failure_of-in-4.result) (to_z-of_z w32 c.args.status c.ranges.status) c.failure_of-in-4.ensures in
+    = subst (λ (status : ℤ). IsFailureOf status c.failure_of-in-4.result) (to_z-of_z w32 c.args.status c.ranges.status)
+    (record { known = c.failure_of-in-4.ensures.known; numbered = c.failure_of-in-4.ensures.numbered }) in
     (l, by, inr (inr (inr (inl (search rules, (c.failure_of-in-4.result, is, refused))))))
 
 pub returns-in_default-clause-moves : goal.returns-in_default-clause-moves
