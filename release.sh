@@ -1,7 +1,7 @@
 #!/usr/bin/env bash
 # release.sh [FOLDER]: makes an archive that installs on another machine without Rattle's kit, and a Debian package of it, and prints their paths.
-# In it: dlm, mg-lock, dlm-shared, dlm-mount, the library for C with its examples and its package for Python, manual pages, completions, all pages of the repository
-# and what their links lead to, install.sh, SHA256SUMS, and BUILT: version, commit, what was proved with which line of `rt version`, and what was not proved.
+# In it: dlm, mg-lock, dlm-shared, dlm-mount, the library for C with its examples and its package for Python, manual pages, completions, the pages of the repository
+# for whoever uses or doubts it and what their links lead to, install.sh, SHA256SUMS, and BUILT: version, commit, what was proved with which line of `rt version`, and what was not proved.
 # A link that leads nowhere in it is refused.
 # What is not proved here is not packed: ./dlm and capi/build.sh prove and build, and are run first where something is missing.
 # Two runs on one commit make the same archive and the same package, byte for byte. Without FOLDER they go into release/.
@@ -39,8 +39,9 @@ cp -- "$top/crates/dlm/out/dlm" "$made/"{mg-lock,dlm-shared,dlm-mount} "$whole/b
 cp -- "$made/"{libmidgegalena.a,"libmidgegalena.so.$version",midgegalena.pc} "$whole/lib"
 cp -- "$top/capi/include/"*.h "$whole/include"
 cp -- "$top/"{VERSION,install.sh} "$whole"
-# What git knows of these: no output of a build and no cache is among it.
-git -C "$top" ls-files -z '*.md' 'docs/*.svg' man completions 'examples/*.dlm' 'examples/*.out' 'examples/*.err' examples/slots.sh capi/{examples,include,python} capi/src/mg-lock.c |
+# What git knows of these: no output of a build and no cache is among it. Pages for whoever changes the code stay in the clone.
+of_changes=(CONTRIBUTING.md docs/{CHANGING,DECISIONS,GATE}.md {tests,capi/tests}/README.md)
+git -C "$top" ls-files -z '*.md' 'docs/*.svg' man completions 'examples/*.dlm' 'examples/*.out' 'examples/*.err' examples/slots.sh capi/{examples,include,python} capi/src/mg-lock.c "${of_changes[@]/#/:!}" |
     tar -C "$top" --null --files-from=- -cf - | tar -C "$whole" -xf -
 "$top/tests/links.py" "$whole" > "$work/links" || fail "a link of a page leads nowhere in what was packed:"$'\n'"$(<"$work/links")"
 

@@ -3,10 +3,11 @@
 # `> ` is the same command's), and compares what they print with what stands below them. Without a page: those that have any.
 # The commands of a page are run in turn in a folder of its own, which has links to the program, crates, docs, examples and tests of
 # the top. For a manual page it is on the path, as a program that is installed; no other page may need that. Blocks of `rt` are left out.
+# A page that takes away what an earlier run left is run twice. What a page leaves git has to pass over, since it is run in clones, of which releases are made.
 set -uo pipefail
 
 source "$(dirname -- "$(readlink -f -- "${BASH_SOURCE[0]}")")/../tests/lib.sh"
-[[ $# -gt 0 ]] || set -- "$top"/{README,docs/TUTORIAL,docs/OPERATIONS,docs/SCRIPTS,crates/dlm/README}.md "$top/man/dlm.1"
+[[ $# -gt 0 ]] || set -- "$top"/{docs/TUTORIAL,docs/OPERATIONS,docs/SCRIPTS,crates/dlm/README}.md "$top/man/dlm.1"
 
 # The first run builds the program, if it has to.
 "$top/dlm" run /dev/null >/dev/null 2>&1
@@ -47,6 +48,18 @@ mkdir -- "$work/none"
 printf '#!/bin/sh\necho "dlm: not found" >&2\nexit 127\n' >"$work/none/dlm"
 chmod +x -- "$work/none/dlm"
 
+# left_over: what is in the folder beside the links, and git does not pass over at the top. Nothing where the top is no checkout.
+left_over() {
+    local path name
+    git -C "$top" rev-parse --git-dir >/dev/null 2>&1 || return
+    for path in "$work/folder"/*; do
+        name=${path##*/}
+        [[ ! $name =~ ^(dlm|crates|docs|examples|tests)$ ]] || continue
+        [[ -L $path || ! -d $path ]] || name+=/
+        git -C "$top" check-ignore -q -- "$name" || echo "$name"
+    done
+}
+
 for page in "$@"; do
     name=$(realpath --relative-to="$top" -- "$page")
     rm -rf -- "$work/folder"
@@ -56,11 +69,18 @@ for page in "$@"; do
     blocks "$page" >"$work/wanted"
     path=$work/none
     [[ $page != *.[1-8] ]] || path=$work/folder
-    (cd -- "$work/folder" && PATH=$path:$PATH run_commands) <"$work/wanted" >"$work/printed"
-    if diff -u --label "$name" --label "what is printed" "$work/wanted" "$work/printed"; then
+    runs=once
+    ! grep -q '^\$ rm -rf ' "$work/wanted" || runs=twice
+    for run in once twice; do
+        (cd -- "$work/folder" && PATH=$path:$PATH run_commands) <"$work/wanted" >"$work/printed"
+        diff -u --label "$name" --label "what is printed" "$work/wanted" "$work/printed" || { failed=$((failed + 1)); continue 2; }
+        [[ $run != "$runs" ]] || break
+    done
+    left=$(left_over)
+    if [[ -z $left ]]; then
         echo "$name: $(grep -c '^\$ ' "$work/wanted") commands, as it says"
     else
-        failed=$((failed + 1))
+        fail "$name leaves what .gitignore does not name: $left"
     fi
 done
 [[ $failed -eq 0 ]]

@@ -1,7 +1,8 @@
 #!/usr/bin/env bash
 # crates.sh: says where crates.txt names for a crate a library that none of its files cites. Each such name makes a build of all that stands above it slower.
 # Then it compares the table of docs/ARCHITECTURE.md with what each crate says of itself first, in the order of crates.txt.
-# Last it lists where a crate waits for another one of crates.txt because of one name or two: such an edge may be an accident. The list fails nothing.
+# Last it lists where a crate names another one of crates.txt because of one name or two: such an edge may be an accident. The list fails nothing.
+# It says of each whether the crate waits for the other one because of that alone. Else the other one is below one that is named, too.
 # It counts the names that the crate's files import from the other, and those that code cites by path. A module that is imported whole counts as one.
 set -euo pipefail
 
@@ -57,11 +58,24 @@ def names(crate):
     return found
 
 
+def is_below(library, crate):
+    """Whether the library is below another one that the crate names."""
+    below, left = set(), [it for it in edges[crate] if it != library]
+    while left:
+        it = left.pop()
+        if it in edges and it not in below:
+            below.add(it)
+            left += edges[it]
+    return library in below
+
+
 few = [(crate, library, told) for crate, libraries in edges.items() for had in [names(crate)] for library in libraries
        if library in edges and len(told := had.get(library, set())) < 3]
+waits = [(crate, library) for crate, library, _ in few if not is_below(library, crate)]
 for crate, library, told in few:
-    print(f"crates.txt: {crate} names {library} for {', '.join(sorted(told))}")
-print(f"crates.sh: {len(few)} of {sum(it in edges for its in edges.values() for it in its)} edges rest on fewer than three names")
+    print(f"crates.txt: {crate} {'waits for' if (crate, library) in waits else 'names'} {library} for {', '.join(sorted(told))}")
+print(f"crates.sh: {len(few)} of {sum(it in edges for its in edges.values() for it in its)} edges rest on fewer than three names, {sum(len(it[2]) == 1 for it in few)} on one; "
+      f"a crate waits because of {len(waits)} of these, {sum(len(it[2]) == 1 and (it[0], it[1]) in waits for it in few)}")
 END
 }
 

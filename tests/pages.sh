@@ -1,6 +1,6 @@
 #!/usr/bin/env bash
 # examples/pages.sh runs the commands of a page in a folder of its own: what a user keeps at the top under the same name stays as it is. And each page has folders of its own names.
-# Of the units and the crontab of the operations page it is seen that nothing takes a lock before what a machine left is released.
+# Of the units and the crontab of the operations page it is seen that nothing takes a lock before what a machine left is released. README's modes are those of the definition.
 set -uo pipefail
 
 source "$(dirname -- "$(readlink -f -- "${BASH_SOURCE[0]}")")/lib.sh"
@@ -27,6 +27,12 @@ told=$("$work/examples/pages.sh" "$work/page.md" 2>&1) || fail "the page was not
 sed 's/^zeros$/ones/' "$work/page.md" > "$work/wrong.md"
 "$work/examples/pages.sh" "$work/wrong.md" > "$work/told" && fail "a wrong page passed"
 
+# So is one that takes away what an earlier run left, and cannot be run again all the same.
+printf '```\n$ rm -rf one && mkdir one\n$ mkdir two\n```\n' > "$work/once.md"
+"$work/examples/pages.sh" "$work/once.md" > "$work/told" && fail "a page that cannot be run again passed"
+sed -i 's/mkdir two/mkdir one\/two/' "$work/once.md"
+"$work/examples/pages.sh" "$work/once.md" > "$work/told" || fail "a page that can be run again did not pass: $(<"$work/told")"
+
 twice=$(cd -- "$top" && grep -oE '^\$ .*mkdir [a-z_-]+' README.md docs/*.md crates/dlm/README.md man/dlm.1 | sed 's/^\(.*\):.* /\1 /' | sort -u | cut -d ' ' -f 2 | sort | uniq -d)
 [[ -z $twice ]] || fail "folders of two pages: $twice"
 
@@ -50,6 +56,23 @@ unordered() {
 }
 told=$(unordered "$top/docs/OPERATIONS.md")
 [[ -z $told ]] || fail "operations: $told"
+
+# The table of modes in README: which others may have beside each.
+pairs=$(sed -n 's/^is_conflicting_pair \([A-Z][a-zA-Z]*\) \([A-Z][a-zA-Z]*\) = true$/\1 \2/p' "$top/crates/lock_command/specs/Mode.antt" |
+    sed 's/ConcurrentRead/CR/g; s/ConcurrentWrite/CW/g; s/ProtectedRead/PR/g; s/ProtectedWrite/PW/g; s/Exclusive/EX/g; s/Null/NL/g')
+modes=(NL CR CW PR PW EX)
+for mode in "${modes[@]}"; do
+    beside=() against=()
+    for other in "${modes[@]}"; do
+        if grep -qxe "$mode $other" -e "$other $mode" <<< "$pairs"; then against+=("$other"); else beside+=("$other"); fi
+    done
+    case ${#against[@]} in
+        0) text='every mode' ;;
+        1) text="all but \`${against[0]}\`" ;;
+        *) text=$(printf ', `%s`' "${beside[@]}") && text=${text#, } ;;
+    esac
+    grep -q "^| \`$mode\`, [a-z ]* | .* | $text |\$" "$top/README.md" || fail "README does not say that beside $mode others may have: $text"
+done
 
 [[ $failed -eq 0 ]] && echo "pages.sh: each page keeps to its own folder"
 exit $((failed > 0))

@@ -54,11 +54,16 @@ for line in "version $version" "commit $(git -C "$top" rev-parse HEAD)" "dlm: pr
 done
 grep -q '^proved with .* logic [0-9a-f]*$' BUILT || fail "BUILT names no logic of the kit"
 grep -q '^libmidgegalena, .* no proof covers their C' BUILT || fail "BUILT does not say what is not proved"
-# All that is named here, and each page that the repository has.
+# All that is named here, and each page that the repository has, but for those of whoever changes it.
+of_changes=(CONTRIBUTING.md docs/{CHANGING,DECISIONS,GATE}.md {tests,capi/tests}/README.md)
 wanted=(bin/{dlm,mg-lock,dlm-shared,dlm-mount} lib/{libmidgegalena.a,"libmidgegalena.so.$version",midgegalena.pc} VERSION install.sh examples/slots.sh)
-mapfile -t -O "${#wanted[@]}" wanted < <(git -C "$top" ls-files '*.md' 'docs/*.svg' man completions capi/examples capi/python 'examples/*.dlm')
+mapfile -t -O "${#wanted[@]}" wanted < <(git -C "$top" ls-files '*.md' 'docs/*.svg' man completions capi/examples capi/python 'examples/*.dlm' "${of_changes[@]/#/:!}")
 for file in "${wanted[@]}" include/{midgegalena,mg_session}.h; do
     [[ -f $file ]] || fail "the archive has no $file"
+done
+for file in "${of_changes[@]}"; do
+    [[ -f $top/$file ]] || fail "there is no $file"
+    [[ ! -e $file ]] || fail "the archive has $file, which is for whoever changes the code"
 done
 [[ -z $(find . -name '*.rt' -o -name '*.antt' -o -name '__pycache__' -o -name '*.o') ]] || fail "the archive has sources of crates, or what a build left"
 
