@@ -1,6 +1,8 @@
+mod Answering
 mod Beginning
 mod Carrying
 mod Due
+mod Ending
 mod Going
 mod Hearing
 mod Leading

@@ -1,3 +1,5 @@
+pub mod Answering
+pub mod Ending
 pub mod Leading
 pub mod Staying
 pub mod Submitting

@@ -8,6 +8,9 @@ use Rattle.standings.specs.Epochs.{epoch_of}
 use Rattle.window.specs.Calls.{due_for}
 use Rattle.coming.specs.declared.notes.Notes.{Notes}
 use Rattle.coming.specs.Coming as coming
+use Rattle.host.specs.declared.answer.HostAnswer.{HostAnswer}
+use Rattle.host.specs.declared.answer.HostAnswer.TheVariants as answers
+use Rattle.host.specs.declared.task.Task.{Task}
 use Rattle.host.specs.declared.task.Task.TheVariants.{Mark}
 use Rattle.host.specs.Kept as core
 use Rattle.host.specs.Kept.{is_idle}
@@ -15,9 +18,12 @@ use Rattle.epoch_host.specs.declared.place.TheConstants.{EPOCHS}
 use Rattle.epoch_host.specs.declared.stay.Stay.{Stay}
 use Rattle.epoch_host.specs.declared.stay.Doing.{Doing}
 use Rattle.epoch_host.specs.declared.stay.Doing.TheVariants.{Nothing, Comes, Works, Leaves}
+use Rattle.epoch_host.specs.declared.stay.Errand.{Errand}
+use Rattle.epoch_host.specs.declared.stay.Errand.TheVariants as errands
 use Rattle.epoch_host.specs.declared.stay.Leave.{Leave}
 use Rattle.epoch_host.specs.declared.stay.Leave.TheVariants as leave
 use Rattle.epoch_host.specs.declared.stay.Work.{Work}
+use Rattle.epoch_host.specs.Answering.{DoesFor, EndsTask}
 use Rattle.epoch_host.specs.Submitting.{IsAsked, SubmitsFor}
 use Rattle.epoch_host.specs.Working.{IsKnown, IsSpelled, IsWorking, GivesTries, HasRoom}
 
@@ -47,11 +53,13 @@ pub record IsComing (s : Stay) (disk : ℕ) (c : Notes) : Type 0 where
   pub slots : c.slots ≡ s.config.slots
   pub room : HasRoom s.task (learned_of s) s.config.slots
 
--- The core works, and submits what is due.
+-- The core works for the task, submits what is due, and has said nothing.
 pub record CoreWorks (s : Stay) (work : Work) : Type 0 where
   pub busy : is_idle s.core ≡ false
   pub works : IsWorking s.core
   pub submits : SubmitsFor s.over work works.memory.learned works.memory.doing
+  pub does : DoesFor s.task work works.memory.doing
+  pub silent : s.core.said ≡ None
 
 abbrev pub IsDoing : Stay → Doing → Type 0
 IsDoing s Nothing = Rests s
@@ -90,12 +98,29 @@ pub record IsSame (old new : Stay) : Type 0 where
   pub errand : new.errand ≡ old.errand
   pub over : new.over ≡ old.over
 
--- A call is due, or the host leaves, or nothing is under way. It leaves a full epoch once all slots are learned.
-abbrev pub IsSoLeft : Option Leave → Stay → Type 0
-IsSoLeft None s = IsBusy s.doing
-IsSoLeft (Some leave.Passed) s = Unit {0}
-IsSoLeft (Some leave.Full) s = (s.doing ≡ Nothing) × (s.config.slots ≤ learned_of s)
-IsSoLeft (Some other) s = s.doing ≡ Nothing
+-- what was learned is told only where the host works
+abbrev pub WorksFor : Errand → HostAnswer → Type 0
+WorksFor errand (answers.Recovered told) = errand ≡ errands.Works
+WorksFor errand (answers.Looked told) = errand ≡ errands.Works
+WorksFor errand other = Unit {0}
+
+-- the core said this last, and so the task ends
+abbrev pub IsAnswered : Task → Stay → HostAnswer → Type 0
+IsAnswered task s said = (s.core.said ≡ Some said) × EndsTask s.over s.config.slots task s.core.prefix said × WorksFor s.errand said
+
+-- it is a marking of a slot that is not learned
+abbrev pub IsAhead : Task → (learned : ℕ) → Type 0
+IsAhead (Mark slot) learned = learned ≤ slot
+IsAhead other learned = ⊥
+
+-- A call is due, or the host leaves, or nothing is under way. It leaves a full epoch once all slots are learned, and tells what its core said.
+abbrev pub IsSoLeft : Task → Option Leave → Stay → Type 0
+IsSoLeft task None s = IsBusy s.doing
+IsSoLeft task (Some leave.Passed) s = Unit {0}
+IsSoLeft task (Some leave.Full) s = (s.doing ≡ Nothing) × (s.config.slots ≤ learned_of s)
+IsSoLeft task (Some (leave.Answered said)) s = (s.doing ≡ Nothing) × IsAnswered task s said
+IsSoLeft task (Some leave.NotLearned) s = (s.doing ≡ Nothing) × IsAhead task (learned_of s)
+IsSoLeft task (Some leave.NeedsBefore) s = s.doing ≡ Nothing
 
 -- THE CALL THAT IS DUE
 

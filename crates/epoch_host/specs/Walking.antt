@@ -5,17 +5,22 @@ use Rattle.torn_block.specs.Layout.{cluster_version}
 use Rattle.torn_block.specs.declared.layout.TheConstants.{DISKS}
 use Rattle.paxos_block.specs.Places.{image_length}
 use Rattle.lock_command.specs.Command.{is_submittable}
+use Rattle.host.specs.declared.task.Task.{Task}
 use Rattle.coming.specs.declared.found.Found.{Found}
 use Rattle.coming.specs.declared.search.Search.{Search}
 use Rattle.coming.specs.Finding as finding
 use Rattle.epoch_host.specs.declared.task.EpochTask.{EpochTask}
 use Rattle.epoch_host.specs.declared.task.EpochTask.TheVariants.{Submit, Recover}
+use Rattle.epoch_host.specs.declared.stay.Leave.{Leave}
+use Rattle.epoch_host.specs.declared.stay.Leave.TheVariants as leave
 use Rattle.epoch_host.specs.declared.stay.Stay.{Stay}
 use Rattle.epoch_host.specs.declared.stay.Doing.TheVariants.{Nothing}
 use Rattle.epoch_host.specs.declared.walk.Walk.{Walk}
 use Rattle.epoch_host.specs.declared.walk.Whereabouts.{Whereabouts}
 use Rattle.epoch_host.specs.declared.walk.Whereabouts.TheVariants.{Nowhere, Finds, In}
+use Rattle.epoch_host.specs.Ending.{in_epochs}
 use Rattle.epoch_host.specs.Staying as stay
+use Rattle.epoch_host.specs.Submitting.{Stands}
 
 -- A host may be given the task: it has a try, where it needs one, and a command is the host's own, for which a client may ask.
 abbrev pub MayBegin : ℕ → EpochTask → Type 0
@@ -33,6 +38,26 @@ pub record IsStaying (w : Walk) (s : Stay) : Type 0 where
   pub sound : stay.IsSound s
   pub host : s.host ≡ w.host
   pub config : s.config ≡ w.config
+
+-- the table of that epoch is there
+pub record IsAtWork (w : Walk) (s : Stay) : Type 0 where
+  pub is : w.is ≡ In s
+  pub stays : IsStaying w s
+  pub whole : Stands s.over s.core.prefix
+
+-- It has so left its epoch, with the task that is this one of all epochs.
+abbrev pub IsLeftFor : Option EpochTask → Stay → Leave → Type 0
+IsLeftFor task s leave = (own : Task) × (task ≡ Some (in_epochs s.config s.epoch own)) × stay.IsSoLeft own (Some leave) s
+
+-- its core has said nothing
+abbrev pub IsFresh : Whereabouts → Type 0
+IsFresh (In s) = s.core.said ≡ None
+IsFresh other = Unit {0}
+
+-- it leaves with an answer
+abbrev pub IsAnswering : Leave → Type 0
+IsAnswering (leave.Answered said) = Unit {0}
+IsAnswering other = ⊥
 
 -- nothing is under way
 abbrev pub IsResting : Walk → Whereabouts → Type 0
@@ -57,10 +82,15 @@ IsGoing w Nowhere = ⊥
 IsGoing w (Finds search) = IsFinding w search
 IsGoing w (In s) = IsStaying w s × stay.IsBusy s.doing
 
--- it has a task, and a call is due; or it has none, and nothing is under way
+-- in an epoch its task is this one of all epochs
+abbrev pub GoesFor : EpochTask → Whereabouts → Type 0
+GoesFor task (In s) = task ≡ in_epochs s.config s.epoch s.task
+GoesFor task other = Unit {0}
+
+-- it has a task, of which it has said nothing, and a call is due; or it has none, and nothing is under way
 abbrev pub IsAt : Walk → Option EpochTask → Type 0
 IsAt w None = IsResting w w.is
-IsAt w (Some task) = MayBegin w.host task × IsGoing w w.is
+IsAt w (Some task) = MayBegin w.host task × IsGoing w w.is × GoesFor task w.is × (w.said ≡ None)
 
 -- there are as many disks and slots as a cluster may have
 abbrev pub HasFew : Walk → Type 0

@@ -1,15 +1,18 @@
-ghost use Rattle.std.specs.Prelude.{[], ◌≡◌, ◌<◌, None, IsSome, is_none};
+ghost use Rattle.std.specs.Prelude.{[], ◌≡◌, ◌⊎◌, ◌<◌, Some, None, IfSome, IsSome, OnErr, OnOk, is_none};
 ghost use Rattle.torn_block.specs.Layout.{cluster_version};
 ghost use Rattle.attempt.specs.Heard.{Fits};
 ghost use Rattle.attempt.specs.DeviceCalls.{IsWithin, call_of_need, device_answer, heard_of};
 ghost use Rattle.standings.specs.Epochs.{whole_length};
+ghost use Rattle.paxos_block.specs.Shape.{Shape};
+ghost use Rattle.host.specs.Host.{Memory, Running};
+ghost use Rattle.epoch_deeds.specs.Deeds.{Deeds, core_in};
+ghost use Rattle.epoch_host.specs.Ending.{AreIdle, AreSilent, Ends, HasLearnedUpto, IsDone, IsGivenUp, IsTableOf, IsThere, IsWhereItIs, TableIsThere};
 ghost use Rattle.epoch_host.specs.Leading.{LeadsTo, WalksBy, WalksOn};
 ghost use Rattle.epoch_host.specs.Walking.{IsSame, MayBegin, call_due, image_of};
 
 use crate::answer::EpochAnswer;
-use crate::place::place_of;
 use crate::task::EpochTask;
-use crate::walk::{Walk, Whereabouts};
+use crate::walk::Walk;
 use attempt::{Heard, Need};
 use disk::NoMemory;
 use lock_command::{Command, HostNumber};
@@ -72,30 +75,37 @@ impl EpochHost {
     }
 
     /// The epoch where the host is.
-    pub fn epoch(&self) -> Option<u64> {
-        match &self.walk.is {
-            Whereabouts::In(stay) => Some(stay.epoch),
-            _ => None,
-        }
+    pub fn epoch(&self) -> Option<u64>
+        ensures known { (c : Shape) (h : _) (deeds : Deeds) → LeadsTo c h deeds self.now →
+            IsWhereItIs c h deeds result }
+    {
+        self.walk.epoch()
     }
 
     /// The commands learned of that epoch: the first of it, none left out.
-    pub fn prefix(&self) -> &[Command] {
-        match &self.walk.is {
-            Whereabouts::In(stay) => stay.core.prefix(),
-            _ => &[],
-        }
+    pub fn prefix(&self) -> &[Command]
+        ensures known { (c : Shape) (h : _) (deeds : Deeds) → LeadsTo c h deeds self.now →
+            (e : _) (memory : Memory) → core_in c h e deeds ≡ Running memory → result.now ≡ memory.learned }
+    {
+        self.walk.prefix()
     }
 
     /// All places below this one are learned. None where the table is not there.
-    pub fn length(&self) -> Option<u64> {
-        let stay = self.walk.at_work()?;
-        Some(place_of(self.walk.config, stay.epoch, stay.length()))
+    pub fn length(&self) -> Option<u64>
+        ensures known { IfSome result (λ upto. (c : Shape) (h : _) (deeds : Deeds) → LeadsTo c h deeds self.now →
+            (learned : _) × HasLearnedUpto c h deeds upto learned) }
+        ensures there { IsThere self.now → IsSome result }
+    {
+        self.walk.length()
     }
 
     /// The lock table after all commands below `length`.
-    pub fn table(&self) -> Option<&Table> {
-        Some(self.walk.at_work()?.core.table())
+    pub fn table(&self) -> Option<&Table>
+        ensures known { IfSome result (λ shown. (c : Shape) (h : _) (deeds : Deeds) → LeadsTo c h deeds self.now →
+            (upto : _) × IsTableOf c h deeds upto shown.now) }
+        ensures there { IsThere self.now → IsSome result }
+    {
+        self.walk.table()
     }
 
     /// Begins a task. If memory is refused it is given up.
@@ -104,6 +114,17 @@ impl EpochHost {
         requires may { MayBegin self.old.host task }
         ensures same { IsSame self.old self.new }
         ensures leads { WalksOn self.old self.new }
+        ensures keeps { (self.new.task ≡ None) ⊎ (self.new.task ≡ Some task) }
+        ensures told { OnOk result (self.new.task ≡ None → IsSome self.new.said) }
+        ensures given_up { OnErr result (IsGivenUp self.new) }
+        // By whatever deeds lead to this host, the task ended so, if it ended.
+        ensures ends { Ends (Some task) self.new }
+        // Where it has told how much is learned, the table is there.
+        ensures there { TableIsThere self.new self.new.said }
+        // Nothing is done before a call.
+        ensures silent { IsDone self.new.said → ⊥ }
+        // What a core does for a task, it begins after this.
+        ensures rests { AreIdle self.old }
     {
         self.walk.begin(task)
     }
@@ -124,6 +145,15 @@ impl EpochHost {
         requires fits { Fits (call_due self.old).1 (heard_of cluster_version heard.now) }
         ensures same { IsSame self.old self.new }
         ensures makes { WalksBy self.old self.new (call_due self.old) (device_answer heard.now) }
+        ensures keeps { (self.new.task ≡ None) ⊎ (self.new.task ≡ self.old.task) }
+        ensures told { OnOk result (self.new.task ≡ None → IsSome self.new.said) }
+        ensures given_up { OnErr result (IsGivenUp self.new) }
+        // By whatever deeds lead to this host, the task ended so, if it ended.
+        ensures ends { Ends self.old.task self.new }
+        // Where it has told how much is learned, the table is there.
+        ensures there { TableIsThere self.new self.new.said }
+        // The answer is a new one: no core had said it before this call.
+        ensures fresh { IsDone self.new.said → AreSilent self.old }
     {
         self.walk.hear(heard)
     }

@@ -1,5 +1,5 @@
 // What carries the table over into an epoch.
-ghost use Rattle.std.specs.Prelude.{◌≡◌, true, Some, IfSome, IsTrue};
+ghost use Rattle.std.specs.Prelude.{◌≡◌, ◌↔◌, true, Some, IfSome, IsTrue};
 ghost use Rattle.lock_command.specs.Command.{spelling};
 ghost use Rattle.lock_command.specs.Reading.{decoded};
 ghost use Rattle.host.specs.Host.{Submitting};
@@ -35,7 +35,7 @@ impl Over {
 
     /// Whether all of it stands where these commands are the first of the epoch. A command for which a client may ask stands only behind it.
     pub fn stands(&self, learned: &[Command]) -> bool
-        ensures { IsTrue result → Stands self.now learned.now }
+        ensures { IsTrue result ↔ Stands self.now learned.now }
     {
         match self {
             Over::Unknown => learned.iter().any(|command| command.is_submittable()),

@@ -14,6 +14,7 @@ ghost use Rattle.lock_command.specs.Reading.{decoded};
 ghost use Rattle.paxos_block.specs.Shape.{Shape};
 ghost use Rattle.host.specs.Host.{Memory, Submitting, next_in};
 ghost use Rattle.epoch_host.specs.declared.place.TheConstants.{EPOCHS};
+ghost use Rattle.epoch_host.specs.Answering.{IsFor, SaysFor};
 ghost use Rattle.epoch_host.specs.Leading.{GoesOnIn, IsReadyFor, MakesIn, StartsIn};
 ghost use Rattle.epoch_host.specs.Staying.{CoreWorks, IsBusy, IsFew, IsSame, IsSoLeft, IsSound, call_due, image_of, learned_of};
 ghost use Rattle.epoch_host.specs.Submitting.{IsAsked, IsDueIn, MayCarryOut, Stands, StaysAt};
@@ -55,8 +56,10 @@ pub struct Arrival {
 /// Why a host has nothing more to do in an epoch.
 #[derive(Clone, Copy, Debug, PartialEq, Eq)]
 pub enum Leave {
-    /// The task has ended.
+    /// The task has ended, as the core says.
     Answered(HostAnswer),
+    /// The slot that is to be marked is not learned here.
+    NotLearned,
     /// All slots are learned, so the table is final.
     Full,
     /// There is a later epoch than the next one.
@@ -123,7 +126,7 @@ impl Stay {
         requires learns { HasRoom task 0 config.slots }
         ensures sound { IfOk result IsSound }
         ensures busy { IfOk result (λ stay. IsBusy stay.doing) }
-        ensures of { IfOk result (λ stay. (stay.host ≡ host) × (stay.config ≡ config)) }
+        ensures of { IfOk result (λ stay. (stay.host ≡ host) × (stay.config ≡ config) × (stay.task ≡ task)) }
         ensures starts { IfOk result (λ stay. StartsIn arrival stay) }
     {
         let Arrival {
@@ -167,7 +170,7 @@ impl Stay {
 
     /// Whether the table is that of the one log: all that carries the table of the epoch before over is learned.
     pub fn is_whole(&self) -> bool
-        ensures { IsTrue result → Stands self.now.over self.now.core.prefix }
+        ensures { IsTrue result ↔ Stands self.now.over self.now.core.prefix }
     {
         self.over.stands(self.core.prefix())
     }
@@ -181,7 +184,9 @@ impl Stay {
         requires spelled { IsSpelled task.now }
         requires slot { (slot : _) → task.now ≡ Task.Mark slot → slot < self.old.config.slots }
         ensures sound { IsSound self.new }
-        ensures left { IsSoLeft result self.new }
+        ensures left { IsSoLeft task.now result self.new }
+        ensures silent { (said : _) → result ≡ Some (Leave.Answered said) → ⊥ }
+        ensures task { IsNone result → self.new.task ≡ task.now }
         ensures same { IsSame self.old self.new }
         ensures leads { GoesOnIn self.old self.new }
     {
@@ -199,13 +204,14 @@ impl Stay {
         requires learned { IsFew self.now }
         requires rests { self.now.doing ≡ Doing.Nothing }
         requires slot { (slot : _) → task.now ≡ Task.Mark slot → slot < self.now.config.slots }
-        ensures left { IfSome result (λ leave. IsSoLeft (Some leave) self.now) }
+        ensures left { IfSome result (λ leave. IsSoLeft task.now (Some leave) self.now) }
+        ensures silent { (said : _) → result ≡ Some (Leave.Answered said) → ⊥ }
         ensures room { IsNone result → HasRoom task.now (learned_of self.now) self.now.config.slots }
     {
         match task {
             Task::Mark { slot } => {
                 if self.length() <= *slot {
-                    return Some(Leave::Answered(HostAnswer::Refused(Refusal::NotLearned)));
+                    return Some(Leave::NotLearned);
                 }
             }
             _ => {
@@ -227,6 +233,7 @@ impl Stay {
         requires room { HasRoom self.old.task (learned_of self.old) self.old.config.slots }
         ensures sound { IsSound self.new }
         ensures busy { IsBusy self.new.doing }
+        ensures task { self.new.task ≡ self.old.task }
         ensures same { IsSame self.old self.new }
         ensures leads { GoesOnIn self.old self.new }
     {
@@ -257,6 +264,7 @@ impl Stay {
         requires room { HasRoom self.old.task (learned_of self.old) self.old.config.slots }
         ensures sound { IsSound self.new }
         ensures busy { IsBusy self.new.doing }
+        ensures task { self.new.task ≡ self.old.task }
         ensures same { IsSame self.old self.new }
         ensures leads { GoesOnIn self.old self.new }
     {
@@ -266,12 +274,14 @@ impl Stay {
     }
 
     // The core begins the task, or learns first what is there.
+    #[tactic(auto, using(crate::proofs::Answering::itself))]
     fn set_out(&mut self)
         requires sound { IsSound self.old }
         requires rests { self.old.doing ≡ Doing.Nothing }
         requires room { HasRoom self.old.task (learned_of self.old) self.old.config.slots }
         ensures sound { IsSound self.new }
         ensures busy { IsBusy self.new.doing }
+        ensures task { self.new.task ≡ self.old.task }
         ensures same { IsSame self.old self.new }
         ensures leads { GoesOnIn self.old self.new }
     {
@@ -304,9 +314,11 @@ impl Stay {
         requires asked { IsAsked self.old.host task }
         requires spelled { IsSpelled task }
         requires submits { MayCarryOut self.old.over self.old.core.prefix task }
+        requires before { IsFor self.old.task task }
         requires room { HasRoom task (learned_of self.old) self.old.config.slots }
         ensures sound { IsSound self.new }
         ensures busy { IsBusy self.new.doing }
+        ensures task { self.new.task ≡ self.old.task }
         ensures same { IsSame self.old self.new }
         ensures leads { GoesOnIn self.old self.new }
     {
@@ -338,7 +350,10 @@ impl Stay {
         requires busy { IsBusy self.old.doing }
         requires fits { Fits (call_due self.old).1 (heard_of cluster_version heard.now) }
         ensures sound { IsSound self.new }
-        ensures left { IsSoLeft result self.new }
+        ensures left { IsSoLeft self.new.task result self.new }
+        // An answer is a new one.
+        ensures fresh { (said : _) → result ≡ Some (Leave.Answered said) → self.old.core.said ≡ None }
+        ensures task { self.new.task ≡ self.old.task }
         ensures same { IsSame self.old self.new }
         ensures makes { MakesIn self.old self.new (call_due self.old) (device_answer heard.now) }
     {
@@ -358,7 +373,9 @@ impl Stay {
         requires comes { (disk : _) × (coming : _) × (self.old.doing ≡ Doing.Comes disk coming) }
         requires fits { Fits (call_due self.old).1 (heard_of cluster_version heard.now) }
         ensures sound { IsSound self.new }
-        ensures left { IsSoLeft result self.new }
+        ensures left { IsSoLeft self.new.task result self.new }
+        ensures silent { (said : _) → result ≡ Some (Leave.Answered said) → ⊥ }
+        ensures task { self.new.task ≡ self.old.task }
         ensures same { IsSame self.old self.new }
         ensures makes { MakesIn self.old self.new (call_due self.old) (device_answer heard.now) }
     {
@@ -386,7 +403,8 @@ impl Stay {
         requires works { self.old.doing ≡ Doing.Works work }
         requires fits { Fits (call_due self.old).1 (heard_of cluster_version heard.now) }
         ensures sound { IsSound self.new }
-        ensures left { IsSoLeft result self.new }
+        ensures left { IsSoLeft self.new.task result self.new }
+        ensures task { self.new.task ≡ self.old.task }
         ensures same { IsSame self.old self.new }
         ensures makes { MakesIn self.old self.new (call_due self.old) (device_answer heard.now) }
     {
@@ -444,27 +462,35 @@ impl Stay {
         requires sound { IsSound self.old }
         requires rests { self.old.doing ≡ Doing.Nothing }
         requires told { IsAnswer self.old.config (learned_of self.old) (Some said) }
+        requires says { self.old.core.said ≡ Some said }
+        requires fits { SaysFor self.old.over self.old.config.slots self.old.task work self.old.core.prefix (Some said) }
         ensures sound { IsSound self.new }
-        ensures left { IsSoLeft result self.new }
+        ensures left { IsSoLeft self.new.task result self.new }
+        ensures task { self.new.task ≡ self.old.task }
         ensures same { IsSame self.old self.new }
         ensures leads { GoesOnIn self.old self.new }
     {
         match said {
             HostAnswer::Refused(refusal) => self.refused(work, refusal),
-            HostAnswer::Looked { .. } => self.looked(said),
-            HostAnswer::Recovered { .. } => self.recovered(said),
+            HostAnswer::Looked { length } => self.looked(length),
+            HostAnswer::Recovered { length } => self.recovered(length),
             HostAnswer::Ack { slot, .. } => match work {
+                Work::Goes => Some(Leave::Answered(said)),
                 Work::Carries { .. } => {
                     self.mark(slot);
                     None
                 }
-                Work::Goes | Work::Marks => Some(Leave::Answered(said)),
+                Work::Marks => unreachable!(),
             },
             HostAnswer::Marked { .. } => match work {
+                Work::Goes => Some(Leave::Answered(said)),
                 Work::Marks => self.carry(),
-                Work::Goes | Work::Carries { .. } => Some(Leave::Answered(said)),
+                Work::Carries { .. } => unreachable!(),
             },
-            HostAnswer::Beaten { .. } => Some(Leave::Answered(said)),
+            HostAnswer::Beaten { .. } => match work {
+                Work::Goes => Some(Leave::Answered(said)),
+                Work::Carries { .. } | Work::Marks => unreachable!(),
+            },
         }
     }
 
@@ -473,8 +499,10 @@ impl Stay {
     fn refused(&mut self, work: Work, refusal: Refusal) -> Option<Leave>
         requires sound { IsSound self.old }
         requires rests { self.old.doing ≡ Doing.Nothing }
+        requires says { self.old.core.said ≡ Some (HostAnswer.Refused refusal) }
         ensures sound { IsSound self.new }
-        ensures left { IsSoLeft result self.new }
+        ensures left { IsSoLeft self.new.task result self.new }
+        ensures task { self.new.task ≡ self.old.task }
         ensures same { IsSame self.old self.new }
         ensures leads { GoesOnIn self.old self.new }
     {
@@ -492,11 +520,14 @@ impl Stay {
 
     // A look has ended.
     #[tactic(auto, using(crate::proofs::Leading::stays_as))]
-    fn looked(&mut self, said: HostAnswer) -> Option<Leave>
+    fn looked(&mut self, length: u16) -> Option<Leave>
         requires sound { IsSound self.old }
         requires rests { self.old.doing ≡ Doing.Nothing }
+        requires says { self.old.core.said ≡ Some (HostAnswer.Looked length) }
+        requires all { length ≡ learned_of self.old }
         ensures sound { IsSound self.new }
-        ensures left { IsSoLeft result self.new }
+        ensures left { IsSoLeft self.new.task result self.new }
+        ensures task { self.new.task ≡ self.old.task }
         ensures same { IsSame self.old self.new }
         ensures leads { GoesOnIn self.old self.new }
     {
@@ -504,8 +535,13 @@ impl Stay {
             return Some(Leave::Full);
         }
         if self.errand == Errand::Works && self.is_whole() {
-            let was_task = matches!(&self.task, Task::Look);
-            return self.go_on(said, was_task);
+            return match self.task {
+                Task::Look => Some(Leave::Answered(HostAnswer::Looked { length })),
+                _ => {
+                    self.go_on();
+                    None
+                }
+            };
         }
         if self.errand == Errand::Works && self.over.is_known() {
             return self.carry();
@@ -517,15 +553,19 @@ impl Stay {
 
     // A recovery has ended.
     #[tactic(auto, using(crate::proofs::Leading::stays_as))]
-    fn recovered(&mut self, said: HostAnswer) -> Option<Leave>
+    fn recovered(&mut self, length: u16) -> Option<Leave>
         requires sound { IsSound self.old }
         requires rests { self.old.doing ≡ Doing.Nothing }
+        requires says { self.old.core.said ≡ Some (HostAnswer.Recovered length) }
+        requires all { length ≡ learned_of self.old }
         ensures sound { IsSound self.new }
-        ensures left { IsSoLeft result self.new }
+        ensures left { IsSoLeft self.new.task result self.new }
+        ensures task { self.new.task ≡ self.old.task }
         ensures same { IsSame self.old self.new }
         ensures leads { GoesOnIn self.old self.new }
     {
         if self.is_full() {
+            // It is no answer: there may be a later epoch.
             return Some(Leave::Full);
         }
         if self.errand == Errand::LearnsWhole {
@@ -533,8 +573,13 @@ impl Stay {
             return Some(Leave::Passed);
         }
         if self.is_whole() {
-            let was_task = matches!(&self.task, Task::Recover { .. });
-            return self.go_on(said, was_task);
+            return match self.task {
+                Task::Recover { .. } => Some(Leave::Answered(HostAnswer::Recovered { length })),
+                _ => {
+                    self.go_on();
+                    None
+                }
+            };
         }
         if self.over.is_known() {
             return self.carry();
@@ -542,24 +587,21 @@ impl Stay {
         Some(Leave::NeedsBefore)
     }
 
-    // The table is whole. What showed it may have been the task.
-    #[tactic(auto, using(crate::proofs::Leading::stays_as))]
-    fn go_on(&mut self, said: HostAnswer, was_task: bool) -> Option<Leave>
+    // The table is whole, so the core carries the task out.
+    #[tactic(auto, using(crate::proofs::Answering::itself))]
+    fn go_on(&mut self)
         requires sound { IsSound self.old }
         requires rests { self.old.doing ≡ Doing.Nothing }
         requires whole { Stands self.old.over self.old.core.prefix }
         requires room { learned_of self.old < self.old.config.slots }
         ensures sound { IsSound self.new }
-        ensures left { IsSoLeft result self.new }
+        ensures busy { IsBusy self.new.doing }
+        ensures task { self.new.task ≡ self.old.task }
         ensures same { IsSame self.old self.new }
         ensures leads { GoesOnIn self.old self.new }
     {
-        if was_task {
-            return Some(Leave::Answered(said));
-        }
         let task = self.task;
         self.work(task);
-        None
     }
 
     // Submits what is due in the next slot, while there is something, and then carries the task out.
@@ -568,7 +610,8 @@ impl Stay {
         requires sound { IsSound self.old }
         requires rests { self.old.doing ≡ Doing.Nothing }
         ensures sound { IsSound self.new }
-        ensures left { IsSoLeft result self.new }
+        ensures left { IsSoLeft self.new.task result self.new }
+        ensures task { self.new.task ≡ self.old.task }
         ensures same { IsSame self.old self.new }
         ensures leads { GoesOnIn self.old self.new }
     {
@@ -576,8 +619,7 @@ impl Stay {
             return Some(Leave::Full);
         }
         if self.is_whole() {
-            let task = self.task;
-            self.work(task);
+            self.go_on();
             return None;
         }
         let slot = self.length();
@@ -599,6 +641,7 @@ impl Stay {
         requires due { IsDueIn self.old.over slot (Submitting command) }
         ensures sound { IsSound self.new }
         ensures busy { IsBusy self.new.doing }
+        ensures task { self.new.task ≡ self.old.task }
         ensures same { IsSame self.old self.new }
         ensures leads { GoesOnIn self.old self.new }
     {
@@ -613,6 +656,7 @@ impl Stay {
         requires learned { (slot < learned_of self.old) × (slot < self.old.config.slots) }
         ensures sound { IsSound self.new }
         ensures busy { IsBusy self.new.doing }
+        ensures task { self.new.task ≡ self.old.task }
         ensures same { IsSame self.old self.new }
         ensures leads { GoesOnIn self.old self.new }
     {

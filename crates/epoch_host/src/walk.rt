@@ -1,14 +1,18 @@
 // A host on its way through the epochs.
-ghost use Rattle.std.specs.Prelude.{[], ◌≡◌, ◌≤◌, ◌<◌, Some, None, IfSome, IsSome, OnOk, if◌then◌else◌};
+ghost use Rattle.std.specs.Prelude.{[], ◌≡◌, ◌⊎◌, ◌≤◌, ◌<◌, false, Some, None, IfSome, IsNone, IsSome, IsTrue, OnOk, OnErr, if◌then◌else◌};
 ghost use Rattle.torn_block.specs.Layout.{cluster_version};
 ghost use Rattle.attempt.specs.Heard.{Fits};
 ghost use Rattle.attempt.specs.DeviceCalls.{IsWithin, call_of_need, device_answer, heard_of};
 ghost use Rattle.standings.specs.Epochs.{whole_length};
 ghost use Rattle.epoch_host.specs.declared.place.TheConstants.{EPOCHS};
+ghost use Rattle.epoch_host.specs.Ending.{AreIdle, AreSilent, Ends, HasLearnedUpto, IsDone, IsElsewhere, IsGivenUp, IsMark, IsTableOf, IsThere, IsWhereItIs, Refuses, TableIsThere, TaskGoesOn, in_epochs, in_places};
+ghost use Rattle.paxos_block.specs.Shape.{Shape};
+ghost use Rattle.host.specs.Host.{Memory, Running};
+ghost use Rattle.epoch_deeds.specs.Deeds.{Deeds, core_in};
 ghost use Rattle.epoch_host.specs.Leading.{CarriesOver, Enters, LeadsTo, WalksBy, WalksOn};
-ghost use Rattle.epoch_host.specs.Staying.{IsSoLeft};
+ghost use Rattle.epoch_host.specs.Staying.{learned_of};
 ghost use Rattle.epoch_host.specs.Submitting.{IsAsked};
-ghost use Rattle.epoch_host.specs.Walking.{HasEnded, HasFew, IsResting, IsSame, IsSound, IsStaying, MayBegin, call_due, image_of};
+ghost use Rattle.epoch_host.specs.Walking.{HasEnded, HasFew, IsAnswering, IsAtWork, IsFresh, IsLeftFor, IsResting, IsSame, IsSound, IsStaying, MayBegin, call_due, image_of};
 ghost use Rattle.epoch_host.specs.Working.{GivesTries, HasRoom, IsSpelled};
 
 use crate::answer::EpochAnswer;
@@ -21,7 +25,8 @@ use attempt::{Heard, Need, Refusal};
 use coming::{Finding, Found};
 use disk::NoMemory;
 use host::{HostAnswer, Task};
-use lock_command::HostNumber;
+use lock_command::{Command, HostNumber};
+use lock_table::Table;
 use paxos_block::Config;
 use std::alloc::Global;
 
@@ -74,12 +79,59 @@ impl Walk {
     /// The epoch where the host is, once the table is there.
     pub fn at_work(&self) -> Option<&Stay>
         requires { IsSound self.now }
-        ensures { IfSome result (λ stay. IsStaying self.now stay.now) }
+        ensures at_work { IfSome result (λ stay. IsAtWork self.now stay.now) }
+        ensures there { IsThere self.now → IsSome result }
+    {
+        let Whereabouts::In(stay) = &self.is else {
+            return None;
+        };
+        if stay.errand == Errand::Works && stay.is_whole() {
+            Some(stay)
+        } else {
+            None
+        }
+    }
+
+    /// The epoch where the host is.
+    pub fn epoch(&self) -> Option<u64>
+        ensures known { (c : Shape) (h : _) (deeds : Deeds) → LeadsTo c h deeds self.now → IsWhereItIs c h deeds result }
     {
         match &self.is {
-            Whereabouts::In(stay) if stay.errand == Errand::Works && stay.is_whole() => Some(stay),
+            Whereabouts::In(stay) => Some(stay.epoch),
             _ => None,
         }
+    }
+
+    /// The commands learned of that epoch: the first of it, none left out.
+    pub fn prefix(&self) -> &[Command]
+        ensures known { (c : Shape) (h : _) (deeds : Deeds) → LeadsTo c h deeds self.now →
+            (e : _) (memory : Memory) → core_in c h e deeds ≡ Running memory → result.now ≡ memory.learned }
+    {
+        match &self.is {
+            Whereabouts::In(stay) => stay.core.prefix(),
+            _ => &[],
+        }
+    }
+
+    /// All places below this one are learned. None where the table is not there.
+    pub fn length(&self) -> Option<u64>
+        requires { IsSound self.now }
+        ensures known { IfSome result (λ upto. (c : Shape) (h : _) (deeds : Deeds) → LeadsTo c h deeds self.now →
+            (learned : _) × HasLearnedUpto c h deeds upto learned) }
+        ensures there { IsThere self.now → IsSome result }
+    {
+        let stay = self.at_work()?;
+        Some(place_of(self.config, stay.epoch, stay.length()))
+    }
+
+    /// The lock table after all commands below `length`.
+    pub fn table(&self) -> Option<&Table>
+        requires { IsSound self.now }
+        ensures known { IfSome result (λ shown. (c : Shape) (h : _) (deeds : Deeds) → LeadsTo c h deeds self.now →
+            (upto : _) × IsTableOf c h deeds upto shown.now) }
+        ensures there { IsThere self.now → IsSome result }
+    {
+        Some(self.at_work()?.core.table())
     }
 
     /// Begins a task. If memory is refused it is given up.
@@ -90,6 +142,13 @@ impl Walk {
         ensures sound { IsSound self.new }
         ensures same { IsSame self.old self.new }
         ensures leads { WalksOn self.old self.new }
+        ensures keeps { (self.new.task ≡ None) ⊎ (self.new.task ≡ Some task) }
+        ensures told { OnOk result (self.new.task ≡ None → IsSome self.new.said) }
+        ensures given_up { OnErr result (IsGivenUp self.new) }
+        ensures ends { Ends (Some task) self.new }
+        ensures there { TableIsThere self.new self.new.said }
+        ensures silent { IsDone self.new.said → ⊥ }
+        ensures rests { AreIdle self.old }
     {
         let task = &task;
         self.task = Some(*task);
@@ -122,6 +181,12 @@ impl Walk {
         ensures sound { IsSound self.new }
         ensures same { IsSame self.old self.new }
         ensures makes { WalksBy self.old self.new (call_due self.old) (device_answer heard.now) }
+        ensures keeps { (self.new.task ≡ None) ⊎ (self.new.task ≡ self.old.task) }
+        ensures told { OnOk result (self.new.task ≡ None → IsSome self.new.said) }
+        ensures given_up { OnErr result (IsGivenUp self.new) }
+        ensures ends { Ends self.old.task self.new }
+        ensures there { TableIsThere self.new self.new.said }
+        ensures fresh { IsDone self.new.said → AreSilent self.old }
     {
         let went = self.take(heard);
         self.settle(went)
@@ -136,6 +201,8 @@ impl Walk {
         ensures sound { OnOk result (IsSound self.new) }
         ensures same { IsSame self.old self.new }
         ensures makes { WalksBy self.old self.new (call_due self.old) (device_answer heard.now) }
+        ensures task { OnOk result (TaskGoesOn (IsFresh self.old.is) self.old.task self.new) }
+        ensures silent { OnErr result (self.new.said ≡ None) }
     {
         match &mut self.is {
             Whereabouts::Nowhere => unreachable!(),
@@ -159,9 +226,13 @@ impl Walk {
     fn settle(&mut self, went: Result<(), NoMemory>) -> Result<(), NoMemory>
         requires few { HasFew self.old }
         requires sound { OnOk went (IsSound self.old) }
+        requires silent { OnErr went (self.old.said ≡ None) }
         ensures sound { IsSound self.new }
         ensures same { IsSame self.old self.new }
         ensures leads { WalksOn self.old self.new }
+        ensures result { result ≡ went }
+        ensures kept { OnOk result (self.new ≡ self.old) }
+        ensures given_up { OnErr result (IsGivenUp self.new) }
     {
         if went.is_err() {
             self.is = Whereabouts::Nowhere;
@@ -176,9 +247,12 @@ impl Walk {
         requires task { self.old.task ≡ Some task.now }
         requires may { MayBegin self.old.host task.now }
         requires rests { IsResting self.old self.old.is }
+        requires silent { self.old.said ≡ None }
         ensures sound { OnOk result (IsSound self.new) }
         ensures same { IsSame self.old self.new }
         ensures leads { WalksOn self.old self.new }
+        ensures task { OnOk result (TaskGoesOn ⊥ self.old.task self.new) }
+        ensures silent { OnErr result (self.new.said ≡ None) }
     {
         let Whereabouts::In(stay) = &mut self.is else {
             self.find();
@@ -198,9 +272,11 @@ impl Walk {
     fn find(&mut self)
         requires few { HasFew self.old }
         requires task { (task : _) × (self.old.task ≡ Some task) × MayBegin self.old.host task }
+        requires silent { self.old.said ≡ None }
         ensures sound { IsSound self.new }
         ensures same { IsSame self.old self.new }
         ensures leads { WalksOn self.old self.new }
+        ensures task { TaskGoesOn ⊥ self.old.task self.new }
     {
         self.is = Whereabouts::Nowhere;
         if let Some(EpochTask::Mark { .. }) = self.task {
@@ -216,6 +292,8 @@ impl Walk {
         ensures task { self.new.task ≡ (if result then self.old.task else None) }
         ensures same { IsSame self.old self.new }
         ensures leads { WalksOn self.old self.new }
+        ensures said { IsTrue result → self.new.said ≡ self.old.said }
+        ensures ends { result ≡ false → TaskGoesOn ⊥ self.old.task self.new }
     {
         if self.moves < MOVES {
             self.moves += 1;
@@ -230,10 +308,13 @@ impl Walk {
     fn take_found(&mut self, found: Found) -> Result<(), NoMemory>
         requires few { HasFew self.old }
         requires task { (task : _) × (self.old.task ≡ Some task) × MayBegin self.old.host task }
+        requires silent { self.old.said ≡ None }
         requires finds { (search : _) × (self.old.is ≡ Whereabouts.Finds search) × HasEnded search found }
         ensures sound { OnOk result (IsSound self.new) }
         ensures same { IsSame self.old self.new }
         ensures leads { WalksOn self.old self.new }
+        ensures task { OnOk result (TaskGoesOn ⊥ self.old.task self.new) }
+        ensures silent { OnErr result (self.new.said ≡ None) }
     {
         self.is = Whereabouts::Nowhere;
         let Found::Newest { order, .. } = found else {
@@ -251,14 +332,21 @@ impl Walk {
     fn take_leave(&mut self, leave: Leave) -> Result<(), NoMemory>
         requires few { HasFew self.old }
         requires task { (task : _) × (self.old.task ≡ Some task) × MayBegin self.old.host task }
-        requires stays { (stay : _) × (self.old.is ≡ Whereabouts.In stay) × IsStaying self.old stay × IsSoLeft (Some leave) stay }
+        requires silent { self.old.said ≡ None }
+        requires stays { (stay : _) × (self.old.is ≡ Whereabouts.In stay) × IsStaying self.old stay × IsLeftFor self.old.task stay leave }
         ensures sound { OnOk result (IsSound self.new) }
         ensures same { IsSame self.old self.new }
         ensures leads { WalksOn self.old self.new }
+        ensures task { OnOk result (TaskGoesOn (IsAnswering leave) self.old.task self.new) }
+        ensures silent { OnErr result (self.new.said ≡ None) }
     {
         match leave {
             Leave::Answered(said) => {
                 self.say(said);
+                Ok(())
+            }
+            Leave::NotLearned => {
+                self.refuse(Refusal::NotLearned);
                 Ok(())
             }
             Leave::Full => self.go_on(),
@@ -273,31 +361,28 @@ impl Walk {
     // The task has ended so in the epoch where the host is.
     fn say(&mut self, said: HostAnswer)
         requires few { HasFew self.old }
-        requires rests { IsResting self.old self.old.is }
+        requires stays { (stay : _) × (self.old.is ≡ Whereabouts.In stay) × IsStaying self.old stay × IsLeftFor self.old.task stay (Leave.Answered said) }
         ensures sound { IsSound self.new }
         ensures same { IsSame self.old self.new }
         ensures leads { WalksOn self.old self.new }
+        ensures task { TaskGoesOn (IsAnswering (Leave.Answered said)) self.old.task self.new }
     {
-        self.said = Some(answer_in(self.config, self.epoch(), said));
+        let Whereabouts::In(stay) = &self.is else {
+            unreachable!()
+        };
+        let epoch = stay.epoch;
+        self.said = Some(answer_in(self.config, epoch, said));
         self.task = None;
     }
 
-    // The epoch where the host is.
-    fn epoch(&self) -> u64
-        requires rests { IsResting self.now self.now.is }
-        ensures { result ≤ EPOCHS }
-    {
-        match &self.is {
-            Whereabouts::In(stay) => stay.epoch,
-            Whereabouts::Nowhere | Whereabouts::Finds(_) => 0,
-        }
-    }
-
+    // The task ends without an answer of a core.
     fn refuse(&mut self, refusal: Refusal)
+        requires cause { Refuses self.old.task refusal self.old }
         ensures is { self.new.is ≡ self.old.is }
         ensures idle { self.new.task ≡ None }
         ensures same { IsSame self.old self.new }
         ensures leads { WalksOn self.old self.new }
+        ensures task { TaskGoesOn ⊥ self.old.task self.new }
     {
         self.said = Some(EpochAnswer::Refused(refusal));
         self.task = None;
@@ -307,10 +392,13 @@ impl Walk {
     fn go_on(&mut self) -> Result<(), NoMemory>
         requires few { HasFew self.old }
         requires task { (task : _) × (self.old.task ≡ Some task) × MayBegin self.old.host task }
-        requires stays { (stay : _) × (self.old.is ≡ Whereabouts.In stay) × IsStaying self.old stay × IsSoLeft (Some Leave.Full) stay }
+        requires silent { self.old.said ≡ None }
+        requires stays { (stay : _) × (self.old.is ≡ Whereabouts.In stay) × IsStaying self.old stay × (stay.doing ≡ Doing.Nothing) × (stay.config.slots ≤ learned_of stay) }
         ensures sound { OnOk result (IsSound self.new) }
         ensures same { IsSame self.old self.new }
         ensures leads { WalksOn self.old self.new }
+        ensures task { OnOk result (TaskGoesOn ⊥ self.old.task self.new) }
+        ensures silent { OnErr result (self.new.said ≡ None) }
     {
         let Whereabouts::In(stay) = &self.is else {
             unreachable!()
@@ -333,10 +421,13 @@ impl Walk {
     fn go_back(&mut self) -> Result<(), NoMemory>
         requires few { HasFew self.old }
         requires task { (task : _) × (self.old.task ≡ Some task) × MayBegin self.old.host task }
+        requires silent { self.old.said ≡ None }
         requires stays { (stay : _) × (self.old.is ≡ Whereabouts.In stay) × IsStaying self.old stay × (stay.doing ≡ Doing.Nothing) }
         ensures sound { OnOk result (IsSound self.new) }
         ensures same { IsSame self.old self.new }
         ensures leads { WalksOn self.old self.new }
+        ensures task { OnOk result (TaskGoesOn ⊥ self.old.task self.new) }
+        ensures silent { OnErr result (self.new.said ≡ None) }
     {
         let Whereabouts::In(stay) = &self.is else {
             unreachable!()
@@ -353,13 +444,17 @@ impl Walk {
     fn enter(&mut self, arrival: Arrival) -> Result<(), NoMemory>
         requires few { HasFew self.old }
         requires task { (task : _) × (self.old.task ≡ Some task) × MayBegin self.old.host task }
+        requires silent { self.old.said ≡ None }
         requires rests { IsResting self.old self.old.is }
         ensures sound { OnOk result (IsSound self.new) }
         ensures same { IsSame self.old self.new }
         ensures enters { Enters arrival self.old self.new }
+        ensures task { OnOk result (TaskGoesOn ⊥ self.old.task self.new) }
+        ensures silent { OnErr result (self.new.said ≡ None) }
     {
         let Some(own) = self.own_task() else {
-            self.refuse(Refusal::NotLearned);
+            // A marking moves to no other epoch. What is not learned where the host is, is learned nowhere.
+            self.find();
             return Ok(());
         };
         if EPOCHS <= arrival.epoch {
@@ -380,6 +475,7 @@ impl Walk {
         requires task { (task : _) × (self.now.task ≡ Some task) × MayBegin self.now.host task }
         ensures given { IfSome result (λ own. GivesTries own × IsAsked self.now.host own × IsSpelled own) }
         ensures room { IfSome result (λ own. (slots : _) → 1 ≤ slots → HasRoom own 0 slots) }
+        ensures same { IfSome result (λ own. (c : Shape) (e : _) → self.now.task ≡ Some (in_epochs c e own)) }
     {
         match &self.task {
             Some(task) => apart_from_marks(task),
@@ -404,6 +500,8 @@ fn task_in(config: Config, epoch: u64, task: &EpochTask) -> Option<Task>
     requires { epoch ≤ EPOCHS }
     ensures given { IfSome result (λ own. (h : _) → MayBegin h task.now → GivesTries own × IsAsked h own × IsSpelled own) }
     ensures slot { IfSome result (λ own. (slot : _) → own ≡ Task.Mark slot → slot < config.slots) }
+    ensures same { IfSome result (λ own. task.now ≡ in_epochs config epoch own) }
+    ensures none { IsNone result → IsElsewhere config epoch task.now }
 {
     match task {
         EpochTask::Mark { place } => Some(Task::Mark {
@@ -418,6 +516,8 @@ fn task_in(config: Config, epoch: u64, task: &EpochTask) -> Option<Task>
 fn apart_from_marks(task: &EpochTask) -> Option<Task>
     ensures given { IfSome result (λ own. (h : _) → MayBegin h task.now → GivesTries own × IsAsked h own × IsSpelled own) }
     ensures room { IfSome result (λ own. (slots : _) → 1 ≤ slots → HasRoom own 0 slots) }
+    ensures same { IfSome result (λ own. (c : Shape) (e : _) → task.now ≡ in_epochs c e own) }
+    ensures none { IsNone result → IsMark task.now }
 {
     match task {
         EpochTask::Submit { command, tries } => {
@@ -438,6 +538,7 @@ fn apart_from_marks(task: &EpochTask) -> Option<Task>
 // An answer, with places in place of the slots of an epoch.
 fn answer_in(config: Config, epoch: u64, said: HostAnswer) -> EpochAnswer
     requires { epoch ≤ EPOCHS }
+    ensures { result ≡ in_places config epoch said }
 {
     match said {
         HostAnswer::Ack { slot, reply } => EpochAnswer::Ack {

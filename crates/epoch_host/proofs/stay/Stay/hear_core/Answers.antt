@@ -15,8 +15,9 @@ use Rattle.epoch_host.proofs.Hearing.{leads_by, leaves_led, own_here, rests_led,
 use Rattle.host.specs.Kept.{due_call}
 use Rattle.epoch_host.specs.declared.stay.Doing.{Doing}
 use Rattle.epoch_host.specs.Staying.{IsSound}
+use Rattle.epoch_host.specs.Answering.{SaysFor}
 use Rattle.epoch_host.specs.Working.{IsAnswer}
-use Rattle.epoch_host.proofs.Staying.{few_heard, heard_answer, heard_leaves, heard_rests, heard_silent, heard_working, heard_works, waits_sound}
+use Rattle.epoch_host.proofs.Staying.{few_heard, heard_answer, heard_leaves, heard_rests, heard_says, heard_silent, heard_working, heard_works, waits_sound}
 use Rattle.epoch_host.proofs.stay.Stay.hear_core.Goals as goal
 
 pub returns-in_err-outcome-clause-sound : goal.returns-in_err-outcome-clause-sound
@@ -31,6 +32,15 @@ pub ended-requires-clause-told : goal.ended-requires-clause-told
 ended-requires-clause-told c =
     subst (IsAnswer c.args.self.now.config _) (sym c.answer.ensures.said ∙ c.in-Some.is)
     (heard_answer c.args.self.now c.args.work c.hear.new.self c.hear-2.new.self c.requires.sound c.requires.works c.hear.ensures.same (due_call c.args.self.now.core).0 (device_answer c.answer-told.result)
+    c.hear-2.ensures.leads c.is_whole.ensures (sym c.idle.ensures.idle ∙ c.if-idle.true))
+
+pub ended-requires-clause-says : goal.ended-requires-clause-says
+ended-requires-clause-says c = sym c.answer.ensures.said ∙ c.in-Some.is
+
+pub ended-requires-clause-fits : goal.ended-requires-clause-fits
+ended-requires-clause-fits c =
+    subst (SaysFor c.args.self.now.over c.args.self.now.config.slots c.args.self.now.task c.args.work c.hear-2.new.self.prefix) (sym c.answer.ensures.said ∙ c.in-Some.is)
+    (heard_says c.args.self.now c.args.work c.hear.new.self c.hear-2.new.self c.requires.sound c.requires.works c.hear.ensures.same (due_call c.args.self.now.core).0 (device_answer c.answer-told.result)
     c.hear-2.ensures.leads c.is_whole.ensures (sym c.idle.ensures.idle ∙ c.if-idle.true))
 
 pub unreachable-requires : goal.unreachable-requires

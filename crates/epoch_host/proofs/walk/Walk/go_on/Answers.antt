@@ -1,11 +1,11 @@
-use Rattle.std.proofs.Common.{◌≡◌, ◌+◌, Some, refl, sym, ◌∙◌, subst}
+use Rattle.std.proofs.Common.{◌≡◌, ◌≤◌, ◌+◌, refl, sym, ◌∙◌, subst}
 use Rattle.lock_table.specs.Apply.{table_after}
 use Rattle.epoch_host.specs.declared.over.Over.TheVariants.{Known}
 use Rattle.epoch_host.specs.declared.stay.Arrival.{Arrival}
 use Rattle.epoch_host.specs.declared.stay.Errand.TheVariants.{Works}
-use Rattle.epoch_host.specs.declared.stay.Leave.TheVariants.{Full}
+use Rattle.epoch_host.specs.declared.stay.Stay.{Stay}
 use Rattle.epoch_host.specs.declared.walk.Whereabouts.TheVariants.{In}
-use Rattle.epoch_host.specs.Staying.{IsSoLeft}
+use Rattle.epoch_host.specs.Staying.{learned_of}
 use Rattle.epoch_host.specs.Walking.{IsStaying}
 use Rattle.epoch_host.proofs.Carrying.{shown_beside}
 use Rattle.epoch_host.proofs.Moving.{goes_next, same_place}
@@ -23,7 +23,10 @@ returns-clause-leads c =
     let both : In s.0 ≡ In c.in-In.stay = sym s.1 ∙ c.in-In.is in
     let same : s.0 ≡ c.in-In.stay = cc in
     let staying : IsStaying c.args.self.now c.in-In.stay = subst (IsStaying c.args.self.now) same s.2 in
-    let left : IsSoLeft (Some Full) c.in-In.stay = subst (IsSoLeft (Some Full)) same s.3 in
+    let full : c.in-In.stay.config.slots ≤ learned_of c.in-In.stay = subst (λ (x : Stay). x.config.slots ≤ learned_of x) same s.4 in
     let arrival : Arrival = record { epoch = c.in-In.stay.epoch + 1; errand = Works; over = Known c.in_ok-over.over } in
-    goes_next c.args.self.now c.enter.new.self c.in-In.stay arrival c.table.result.now c.in_ok-over.over c.in-In.is left.1 staying.sound.learned.0 c.table.ensures.table c.in_ok-over.ensures.bytes c.in_ok-over.ensures.spelled refl
+    goes_next c.args.self.now c.enter.new.self c.in-In.stay arrival c.table.result.now c.in_ok-over.over c.in-In.is full staying.sound.learned.0 c.table.ensures.table c.in_ok-over.ensures.bytes c.in_ok-over.ensures.spelled refl
     refl c.enter.ensures.enters
+
+pub refuse-requires : goal.refuse-requires
+refuse-requires c = record { cause = λ task is k h deeds led. tt }

@@ -7,3 +7,6 @@ returns-then-self-lt-MOVES-clause-leads c = same_place c.args.self.now _ refl re
 
 pub returns-else-self-lt-MOVES-clause-leads : goal.returns-else-self-lt-MOVES-clause-leads
 returns-else-self-lt-MOVES-clause-leads c = c.refuse.ensures.leads
+
+pub refuse-requires : goal.refuse-requires
+refuse-requires c = record { cause = λ task is k h deeds led. tt }

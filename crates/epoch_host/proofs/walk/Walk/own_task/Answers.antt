@@ -1,5 +1,7 @@
-use Rattle.std.proofs.Common.{◌≡◌, Some, sym, ◌∙◌, subst}
+use Rattle.std.proofs.Common.{◌≡◌, ℕ, Some, ap, sym, ◌∙◌, subst}
+use Rattle.paxos_block.specs.Shape.{Shape}
 use Rattle.host.specs.declared.task.Task.{Task}
+use Rattle.epoch_host.specs.Ending.{in_epochs}
 use Rattle.epoch_host.specs.Submitting.{IsAsked}
 use Rattle.epoch_host.specs.Walking.{MayBegin}
 use Rattle.epoch_host.specs.Working.{GivesTries, IsSpelled}
@@ -14,3 +16,8 @@ returns-clause-given c =
     let same : t.0 ≡ c.in-Some.task = cc in
     map_some (λ (own : Task). (h : _) → MayBegin h c.in-Some.task → GivesTries own × IsAsked h own × IsSpelled own) (λ (own : Task). GivesTries own × IsAsked host own × IsSpelled own) c.apart_from_marks.result
     (λ own given. given host (subst (MayBegin host) same t.2)) c.apart_from_marks.ensures.given
+
+pub returns-clause-same : goal.returns-clause-same
+returns-clause-same c =
+    map_some (λ (own : Task). (k : Shape) (e : ℕ) → c.in-Some.task ≡ in_epochs k e own) (λ (own : Task). (k : Shape) (e : ℕ) → c.args.self.now.task ≡ Some (in_epochs k e own)) c.apart_from_marks.result
+    (λ own same k e. c.in-Some.is ∙ ap Some (same k e)) c.apart_from_marks.ensures.same

@@ -16,3 +16,6 @@ returns-clause-leads c =
     let arrival : Arrival = record { epoch = c.in-Newest.order; errand = Works; over = c.over_at_first.result } in
     goes_found c.args.self.now (record c.args.self.now { is = Nowhere }) c.enter.new.self c.requires.finds.0 c.in-Newest.order _ arrival c.requires.finds.1
     (subst (HasEnded c.requires.finds.0) c.in-Newest.is c.requires.finds.2) refl refl refl refl c.over_at_first.ensures c.enter.ensures.enters
+
+pub refuse-requires : goal.refuse-requires
+refuse-requires c = record { cause = λ task is k h deeds led. tt }

@@ -1,0 +1,6 @@
+use Rattle.std.proofs.Common.{subst}
+use Rattle.epoch_host.specs.Ending.{AreIdle}
+use Rattle.epoch_host.proofs.epoch_host.EpochHost.begin.Goals as goal
+
+pub returns-clause-rests : goal.returns-clause-rests
+returns-clause-rests c = subst AreIdle c.self.view_is c.begin.ensures.rests

@@ -1,0 +1,10 @@
+use Rattle.std.proofs.Common.{ℕ, subst}
+use Rattle.paxos_block.specs.Shape.{Shape}
+use Rattle.epoch_deeds.specs.Deeds.{Deeds}
+use Rattle.epoch_host.specs.declared.walk.Walk.{Walk}
+use Rattle.epoch_host.specs.Ending.{IsWhereItIs}
+use Rattle.epoch_host.specs.Leading.{LeadsTo}
+use Rattle.epoch_host.proofs.epoch_host.EpochHost.epoch.Goals as goal
+
+pub returns : goal.returns
+returns c = record { known = subst (λ (w : Walk). (k : Shape) (h : ℕ) (deeds : Deeds) → LeadsTo k h deeds w → IsWhereItIs k h deeds c.epoch.result) c.self.view_is c.epoch.ensures.known }

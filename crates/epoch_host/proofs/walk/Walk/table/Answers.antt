@@ -1,0 +1,5 @@
+use Rattle.epoch_host.proofs.Ending.{knows_table}
+use Rattle.epoch_host.proofs.walk.Walk.table.Goals as goal
+
+pub returns-clause-known : goal.returns-clause-known
+returns-clause-known c = knows_table c.args.self.now c.in_ok-at_work.field-0.now c.in_ok-at_work.ensures.at_work c.table.result.now c.table.ensures.table
