@@ -1,0 +1,197 @@
+-- What a host and its disks do, one thing after another, and what is left of it between tasks.
+use Rattle.std.specs.Prelude.{is_none, IsSome, IfOk, IfErr, IsErrAnd, Result, Ok, Err}
+use Rattle.std.proofs.Common.{ℕ, ◌≡◌, ◌≤◌, true, false, List, [], ◌∷◌, ◌++◌, length, slice_get, Option, Some, None, refl, sym, ◌∙◌, ap, subst, true≢false, ◌⊎◌, inl, inr}
+use Rattle.std.proofs.lemmas.List.{append-nil}
+use Rattle.disk.specs.Disk.{Call, Answer}
+use Rattle.paxos_block.specs.Shape.{Shape}
+use Rattle.standings.specs.Past.{made}
+use Rattle.epoch_deeds.specs.Deeds.{Deeds}
+use Rattle.attempt.specs.declared.refusal.Refusal.TheVariants.{Outrun}
+use Rattle.epoch_host.specs.declared.answer.EpochAnswer.{EpochAnswer}
+use Rattle.epoch_host.specs.declared.answer.EpochAnswer.TheVariants.{Ack, Recovered, Looked, Beaten, Marked, Refused}
+use Rattle.epoch_host.specs.declared.task.EpochTask.{EpochTask}
+use Rattle.epoch_host.specs.declared.task.EpochTask.TheVariants.{Submit, Recover, Look, Beat, Mark}
+use Rattle.epoch_host.specs.declared.walk.Walk.{Walk}
+use Rattle.epoch_host.specs.Ending.{EndsSo, HasEnded, TableIsThere}
+use Rattle.epoch_host.specs.Leading.{LeadsTo, GoesOn, MakesAndGoesOn, WalksBy, WalksOn}
+use Rattle.epoch_host.specs.Walking.{IsSame, call_due}
+use Rattle.dlm_images.specs.Operations.{Made, Gave, GaveOne}
+use Rattle.epoch_images.specs.declared.fault.EpochFault.{EpochFault}
+use Rattle.epoch_images.specs.declared.fault.EpochFault.TheVariants.{NoMemory}
+use Rattle.epoch_images.specs.Working.{Standing, DidMore, HasDone, HasWorked, IsKnown, IsOver, MayEnd, Rests, room_of, said_by, said_of}
+use Rattle.epoch_images.proofs.Deeds.{did_as, did_goes, did_makes, did_then}
+
+-- what is so of a host by what it did
+abbrev pub Sort : Type 1
+Sort = Shape → (h : ℕ) → Deeds → Type 0
+
+-- as that this leads to it
+abbrev pub leads_to : Walk → Shape → (h : ℕ) → Deeds → Type 0
+leads_to w c h deeds = LeadsTo c h deeds w
+
+-- a host that is not idle has a task
+pub is_busy : (o : Option EpochTask) → is_none o ≡ false → IsSome o
+is_busy None is = absurd (true≢false is)
+is_busy (Some task) is = refl
+
+-- and an idle one has none
+pub is_idle : (o : Option EpochTask) → is_none o ≡ true → o ≡ None
+is_idle None is = refl
+is_idle (Some task) is = absurd (true≢false (sym is))
+
+-- its task is the one that it had, until it has none
+pub has_task : (task : EpochTask) (o : Option EpochTask) → (o ≡ None) ⊎ (o ≡ Some task) → is_none o ≡ false → o ≡ Some task
+has_task task o either busy = elim either [ inl none ↦ absurd (true≢false (sym (ap is_none none) ∙ busy)) | inr same ↦ same ]
+
+pub keeps_then : (task : EpochTask) (old new : Option EpochTask) → old ≡ Some task → (new ≡ None) ⊎ (new ≡ old) → (new ≡ None) ⊎ (new ≡ Some task)
+keeps_then task old new had either = elim either [ inl none ↦ inl none | inr same ↦ inr (same ∙ had) ]
+
+-- HOW A TASK ENDS
+
+pub fits : (c : Shape) (h : ℕ) (deeds : Deeds) (task : EpochTask) (answer : EpochAnswer) → HasEnded c h deeds task answer → MayEnd task answer
+fits c h deeds (Submit command tries) (Ack place reply) ended = tt
+fits c h deeds (Recover tries) (Recovered upto) ended = tt
+fits c h deeds Look (Looked upto) ended = tt
+fits c h deeds Beat (Beaten host) ended = tt
+fits c h deeds (Mark place) (Marked count) ended = tt
+fits c h deeds task (Refused refusal) ended = tt
+fits c h deeds task other ended = absurd ended
+
+-- any task may be refused as outrun
+pub outrun_ends : (c : Shape) (h : ℕ) (deeds : Deeds) (task : EpochTask) → HasEnded c h deeds task (Refused Outrun)
+outrun_ends c h deeds (Submit command tries) = inr tt
+outrun_ends c h deeds (Recover tries) = inr tt
+outrun_ends c h deeds Look = inr tt
+outrun_ends c h deeds Beat = inr tt
+outrun_ends c h deeds (Mark place) = inr tt
+
+-- a task that is given up for memory ends without a word
+pub no_memory : (result : Result EpochAnswer EpochFault) → IsErrAnd result (λ given. given ≡ NoMemory) → said_of result ≡ None
+no_memory (Ok answer) is = absurd is
+no_memory (Err given) is = ap said_by is
+
+-- where it has told how much is learned, the table is there
+pub there_so : (w : Walk) (result : Result EpochAnswer EpochFault) → TableIsThere w (said_of result) → IfOk result (λ answer. TableIsThere w (Some answer))
+there_so w (Ok answer) there = there
+there_so w (Err fault) there = tt
+
+-- CALLS OF A TASK
+
+-- a disk gave one answer more
+gave_more : {D : Type 0} (gives : D → Call → Answer → D → Type 0) (old now new : List D) (xs : List Made) (x : Made) → Gave gives old xs now → GaveOne gives now x new → Gave gives old (xs ++ x ∷ []) new
+gave_more gives old now new [] x gave last = (new, subst (λ ds. GaveOne gives ds x new) gave last, refl)
+gave_more gives old now new (y ∷ ys) x gave last = (gave.0, gave.1, gave_more gives gave.0 now new ys x gave.2 last)
+
+module _ {D : Type 0} (gives : D → Call → Answer → D → Type 0) where
+  -- the host does something with no call
+  pub done_goes : (old new : Standing D) (IsSo : Sort) → new.disks ≡ old.disks → ((c : Shape) (h : ℕ) (deeds : Deeds) → LeadsTo c h deeds old.host → GoesOn c h deeds (IsSo c h)) → HasDone gives old new IsSo
+  done_goes old new IsSo same on = record { made = []; gave = same; leads = λ c h deeds is. did_goes c h deeds (IsSo c h) (on c h deeds is) }
+
+  -- it begins a task
+  pub begun : (old new : Standing D) → new.disks ≡ old.disks → WalksOn old.host new.host → HasDone gives old new (leads_to new.host)
+  begun old new same walks = done_goes old new (leads_to new.host) same walks
+
+  module _ (old now new : Standing D) (IsSo IsThen : Sort) (before : HasDone gives old now IsSo) where
+    -- and then a call
+    pub done_more : (due : ℕ × Call) (answer : Answer) → GaveOne gives now.disks (record { disk = due.0; call = due.1; answer = answer }) new.disks
+        → ((c : Shape) (h : ℕ) (deeds : Deeds) → IsSo c h deeds → MakesAndGoesOn c h deeds due.0 (made due.1 answer) (IsThen c h)) → HasDone gives old new IsThen
+    done_more due answer gave makes =
+        let x : Made = record { disk = due.0; call = due.1; answer = answer } in
+        record {
+          made = before.made ++ x ∷ [];
+          gave = gave_more gives old.disks now.disks new.disks before.made x before.gave gave;
+          leads = λ c h deeds is.
+              did_then c h deeds (IsSo c h) (IsThen c h) before.made (before.leads c h deeds is) (x ∷ []) (λ after so. did_makes c h after (IsThen c h) due.0 (made due.1 answer) (makes c h after so));
+        }
+
+    -- and then something with no call
+    pub done_and_goes : new.disks ≡ now.disks → ((c : Shape) (h : ℕ) (deeds : Deeds) → IsSo c h deeds → GoesOn c h deeds (IsThen c h)) → HasDone gives old new IsThen
+    done_and_goes same on =
+        record {
+          made = before.made;
+          gave = subst (λ (ds : List D). Gave gives old.disks before.made ds) (sym same) before.gave;
+          leads = λ c h deeds is.
+              subst (λ (l : List Made). DidMore c h deeds l (IsThen c h)) (append-nil before.made)
+              (did_then c h deeds (IsSo c h) (IsThen c h) before.made (before.leads c h deeds is) [] (λ after so. did_goes c h after (IsThen c h) (on c h after so)));
+        }
+
+    -- and then nothing
+    pub done_as : new.disks ≡ now.disks → ((c : Shape) (h : ℕ) (deeds : Deeds) → IsSo c h deeds → IsThen c h deeds) → HasDone gives old new IsThen
+    done_as same as_then =
+        record { made = before.made; gave = subst (λ (ds : List D). Gave gives old.disks before.made ds) (sym same) before.gave; leads = λ c h deeds is. did_as c h deeds (IsSo c h) (IsThen c h) before.made (before.leads c h deeds is) (as_then c h) }
+
+  -- a call of the task, heard with its answer
+  pub heard_one : (old now new : Standing D) (due : ℕ × Call) (answer : Answer) → due ≡ call_due now.host → HasDone gives old now (leads_to now.host)
+      → GaveOne gives now.disks (record { disk = due.0; call = due.1; answer = answer }) new.disks → WalksBy now.host new.host (call_due now.host) answer
+      → HasDone gives old new (leads_to new.host)
+  heard_one old now new due answer is before gave walks =
+      done_more old now new (leads_to now.host) (leads_to new.host) before due answer gave
+      (λ c h deeds so. subst (λ (p : ℕ × Call). MakesAndGoesOn c h deeds p.0 (made p.1 answer) (leads_to new.host c h)) (sym is) (walks c h deeds so))
+
+  -- A TASK IS OVER
+
+  pub has_worked : (task : EpochTask) (said : Option EpochAnswer) (old new : Standing D) → HasDone gives old new (leads_to new.host)
+      → ((c : Shape) (h : ℕ) (deeds : Deeds) → LeadsTo c h deeds new.host → EndsSo c h deeds (Some task) said) → HasWorked gives task said old new
+  has_worked task said old new done ends =
+      done_as old new new (leads_to new.host) (λ c h deeds. IsOver c h deeds task said new.host) done refl (λ c h deeds is. record { leads = is; ended = ends c h deeds is })
+
+  -- on the disks that were given and are kept
+  pub worked_as : (task : EpochTask) (said : Option EpochAnswer) (host new : Walk) (disks given left kept : List D) → given ≡ disks → kept ≡ left
+      → HasWorked gives task said (record { host = host; disks = given }) (record { host = new; disks = left }) → HasWorked gives task said (record { host = host; disks = disks }) (record { host = new; disks = kept })
+  worked_as task said host new disks given left kept given_is kept_is worked =
+      record {
+        made = worked.made;
+        gave = subst (λ (ds : List D). Gave gives ds worked.made kept) given_is (subst (λ (ds : List D). Gave gives given worked.made ds) (sym kept_is) worked.gave);
+        leads = worked.leads;
+      }
+
+  -- what a caller is told of it
+  module _ (task : EpochTask) (old new : Standing D) where
+    pub ended_so : (result : Result EpochAnswer EpochFault) → HasWorked gives task (said_of result) old new → IfOk result (λ answer. HasWorked gives task (Some answer) old new)
+    ended_so (Ok answer) worked = worked
+    ended_so (Err fault) worked = tt
+
+    pub refused_so : (result : Result EpochAnswer EpochFault) → HasWorked gives task (said_of result) old new → IfErr result (λ fault. HasWorked gives task (said_by fault) old new)
+    refused_so (Ok answer) worked = tt
+    refused_so (Err fault) worked = worked
+
+    pub fits_so : IsKnown old.host → (result : Result EpochAnswer EpochFault) → HasWorked gives task (said_of result) old new → IfOk result (MayEnd task)
+    fits_so known (Ok answer) worked =
+        let did : DidMore known.shape known.host known.deeds worked.made (λ after. IsOver known.shape known.host after task (Some answer) new.host) = worked.leads known.shape known.host known.deeds known.leads in
+        fits known.shape known.host (known.deeds ++ did.more) task answer did.so.ended
+    fits_so known (Err fault) worked = tt
+
+  -- BETWEEN TASKS
+
+  pub known_then : (task : EpochTask) (said : Option EpochAnswer) (old new : Standing D) → IsKnown old.host → HasWorked gives task said old new → IsKnown new.host
+  known_then task said old new known worked =
+      let did : DidMore known.shape known.host known.deeds worked.made (λ after. IsOver known.shape known.host after task said new.host) = worked.leads known.shape known.host known.deeds known.leads in
+      record { shape = known.shape; host = known.host; deeds = known.deeds ++ did.more; leads = did.so.leads }
+
+  pub rests_then : (size : D → ℕ) (config : Shape) (task : EpochTask) (said : Option EpochAnswer) (old new : Standing D) → Rests size config old → HasWorked gives task said old new
+      → new.host.task ≡ None → IsSame old.host new.host → length new.disks ≡ length old.disks → ((k : ℕ) (d : D) → slice_get new.disks k ≡ Some d → room_of old.host.config ≤ size d)
+      → Rests size config new
+  rests_then size config task said old new rests worked idle same as_many large =
+      record {
+        known = known_then task said old new rests.known worked;
+        idle = idle;
+        config_is = rests.config_is ∙ sym same.config;
+        as_many = as_many ∙ rests.as_many ∙ ap (λ (c : Shape). c.disks) (sym same.config);
+        large = λ k d is. subst (λ (c : Shape). room_of c ≤ size d) (sym same.config) (large k d is);
+      }
+
+-- a host that is started rests
+pub rests_at_first : {D : Type 0} (size : D → ℕ) (config : Shape) (host : ℕ) (s : Standing D) → LeadsTo config host [] s.host → s.host.task ≡ None → s.host.config ≡ config → length s.disks ≡ config.disks
+    → ((k : ℕ) (d : D) → slice_get s.disks k ≡ Some d → room_of config ≤ size d) → Rests size config s
+rests_at_first size config host s leads idle of as_many large =
+    record {
+      known = record { shape = config; host = host; deeds = []; leads = leads };
+      idle = idle;
+      config_is = sym of;
+      as_many = as_many ∙ ap (λ (c : Shape). c.disks) (sym of);
+      large = λ k d is. subst (λ (c : Shape). room_of c ≤ size d) (sym of) (large k d is);
+    }
+
+-- one after the other
+pub same_then : (old now new : Walk) → IsSame old now → IsSame now new → IsSame old new
+same_then old now new first then = record { host = then.host ∙ first.host; config = then.config ∙ first.config }

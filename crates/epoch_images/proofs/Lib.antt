@@ -1,0 +1,4 @@
+mod Anew
+mod Deeds
+mod Doing
+mod Marking

@@ -1,0 +1,3 @@
+pub mod Marking
+pub mod Tries
+pub mod Working

@@ -1,0 +1,110 @@
+-- What a host over all epochs and its disks did for a task: which deeds, with which calls, what the disks gave, and how it ended.
+use Rattle.std.specs.Prelude.{◌≡◌, ◌≤◌, ℕ, List, [], ◌∷◌, ◌++◌, length, slice_get, Option, Some, None, Result, Ok, Err}
+use Rattle.disk.specs.Disk.{Call, Answer}
+use Rattle.torn_block.specs.Layout.{cluster_version}
+use Rattle.paxos_block.specs.Places.{image_length}
+use Rattle.paxos_block.specs.Shape.{Shape}
+use Rattle.standings.specs.Epochs.{whole_length}
+use Rattle.standings.specs.Past as past
+use Rattle.epoch_deeds.specs.Deeds.{Deeds, Calls, CallsIn}
+use Rattle.epoch_deeds.specs.Knowing.{DoesFrom}
+use Rattle.epoch_host.specs.declared.answer.EpochAnswer.{EpochAnswer}
+use Rattle.epoch_host.specs.declared.answer.EpochAnswer.TheVariants as answer
+use Rattle.epoch_host.specs.declared.task.EpochTask.{EpochTask}
+use Rattle.epoch_host.specs.declared.task.EpochTask.TheVariants.{Submit, Recover, Look, Beat, Mark}
+use Rattle.epoch_host.specs.declared.walk.Walk.{Walk}
+use Rattle.epoch_host.specs.Ending.{EndsSo}
+use Rattle.epoch_host.specs.Leading.{LeadsTo, GoesOn}
+use Rattle.dlm_images.specs.Operations.{Made, Gave}
+use Rattle.epoch_images.specs.declared.fault.EpochFault.{EpochFault}
+use Rattle.epoch_images.specs.declared.fault.EpochFault.TheVariants as fault
+
+-- what a host keeps, and its disks
+pub record Standing (D : Type 0) : Type 0 where
+  pub host : Walk
+  pub disks : List D
+
+-- CALLS
+
+-- a call on a disk, with its answer
+abbrev pub made_on : ℕ → past.Made → Made
+made_on d now = record { disk = d; call = now.call; answer = now.answer }
+
+-- the device calls among deeds, in their order
+abbrev pub calls_of : Deeds → List Made
+calls_of [] = []
+calls_of (Calls d now ∷ deeds) = made_on d now ∷ calls_of deeds
+calls_of (CallsIn e d now call heard ∷ deeds) = made_on d now ∷ calls_of deeds
+calls_of (other ∷ deeds) = calls_of deeds
+
+-- DEEDS
+
+-- After these deeds a host did more, and each deed was allowed by all before it. The calls among that were these, and then this is so.
+pub record DidMore (c : Shape) (h : ℕ) (deeds : Deeds) (made : List Made) (IsSo : Deeds → Type 0) : Type 0 where
+  pub more : Deeds
+  pub may : DoesFrom c h deeds more
+  pub calls : calls_of more ≡ made
+  pub so : IsSo (deeds ++ more)
+
+-- From old to new the host made calls. Its disks gave the answers, and each disk changed only so. Whatever list of deeds led to the old host goes on with
+-- deeds that make just these calls, and then this is so.
+pub record HasDone {D : Type 0} (gives : D → Call → Answer → D → Type 0) (old new : Standing D) (IsSo : Shape → (h : ℕ) → Deeds → Type 0) : Type 0 where
+  pub made : List Made
+  pub gave : Gave gives old.disks made new.disks
+  pub leads : (c : Shape) (h : ℕ) (deeds : Deeds) → LeadsTo c h deeds old.host → DidMore c h deeds made (IsSo c h)
+
+-- with no call: what leads to the old host leads, with more, to the new one
+abbrev pub LeadsOn : (old new : Walk) → Type 0
+LeadsOn old new = (c : Shape) (h : ℕ) (deeds : Deeds) → LeadsTo c h deeds old → GoesOn c h deeds (λ after. LeadsTo c h after new)
+
+-- A TASK
+
+-- These deeds lead to the host, and by them the task ended as the host said.
+pub record IsOver (c : Shape) (h : ℕ) (deeds : Deeds) (task : EpochTask) (said : Option EpochAnswer) (host : Walk) : Type 0 where
+  pub leads : LeadsTo c h deeds host
+  pub ended : EndsSo c h deeds (Some task) said
+
+-- From old to new the host carried a task out, and said this last. Where it said nothing, memory was refused, and it gave the task up.
+abbrev pub HasWorked : {D : Type 0} → (D → Call → Answer → D → Type 0) → EpochTask → Option EpochAnswer → (old new : Standing D) → Type 0
+HasWorked gives task said old new = HasDone gives old new (λ c h deeds. IsOver c h deeds task said new.host)
+
+-- what the host said last, where a task ended without what it was begun for
+abbrev pub said_by : EpochFault → Option EpochAnswer
+said_by fault.NoMemory = None
+said_by (fault.Refused refusal) = Some (answer.Refused refusal)
+
+-- and where it ended in either way
+abbrev pub said_of : Result EpochAnswer EpochFault → Option EpochAnswer
+said_of (Ok said) = Some said
+said_of (Err fault) = said_by fault
+
+-- an answer that such a task may end with
+abbrev pub MayEnd : EpochTask → EpochAnswer → Type 0
+MayEnd (Submit command tries) (answer.Ack place reply) = Unit {0}
+MayEnd (Recover tries) (answer.Recovered upto) = Unit {0}
+MayEnd Look (answer.Looked upto) = Unit {0}
+MayEnd Beat (answer.Beaten host) = Unit {0}
+MayEnd (Mark place) (answer.Marked count) = Unit {0}
+MayEnd task (answer.Refused refusal) = Unit {0}
+MayEnd task other = ⊥
+
+-- BETWEEN TASKS
+
+-- some list of deeds leads to the host
+pub record IsKnown (w : Walk) : Type 0 where
+  pub shape : Shape
+  pub host : ℕ
+  pub deeds : Deeds
+  pub leads : LeadsTo shape host deeds w
+
+-- Each disk has so many bytes at least: two areas, and the rows of standings between them.
+abbrev pub room_of : Shape → ℕ
+room_of c = whole_length (image_length cluster_version c.slots)
+
+-- Something is known of the host of this cluster, and nothing is under way. It has as many disks as the cluster, and each has room for both areas.
+pub record Rests {D : Type 0} (size : D → ℕ) (config : Shape) (s : Standing D) : Type 0 where
+  pub known : IsKnown s.host
+  pub idle : s.host.task ≡ None
+  pub config_is : config ≡ s.host.config
+  pub as_many : length s.disks ≡ s.host.config.disks
+  pub large : (k : ℕ) (d : D) → slice_get s.disks k ≡ Some d → room_of s.host.config ≤ size d

@@ -1,0 +1,3 @@
+pub mod InPlaceDisks
+pub mod InPlaceFiles
+pub mod MadeReady

@@ -1,0 +1,2 @@
+pub mod InPlaceFolders
+pub mod InPlaceImages

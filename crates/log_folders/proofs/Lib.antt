@@ -1,0 +1,15 @@
+pub mod AreaSteps
+pub mod Beginnings
+pub mod CheckedImages
+pub mod Ending
+pub mod Finishing
+pub mod Hits
+pub mod Insiders
+pub mod Laying
+pub mod Lines
+pub mod NewSets
+pub mod OnlyReading
+pub mod Opened
+pub mod ReadCalls
+pub mod Steps
+pub mod UsedHeaders

@@ -1,0 +1,13 @@
+pub mod AnyHeaders
+pub mod AnySets
+pub mod Areas
+pub mod Beginnings
+pub mod EndlessChecks
+pub mod EndlessFolders
+pub mod EndlessReading
+pub mod Finishing
+pub mod Formatting
+pub mod Layout
+pub mod LogFolders
+pub mod NewSets
+pub mod Steps
