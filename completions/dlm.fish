@@ -19,7 +19,7 @@ complete -c dlm -n 'test (count (commandline -opc)) -eq 1' -a submit -d 'submit 
 complete -c dlm -n 'test (count (commandline -opc)) -eq 1' -a table -d 'show the lock table'
 complete -c dlm -n 'test (count (commandline -opc)) -eq 1' -a mark -d 'mark the slots that have no mark'
 complete -c dlm -n 'test (count (commandline -opc)) -eq 1' -a check -d 'look for damage in images'
-complete -c dlm -n 'test (count (commandline -opc)) -eq 1' -a migrate -d 'move a folder of the first layout'
+complete -c dlm -n 'test (count (commandline -opc)) -eq 1' -a migrate -d 'make a log endless, or move a folder of the first layout'
 complete -c dlm -n 'test (count (commandline -opc)) -eq 1' -a fill -d 'fill a log up'
 complete -c dlm -n 'test (count (commandline -opc)) -eq 1' -a renew -d 'carry the table of a full log over'
 complete -c dlm -n 'test (count (commandline -opc)) -eq 1' -a race -d 'race host threads'

@@ -6,7 +6,7 @@ ghost use Rattle.dlm.specs.Tasks.{HasPrinted};
 
 use crate::racing;
 use crate::refusal_line::refusal_line;
-use dlm_tasks::{CommandFailure, Fault, images, print_sweep, run_script};
+use dlm_tasks::{CommandFailure, Fault, images, made_endless, print_sweep, run_script};
 use dlm_words::{Subcommand, WordsFault, task_of};
 use folders::TryLock;
 use simulator::read_script;
@@ -52,14 +52,16 @@ where
         Subcommand::Run { script } => run_file(rt, script, out),
         Subcommand::Format {
             folder,
+            kind,
             config,
             cluster,
-        } => images::format(rt, folder, config, cluster, out),
+        } => images::format(rt, folder, kind, config, cluster, out),
         Subcommand::Submit { folder, command } => images::submit(rt, folder, command, out),
         Subcommand::Table { folder, host } => images::table(rt, folder, host, out),
         Subcommand::Mark { folder, host } => images::mark(rt, folder, host, out),
         Subcommand::Check { folder } => images::check(rt, folder, out),
         Subcommand::Migrate { old, new, slots } => images::migrate(rt, old, new, slots, out),
+        Subcommand::MakeEndless { folder } => made_endless::make_endless(rt, folder, out),
         Subcommand::Fill { folder, host } => images::fill(rt, folder, host, out),
         Subcommand::Renew {
             old,

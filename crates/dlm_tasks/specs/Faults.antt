@@ -2,12 +2,16 @@
 use Rattle.lock_script.specs.declared.script.ScriptFault.{ScriptFault}
 use Rattle.lock_script.specs.declared.script.ScriptFault.TheVariants as script
 use Rattle.attempt.specs.declared.refusal.Refusal.{Refusal}
+use Rattle.epoch_images.specs.declared.fault.EpochFault.{EpochFault}
+use Rattle.epoch_images.specs.declared.fault.EpochFault.TheVariants as epoch
 use Rattle.folders.specs.declared.fault.FolderFault.{FolderFault}
 use Rattle.folders.specs.declared.fault.FolderFault.TheVariants as folder
 use Rattle.folders.specs.declared.check.Finding.{Finding}
 use Rattle.folders.specs.declared.check.Finding.TheVariants as found
 use Rattle.folders.specs.declared.host_lock.LockFault.{LockFault}
 use Rattle.folders.specs.declared.host_lock.LockFault.TheVariants as lock
+use Rattle.in_place.specs.declared.in_place_fault.InPlaceFault.{InPlaceFault}
+use Rattle.in_place.specs.declared.in_place_fault.InPlaceFault.TheVariants as in_place
 use Rattle.folder_migration.specs.declared.fault.MoveFault.{MoveFault}
 use Rattle.folder_migration.specs.declared.fault.MoveFault.TheVariants as move
 use Rattle.folder_migration.specs.declared.fill.FillFault.{FillFault}
@@ -16,12 +20,19 @@ use Rattle.folder_migration.specs.declared.renew_fault.NewFault.{NewFault}
 use Rattle.folder_migration.specs.declared.renew_fault.NewFault.TheVariants as new
 use Rattle.folder_migration.specs.declared.renew_fault.RenewFault.{RenewFault}
 use Rattle.folder_migration.specs.declared.renew_fault.RenewFault.TheVariants as renew
+use Rattle.dlm_tasks.specs.declared.command_failure.CommandFailure.{CommandFailure}
+use Rattle.dlm_tasks.specs.declared.command_failure.CommandFailure.TheVariants.{Output, Refused}
 use Rattle.dlm_tasks.specs.declared.fault.Fault.{Fault}
 use Rattle.dlm_tasks.specs.declared.fault.Fault.TheVariants.{Damaged, Operation, Image, NoMemory, BadLine, Unreadable, AlreadyThere, TooFewSlots, MigrationFailed, HostInUse, NoLock, NotFull, SameCluster, NoClient, RenewedElsewhere, HasLocks}
 
 -- an operation of a host was refused
 abbrev pub of_refusal : Refusal → Fault
 of_refusal refusal = Operation (record { 0 = refusal })
+
+-- an operation of a host of all epochs was refused
+abbrev pub of_epoch : EpochFault → Fault
+of_epoch epoch.NoMemory = NoMemory
+of_epoch (epoch.Refused refusal) = of_refusal refusal
 
 abbrev pub of_script : ScriptFault → Fault
 of_script script.NoMemory = NoMemory
@@ -52,6 +63,13 @@ of_move (move.Lock fault) = of_lock fault
 of_move (move.Refused refusal) = of_refusal refusal
 of_move move.MigrationFailed = MigrationFailed
 
+-- a log was not made one without an end
+abbrev pub of_in_place : InPlaceFault → Fault
+of_in_place (in_place.Folder fault) = of_folder fault
+of_in_place (in_place.Lock fault) = of_lock fault
+of_in_place in_place.TooFewSlots = TooFewSlots
+of_in_place in_place.Renewed = RenewedElsewhere
+
 -- a log was not filled
 abbrev pub of_filling : FillFault → Fault
 of_filling fill.NoMemory = NoMemory
@@ -77,3 +95,8 @@ of_renewal (renew.HasLocks client) = HasLocks client
 of_renewal renew.TooFewSlots = TooFewSlots
 of_renewal (renew.New fault) = of_new fault
 of_renewal renew.RenewalFailed = MigrationFailed
+
+-- This is so of the fault of a task that is refused. Of an output that failed nothing is said.
+abbrev pub IfRefused : CommandFailure → (Fault → Type 0) → Type 0
+IfRefused (Refused fault) P = P fault
+IfRefused (Output error) P = Unit {0}

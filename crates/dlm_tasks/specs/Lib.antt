@@ -1,2 +1,6 @@
+pub mod Checking
+pub mod Endless
 pub mod Faults
+pub mod Folders
+pub mod InPlace
 pub mod Printed

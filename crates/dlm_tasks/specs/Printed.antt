@@ -17,6 +17,8 @@ use Rattle.host.specs.Host.{Recovering, fresh}
 use Rattle.host.specs.Kept as hosts
 use Rattle.host.specs.declared.answer.HostAnswer.{HostAnswer}
 use Rattle.host.specs.declared.answer.HostAnswer.TheVariants.{Ack, Recovered}
+use Rattle.endless_image.specs.declared.kind.Kind.{Kind}
+use Rattle.endless_image.specs.declared.kind.Kind.TheVariants.{Ending, Endless}
 use Rattle.paxos_block.specs.Shape.{Shape}
 use Rattle.lock_script.specs.Lines.{lines_of}
 use Rattle.lock_script.specs.Script.{IsScript, content_of}
@@ -131,9 +133,18 @@ pub record WritesPart (log : List Filled) (events : List happens.Event) (first :
 
 -- FOLDERS
 
+-- what the slots are of: the log, or each epoch of it
+abbrev pub slots_text : Kind → List ℕ
+slots_text Ending = codes " slots" ++ 10 ∷ []
+slots_text Endless = codes " slots an epoch" ++ 10 ∷ []
+
 -- how large the cluster is
-abbrev pub formatted_text : Shape → List ℕ
-formatted_text shape = codes "formatted " ++ decimal shape.disks ++ codes " disks, " ++ decimal shape.slots ++ (codes " slots" ++ 10 ∷ [])
+abbrev pub formatted_text : Kind → Shape → List ℕ
+formatted_text kind shape = codes "formatted " ++ (decimal shape.disks ++ (codes " disks, " ++ (decimal shape.slots ++ slots_text kind)))
+
+-- a check found nothing
+abbrev pub sound_text : List ℕ
+sound_text = codes "sound" ++ 10 ∷ []
 
 -- how an operation of a host ended
 abbrev pub answer_line : HostAnswer → List ℕ

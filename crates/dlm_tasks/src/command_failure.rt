@@ -1,3 +1,6 @@
+ghost use Rattle.std.specs.Prelude.{◌≡◌};
+ghost use Rattle.dlm_tasks.specs.declared.command_failure.CommandFailure.TheVariants.{Output, Refused};
+
 use crate::fault::Fault;
 use std::io;
 use thiserror::Error;
@@ -6,7 +9,23 @@ use thiserror::Error;
 #[derive(Debug, Drop, Error)]
 pub enum CommandFailure {
     #[error(transparent)]
-    Refused(#[from] Fault),
+    Refused(Fault),
     #[error("output failed")]
-    Output(#[from] io::Error),
+    Output(io::Error),
+}
+
+impl From<Fault> for CommandFailure {
+    ghost from_gives = { λ of failure. failure ≡ Refused of };
+
+    fn from(fault: Fault) -> Self {
+        CommandFailure::Refused(fault)
+    }
+}
+
+impl From<io::Error> for CommandFailure {
+    ghost from_gives = { λ of failure. failure ≡ Output of };
+
+    fn from(error: io::Error) -> Self {
+        CommandFailure::Output(error)
+    }
 }

@@ -1,14 +1,18 @@
-ghost use Rattle.std.specs.Prelude.{◌≡◌};
-ghost use Rattle.dlm_tasks.specs.Faults.{of_script, of_refusal, of_folder, of_filling, of_finding, of_lock, of_move, of_new, of_renewal};
-ghost use Rattle.dlm_tasks.specs.declared.fault.Fault.TheVariants.{NoMemory};
+ghost use Rattle.std.specs.Prelude.{◌≡◌, ◌↔◌, ◌⊎◌};
+ghost use Rattle.std.specs.IoError.{error_kind};
+ghost use Rattle.dlm_tasks.specs.Faults.{of_epoch, of_script, of_refusal, of_folder, of_filling, of_finding, of_in_place, of_lock, of_move, of_new, of_renewal};
+ghost use Rattle.dlm_tasks.specs.declared.fault.Fault.TheVariants.{NoMemory, Unreadable};
 
 use disk::ImageFault;
 use dlm_words::RefusalText;
+use epoch_images::EpochFault;
 use folder_migration::{FillFault, MoveFault, NewFault, RenewFault};
 use folders::{Finding, FolderFault, LockFault, image_fault_name, image_fault_number};
 use host::Refusal;
+use in_place::InPlaceFault;
 use simulator::ScriptFault;
 use std::io;
+use std::io::ErrorKind;
 use thiserror::Error;
 
 /// Why the program refuses its task, with the number and the name of the refusal.
@@ -42,7 +46,7 @@ pub enum Fault {
     /// The number of the first wrong run of a sweep, from 0: its answers do not fit the log that was recovered.
     #[error("31 WrongRun {0}")]
     WrongRun(usize),
-    /// A log that is moved needs as many slots as it had, and one that is renewed more than its table takes.
+    /// A log that is moved needs as many slots as it had, and one that is renewed more than its table takes. One that is made endless needs as many as an epoch.
     #[error("33 TooFewSlots")]
     TooFewSlots,
     #[error("34 MigrationFailed")]
@@ -64,7 +68,7 @@ pub enum Fault {
     /// A log that is to be filled knows no client.
     #[error("40 NoClient")]
     NoClient,
-    /// The folder that is to be renewed names another successor.
+    /// The folder that is to be renewed names another successor, or the one that is to be made endless names any.
     #[error("41 RenewedElsewhere")]
     RenewedElsewhere,
     /// The number of a client that a renewal is to leave out, and that has a lock.
@@ -73,10 +77,13 @@ pub enum Fault {
 }
 
 impl Fault {
-    /// Why a source could not be read.
-    pub fn of_reading(error: &io::Error) -> Self {
+    /// Why a source could not be read. Only where the system refused memory it is for want of memory.
+    pub fn of_reading(error: &io::Error) -> Self
+        ensures memory { (result ≡ NoMemory) ↔ (error_kind error.now ≡ ErrorKind.OutOfMemory) }
+        ensures unreadable { (result ≡ NoMemory) ⊎ (result ≡ Unreadable) }
+    {
         match error.kind() {
-            io::ErrorKind::OutOfMemory => Fault::NoMemory,
+            ErrorKind::OutOfMemory => Fault::NoMemory,
             _ => Fault::Unreadable,
         }
     }
@@ -98,6 +105,17 @@ impl From<Refusal> for Fault {
 
     fn from(refusal: Refusal) -> Self {
         Fault::Operation(RefusalText(refusal))
+    }
+}
+
+impl From<EpochFault> for Fault {
+    ghost from_gives = { λ of fault. fault ≡ of_epoch of };
+
+    fn from(fault: EpochFault) -> Self {
+        match fault {
+            EpochFault::NoMemory => Fault::NoMemory,
+            EpochFault::Refused(refusal) => Fault::from(refusal),
+        }
     }
 }
 
@@ -147,6 +165,19 @@ impl From<MoveFault> for Fault {
             MoveFault::Lock(fault) => Fault::from(fault),
             MoveFault::Refused(refusal) => Fault::from(refusal),
             MoveFault::MigrationFailed => Fault::MigrationFailed,
+        }
+    }
+}
+
+impl From<InPlaceFault> for Fault {
+    ghost from_gives = { λ of fault. fault ≡ of_in_place of };
+
+    fn from(fault: InPlaceFault) -> Self {
+        match fault {
+            InPlaceFault::Folder(fault) => Fault::from(fault),
+            InPlaceFault::Lock(fault) => Fault::from(fault),
+            InPlaceFault::TooFewSlots => Fault::TooFewSlots,
+            InPlaceFault::Renewed => Fault::RenewedElsewhere,
         }
     }
 }

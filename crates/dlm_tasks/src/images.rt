@@ -1,30 +1,27 @@
-ghost use Rattle.std.specs.Prelude.{◌≡◌, ℕ, true, IfOk, OnOk};
+ghost use Rattle.std.specs.Prelude.{◌≡◌, ◌⊎◌, true, None, Some, IfErr, IfOk, OnOk};
 ghost use Rattle.std.specs.Io.KnownBytes.{Appends};
 ghost use Rattle.lock_command.specs.Command.{is_submittable};
-ghost use Rattle.host.specs.Host.{fresh};
-ghost use Rattle.host.specs.Kept.{LeadsTo};
-ghost use Rattle.host.specs.declared.answer.HostAnswer.TheVariants.{Ack};
-ghost use Rattle.folder_migration.specs.Filling.{IsOver};
-ghost use Rattle.dlm_tasks.specs.Printed as printed;
-ghost use Rattle.dlm_tasks.specs.Printed.{Begins, HasSearched, IsFresh, WritesAcknowledgement, WritesFilling, WritesMarks, WritesMove, WritesRenewal, WritesTable, answer_line, filled_text, formatted_text, marked_text, moved_text, renewed_text, table_text};
+ghost use Rattle.endless_image.specs.Kinds.{IsSlotsBy};
+ghost use Rattle.log_folders.specs.LogFolders.{IsLogOpened};
+ghost use Rattle.dlm_tasks.specs.Checking.{EndsIn, IsFound, IsFoundFault, IsNotOpened};
+ghost use Rattle.dlm_tasks.specs.Faults.{IfRefused, of_finding};
+ghost use Rattle.dlm_tasks.specs.Folders.{MakesImages, WritesAck, WritesLog, WritesMarked};
+ghost use Rattle.dlm_tasks.specs.Printed.{WritesFilling, WritesMove, WritesRenewal, formatted_text, sound_text};
 
 use crate::command_failure::CommandFailure;
 use crate::fault::Fault;
-use disk::FileDisk;
-use dlm_images::{Acknowledgement, DiskHost, MarkedLog, start_host, submit_patiently};
-use dlm_words::ReplyText;
-use folder_migration::{Moved, Renewed, fill_log, migrate_folder, renew_folder};
+use crate::folder_text::{print_formatted, print_moved, print_renewed, print_sound};
+use crate::{ending, endless};
+use endless_image::Kind;
+use folder_migration::{migrate_folder, renew_folder};
 use folders::{
-    TryLock, check_folder, find_folder, format_folder, lock_host, open_folder, open_folder_to_read,
+    Access, Finding, Folder, TryLock, check_folder, find_folder, lock_host, open_folder,
 };
 use host::Config;
-use inspect::queues;
 use lock_command::{ClientNumber, Command, HostNumber};
-use lock_table::Table;
+use log_folders::{LogFolder, NewSet, check_endless, format_log, open_log};
 use paxos_block::SlotCount;
-use std::alloc::Global;
 use std::fs::OpenFile;
-use std::io;
 use std::io::Write;
 use std::os::unix::fs::FileExt;
 use std::random::RandomSource;
@@ -34,29 +31,29 @@ use std::time::Clock;
 /// How often an operation may be outrun.
 pub const TRIES: u8 = 8;
 
-/// Makes the images of a cluster in a folder, and prints that it has.
+/// Makes the images of a cluster in a folder, of either kind of log, and prints that it has.
 pub fn format<R: Files + AllocGlobal, O: Write>(
     rt: &R,
     folder: &str,
+    kind: Kind,
     config: Config,
     cluster: u64,
     out: &mut O,
 ) -> Result<(), CommandFailure>
 where
     R::File: FileExt + OpenFile + Drop,
-    ensures { OnOk result (Appends (O.contents out.old) (O.contents out.new) (formatted_text config)) }
+    requires { IsSlotsBy kind config.slots }
+    ensures laid_out { OnOk result (MakesImages kind config cluster) }
+    ensures prints { OnOk result (Appends (O.contents out.old) (O.contents out.new) (formatted_text kind config)) }
 {
-    let folder = find_folder(rt, folder).map_err(Fault::from)?;
-    format_folder(rt, folder.as_str(), config, cluster).map_err(Fault::from)?;
-    let disks = config.disks();
-    let slots = config.slots();
-    writeln!(out, "formatted {disks} disks, {slots} slots")?;
+    make_images(rt, folder, kind, config, cluster)?;
+    print_formatted(kind, config, out)?;
     out.flush()?;
     Ok(())
 }
 
-/// Submits a command that a client may ask for over the images of a folder, and prints its slot and what the lock table replied. One that is in
-/// the log already keeps its slot and its reply.
+/// Submits a command that a client may ask for over the images of a folder, and prints its place in the log and what the lock table replied. In a log that ends, one
+/// that is there already keeps its slot and its reply. In one without an end it takes another place, and gets the reply that is kept.
 pub fn submit<R: Files + Clock + RandomSource + AllocGlobal, O: Write>(
     rt: &R,
     folder: &str,
@@ -66,11 +63,14 @@ pub fn submit<R: Files + Clock + RandomSource + AllocGlobal, O: Write>(
 where
     R::File: FileExt + OpenFile + TryLock + Drop,
     requires { is_submittable command ≡ true }
-    ensures { OnOk result (WritesAcknowledgement TRIES command (O.contents out.old) (O.contents out.new)) }
+    ensures { OnOk result (WritesAck TRIES command (O.contents out.old) (O.contents out.new)) }
 {
     let folder = find_folder(rt, folder).map_err(Fault::from)?;
-    let (_, mut host, _lock) = locked_host_in(rt, folder.as_str(), command.host)?;
-    submit_in(rt, folder.as_str(), &mut host, command, out)
+    let (images, _lock) = locked_log(rt, folder.as_str(), command.host)?;
+    match images {
+        LogFolder::Ending(images) => ending::submit(rt, folder.as_str(), images, command, out),
+        LogFolder::Endless(images) => endless::submit(rt, images, command, out),
+    }
 }
 
 /// Learns the log from the images of a folder, and prints how much that is and the lock table after it.
@@ -82,14 +82,18 @@ pub fn table<R: Files + AllocGlobal, O: Write>(
 ) -> Result<(), CommandFailure>
 where
     R::File: FileExt + OpenFile + TryLock + Drop,
-    ensures { OnOk result (WritesTable TRIES host (O.contents out.old) (O.contents out.new)) }
+    ensures { OnOk result (WritesLog TRIES host (O.contents out.old) (O.contents out.new)) }
 {
-    let (mut host, _lock) = host_over(rt, folder, host)?;
-    recover_table(rt.alloc(), &mut host, out)
+    let folder = find_folder(rt, folder).map_err(Fault::from)?;
+    let (images, _lock) = locked_log(rt, folder.as_str(), host)?;
+    match images {
+        LogFolder::Ending(images) => ending::table(rt.alloc(), images, host, out),
+        LogFolder::Endless(images) => endless::table(rt.alloc(), images, host, out),
+    }
 }
 
 /// Learns the log from the images of a folder, marks each slot that no mark told, and prints how much the log is, and how many
-/// slots got their mark now.
+/// slots got their mark now. Of a log without an end that is done in the newest epoch: the others are full, and their tables final.
 pub fn mark<R: Files + AllocGlobal, O: Write>(
     rt: &R,
     folder: &str,
@@ -98,10 +102,14 @@ pub fn mark<R: Files + AllocGlobal, O: Write>(
 ) -> Result<(), CommandFailure>
 where
     R::File: FileExt + OpenFile + TryLock + Drop,
-    ensures { OnOk result (WritesMarks TRIES host (O.contents out.old) (O.contents out.new)) }
+    ensures { OnOk result (WritesMarked TRIES host (O.contents out.old) (O.contents out.new)) }
 {
-    let (mut host, _lock) = host_over(rt, folder, host)?;
-    mark_through(&mut host, out)
+    let folder = find_folder(rt, folder).map_err(Fault::from)?;
+    let (images, _lock) = locked_log(rt, folder.as_str(), host)?;
+    match images {
+        LogFolder::Ending(images) => ending::mark(rt.alloc(), images, host, out),
+        LogFolder::Endless(images) => endless::mark(rt.alloc(), images, host, out),
+    }
 }
 
 /// Prints what is wrong with the images of a folder, which are only read. What is found first is then the refusal.
@@ -112,18 +120,12 @@ pub fn check<R: Files + AllocGlobal, O: Write>(
 ) -> Result<(), CommandFailure>
 where
     R::File: FileExt + OpenFile + Drop,
+    // `sound` stands at the end only where nothing was found.
+    ensures sound { OnOk result (IsFound None × EndsIn sound_text (O.contents out.new)) }
+    ensures refused { IfErr result (λ failure. IfRefused failure (λ fault. IsNotOpened fault ⊎ IsFoundFault fault)) }
 {
-    let folder = find_folder(rt, folder).map_err(Fault::from)?;
-    let mut images = open_folder_to_read(rt, folder.as_str()).map_err(Fault::from)?;
-    let found = check_folder(&mut images, out)?;
-    if found.is_none() {
-        out.write_all(b"sound\n")?;
-    }
-    out.flush()?;
-    match found {
-        None => Ok(()),
-        Some(finding) => Err(CommandFailure::from(Fault::from(finding))),
-    }
+    let found = print_findings(rt, folder, out)?;
+    tell_found(found, out)
 }
 
 /// Moves the log of a folder of the first layout onto new images in another folder, and prints what that came to.
@@ -144,7 +146,7 @@ where
     Ok(())
 }
 
-/// Fills the log of a folder up with requests that change nothing, and prints how many slots that took.
+/// Fills the log of a folder up, which ends, with requests that change nothing, and prints how many slots that took.
 pub fn fill<R: Files + Clock + RandomSource + AllocGlobal, O: Write>(
     rt: &R,
     folder: &str,
@@ -155,8 +157,8 @@ where
     R::File: FileExt + OpenFile + TryLock + Drop,
     ensures { OnOk result (WritesFilling host (O.contents out.old) (O.contents out.new)) }
 {
-    let (config, mut over, _lock) = sized_host_over(rt, folder, host)?;
-    fill_through(rt, &mut over, config, out)
+    let (images, _lock) = locked_folder(rt, folder, host)?;
+    ending::fill(rt, images, host, out)
 }
 
 /// Carries the table after the full log of a folder over into another folder, without these clients, and prints what that came to.
@@ -180,251 +182,102 @@ where
     Ok(())
 }
 
-/// A host over the disks of a folder, which has learned nothing yet, and the file that keeps its number locked.
-fn host_over<R: Files + AllocGlobal>(
+/// The images are made, or an earlier format of the same words is finished.
+fn make_images<R: Files + AllocGlobal>(
     rt: &R,
     folder: &str,
-    host: HostNumber,
-) -> Result<(DiskHost<FileDisk<R::File>>, R::File), Fault>
+    kind: Kind,
+    config: Config,
+    cluster: u64,
+) -> Result<(), Fault>
 where
-    R::File: FileExt + OpenFile + TryLock + Drop,
-    ensures host { IfOk result (λ over. over.0.core.learner.host ≡ host) }
-    ensures fresh { IfOk result (λ over. IsFresh host over.0) }
-    ensures locked { IfOk result (λ over. R.File.locked over.1) }
+    R::File: FileExt + OpenFile + Drop,
+    requires { IsSlotsBy kind config.slots }
+    ensures { OnOk result (MakesImages kind config cluster) }
 {
-    let (_, over, lock) = sized_host_over(rt, folder, host)?;
-    Ok((over, lock))
+    let Some(set) = NewSet::new(kind, config, cluster) else {
+        unreachable!()
+    };
+    let folder = find_folder(rt, folder)?;
+    format_log(rt, folder.as_str(), &set)?;
+    Ok(())
 }
 
-/// The same, and how large its log is.
-fn sized_host_over<R: Files + AllocGlobal>(
+/// The images of a folder that was found, with either kind of log, and the file that keeps a host's number locked.
+fn locked_log<R: Files + AllocGlobal>(
     rt: &R,
     folder: &str,
     host: HostNumber,
-) -> Result<(Config, DiskHost<FileDisk<R::File>>, R::File), Fault>
+) -> Result<(LogFolder<R::File>, R::File), Fault>
 where
     R::File: FileExt + OpenFile + TryLock + Drop,
-    ensures fresh { IfOk result (λ over. LeadsTo over.0 host fresh over.1.core) }
-    ensures locked { IfOk result (λ over. R.File.locked over.2) }
+    ensures locked { IfOk result (λ log. R.File.locked log.1) }
+{
+    let images = open_log(rt, folder, Access::ReadAndWrite)?;
+    let lock = lock_host(rt, folder, host)?;
+    Ok((images, lock))
+}
+
+/// The images of a folder with a log that ends, and the file that keeps a host's number locked.
+fn locked_folder<R: Files + AllocGlobal>(
+    rt: &R,
+    folder: &str,
+    host: HostNumber,
+) -> Result<(Folder<R::File>, R::File), Fault>
+where
+    R::File: FileExt + OpenFile + TryLock + Drop,
+    ensures locked { IfOk result (λ log. R.File.locked log.1) }
 {
     let folder = find_folder(rt, folder)?;
-    locked_host_in(rt, folder.as_str(), host)
+    let images = open_folder(rt, folder.as_str())?;
+    let lock = lock_host(rt, folder.as_str(), host)?;
+    Ok((images, lock))
 }
 
-/// The same, in a folder that was found.
-fn locked_host_in<R: Files + AllocGlobal>(
+/// Prints what is wrong with the images of a folder, and tells what was found first.
+fn print_findings<R: Files + AllocGlobal, O: Write>(
     rt: &R,
     folder: &str,
-    host: HostNumber,
-) -> Result<(Config, DiskHost<FileDisk<R::File>>, R::File), Fault>
-where
-    R::File: FileExt + OpenFile + TryLock + Drop,
-    ensures fresh { IfOk result (λ over. LeadsTo over.0 host fresh over.1.core) }
-    ensures locked { IfOk result (λ over. R.File.locked over.2) }
-{
-    let images = open_folder(rt, folder)?;
-    let config = images.config;
-    let lock = lock_host(rt, folder, host)?;
-    let over = start_host(images, rt.alloc(), host)?;
-    Ok((config, over, lock))
-}
-
-/// A host over the disks of a folder that was found. Its number is locked by whoever calls this.
-fn host_in<R: Files + AllocGlobal>(
-    rt: &R,
-    folder: &str,
-    host: HostNumber,
-) -> Result<DiskHost<FileDisk<R::File>>, Fault>
-where
-    R::File: FileExt + OpenFile + Drop,
-    ensures fresh { IfOk result (λ over. IsFresh host over) }
-{
-    let images = open_folder(rt, folder)?;
-    let over = start_host(images, rt.alloc(), host)?;
-    Ok(over)
-}
-
-// What is done through a host is a function of its own, to which the host is lent: who owns one drops it on each way out. A host that begins looks
-// first: what marks tell it then costs one read a slot. If the look is refused, the operation behind it says why.
-
-// A command that the look finds in the log is asked again. Who submits one places it behind all that it knows, so a host that knows nothing submits that one, and
-// comes upon it where it stands.
-
-fn submit_in<R: Files + Clock + RandomSource + AllocGlobal, O: Write>(
-    rt: &R,
-    folder: &str,
-    host: &mut DiskHost<FileDisk<R::File>>,
-    command: Command,
     out: &mut O,
-) -> Result<(), CommandFailure>
+) -> Result<Option<Finding>, CommandFailure>
 where
     R::File: FileExt + OpenFile + Drop,
-    requires asked { is_submittable command ≡ true }
-    requires fresh { IsFresh command.host host.old }
-    ensures { OnOk result (WritesAcknowledgement TRIES command (O.contents out.old) (O.contents out.new)) }
+    ensures found { IfOk result IsFound }
+    ensures refused { IfErr result (λ failure. IfRefused failure IsNotOpened) }
 {
-    if has_found(host, &command) {
-        let mut other = host_in(rt, folder, command.host)?;
-        submit_through(rt, &mut other, command, out)
-    } else {
-        submit_through(rt, host, command, out)
+    match opened_to_read(rt, folder)? {
+        LogFolder::Ending(mut images) => Ok(check_folder(&mut images, out)?),
+        LogFolder::Endless(mut images) => Ok(check_endless(&mut images, out)?),
     }
 }
 
-/// Whether a look finds this command in the log.
-fn has_found<F: FileExt + OpenFile + Drop>(
-    host: &mut DiskHost<FileDisk<F>>,
-    command: &Command,
-) -> bool
-    ensures searched { IsFresh command.now.host host.old → HasSearched command.now result host.new }
-    ensures same { host.new.core.learner.host ≡ host.old.core.learner.host }
+/// The images of a folder, with either kind of log, to be read alone.
+fn opened_to_read<R: Files + AllocGlobal>(rt: &R, folder: &str) -> Result<LogFolder<R::File>, Fault>
+where
+    R::File: FileExt + OpenFile + Drop,
+    ensures opened { IfOk result IsLogOpened }
+    ensures fault { IfErr result IsNotOpened }
 {
-    let _ = host.look();
-    is_among(command, host.prefix())
+    let folder = find_folder(rt, folder)?;
+    let images = open_log(rt, folder.as_str(), Access::Read)?;
+    Ok(images)
 }
 
-fn is_among(command: &Command, learned: &[Command]) -> bool
-    ensures { result ≡ printed.is_among command.now learned.now }
+/// Prints that nothing was found, or gives what was found as the refusal.
+fn tell_found<O: Write>(found: Option<Finding>, out: &mut O) -> Result<(), CommandFailure>
+    ensures sound { OnOk result ((found ≡ None) × Appends (O.contents out.old) (O.contents out.new) sound_text) }
+    ensures refused { IfErr result (λ failure. IfRefused failure (λ fault. (first : Finding) × (found ≡ Some first) × (fault ≡ of_finding first))) }
 {
-    let bytes = command.encode();
-    learned.iter().any(|one| one.encode() == bytes)
-}
-
-fn submit_through<R: Clock + RandomSource, F: FileExt + OpenFile + Drop, O: Write>(
-    rt: &R,
-    host: &mut DiskHost<FileDisk<F>>,
-    command: Command,
-    out: &mut O,
-) -> Result<(), CommandFailure>
-    requires asked { is_submittable command ≡ true }
-    requires host { command.host ≡ host.old.core.learner.host }
-    ensures { OnOk result (Begins command host.old → WritesAcknowledgement TRIES command (O.contents out.old) (O.contents out.new)) }
-{
-    match submit_patiently(rt, host, command, TRIES) {
-        Ok(done) => {
-            print_ack(done, out)?;
-            // The command is in the log whether or not the marking succeeds.
-            let _ = host.mark(done.slot);
+    match found {
+        None => {
+            print_sound(out)?;
+            out.flush()?;
             Ok(())
         }
-        Err(refusal) => Err(CommandFailure::from(Fault::from(refusal))),
-    }
-}
-
-fn recover_table<F: FileExt + OpenFile + Drop, O: Write>(
-    alloc: Global,
-    host: &mut DiskHost<FileDisk<F>>,
-    out: &mut O,
-) -> Result<(), CommandFailure>
-    ensures { OnOk result ((number : ℕ) → IsFresh number host.old → WritesTable TRIES number (O.contents out.old) (O.contents out.new)) }
-{
-    let _ = host.look();
-    match host.recover(TRIES) {
-        Ok(length) => print_table(alloc, length, host.table(), out),
-        Err(refusal) => Err(CommandFailure::from(Fault::from(refusal))),
-    }
-}
-
-fn mark_through<F: FileExt + OpenFile + Drop, O: Write>(
-    host: &mut DiskHost<FileDisk<F>>,
-    out: &mut O,
-) -> Result<(), CommandFailure>
-    ensures { OnOk result ((number : ℕ) → IsFresh number host.old → WritesMarks TRIES number (O.contents out.old) (O.contents out.new)) }
-{
-    // A slot that the look learns from a mark need not be marked again.
-    let _ = host.look();
-    match host.recover_and_mark(TRIES) {
-        Ok(log) => print_marked(log, out),
-        Err(refusal) => Err(CommandFailure::from(Fault::from(refusal))),
-    }
-}
-
-fn fill_through<R: Clock + RandomSource + AllocGlobal, F: FileExt + OpenFile + Drop, O: Write>(
-    rt: &R,
-    host: &mut DiskHost<FileDisk<F>>,
-    config: Config,
-    out: &mut O,
-) -> Result<(), CommandFailure>
-    requires { IsOver config host.old }
-    ensures { OnOk result ((number : ℕ) → LeadsTo config number fresh host.old.core → WritesFilling number (O.contents out.old) (O.contents out.new)) }
-{
-    let _ = host.look();
-    match fill_log(rt, rt.alloc(), host, config) {
-        Ok(count) => print_filled(count, out),
-        Err(fault) => Err(CommandFailure::from(Fault::from(fault))),
-    }
-}
-
-fn print_ack<O: Write>(done: Acknowledgement, out: &mut O) -> Result<(), CommandFailure>
-    ensures { OnOk result (Appends (O.contents out.old) (O.contents out.new) (answer_line (Ack done.slot done.reply))) }
-{
-    let slot = done.slot;
-    let reply = ReplyText(done.reply);
-    writeln!(out, "ack {slot} {reply}")?;
-    out.flush()?;
-    Ok(())
-}
-
-fn print_marked<O: Write>(log: MarkedLog, out: &mut O) -> Result<(), CommandFailure>
-    ensures { OnOk result (Appends (O.contents out.old) (O.contents out.new) (marked_text log.length log.marked)) }
-{
-    let length = log.length;
-    let marked = log.marked;
-    writeln!(out, "recovered {length}")?;
-    writeln!(out, "marked {marked} slots")?;
-    out.flush()?;
-    Ok(())
-}
-
-fn print_table<O: Write>(
-    alloc: Global,
-    length: u16,
-    table: &Table,
-    out: &mut O,
-) -> Result<(), CommandFailure>
-    ensures { OnOk result (Appends (O.contents out.old) (O.contents out.new) (table_text length table.now)) }
-{
-    let picture = table.picture(alloc).map_err(Fault::from)?;
-    writeln!(out, "recovered {length}")?;
-    queues(&picture, out)?;
-    out.flush()?;
-    Ok(())
-}
-
-fn print_filled<O: Write>(count: u16, out: &mut O) -> Result<(), CommandFailure>
-    ensures { OnOk result (Appends (O.contents out.old) (O.contents out.new) (filled_text count)) }
-{
-    writeln!(out, "filled {count} slots")?;
-    out.flush()?;
-    Ok(())
-}
-
-fn print_moved<O: Write>(moved: Moved, slots: SlotCount, out: &mut O) -> io::Result<()>
-    ensures { OnOk result (Appends (O.contents out.old) (O.contents out.new) (moved_text slots moved)) }
-{
-    match moved {
-        Moved::Moved { commands, disks } => {
-            let slots = slots.get();
-            writeln!(
-                out,
-                "migrated {commands} commands, {disks} disks, {slots} slots"
-            )
+        Some(finding) => {
+            // What was printed goes out before the refusal is told.
+            out.flush()?;
+            Err(CommandFailure::from(Fault::from(finding)))
         }
-        Moved::Finished { disks } => writeln!(out, "finished {disks} disks"),
-    }
-}
-
-fn print_renewed<O: Write>(renewed: Renewed, config: Config, out: &mut O) -> io::Result<()>
-    ensures { OnOk result (Appends (O.contents out.old) (O.contents out.new) (renewed_text config.slots renewed)) }
-{
-    match renewed {
-        Renewed::Renewed { commands, disks } => {
-            let slots = config.slots();
-            writeln!(
-                out,
-                "renewed {commands} commands, {disks} disks, {slots} slots"
-            )
-        }
-        Renewed::Finished { disks } => writeln!(out, "finished {disks} disks"),
     }
 }

@@ -2,8 +2,12 @@
 #![tactic(auto)]
 
 mod command_failure;
+mod ending;
+mod endless;
 mod fault;
+mod folder_text;
 pub mod images;
+pub mod made_endless;
 mod run;
 mod sweeping;
 

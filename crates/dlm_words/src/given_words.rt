@@ -1,7 +1,10 @@
-ghost use Rattle.std.specs.Prelude.{◌≡◌, ◌≤◌, true, IfOk};
+ghost use Rattle.std.specs.Prelude.{◌≡◌, ◌≤◌, true, None, IfOk, IsSome};
 ghost use Rattle.lock_command.specs.Command.{is_submittable};
+ghost use Rattle.endless_image.specs.Kinds.{IsSlotsBy, kind_by};
+ghost use Rattle.endless_image.specs.declared.kind.TheConstants.{USUAL_SLOTS};
 
 use crate::words::WordsFault;
+use endless_image::Kind;
 use host::Config;
 use lock_command::{ClientNumber, Command, HOSTS, HostNumber};
 use lock_script::{number_in, read_command};
@@ -14,10 +17,29 @@ const LAST_HOST: u64 = HOSTS as u64 - 1;
 
 /// How large a cluster is to be.
 pub fn config_of(disks: &str, slots: &str) -> Result<Config, WordsFault> {
+    let (_, config) = new_log_of(disks, Some(slots))?;
+    Ok(config)
+}
+
+/// The kind of log that a new folder is to have, and how large. A word for the slots asks for a log that ends.
+pub fn new_log_of(disks: &str, slots: Option<&str>) -> Result<(Kind, Config), WordsFault>
+    ensures may { IfOk result (λ log. IsSlotsBy log.0 log.1.slots) }
+    ensures ending { IfOk result (λ log. IsSome slots.entry → log.0 ≡ Kind.Ending) }
+    ensures endless { IfOk result (λ log. slots.entry ≡ None → (log.0 ≡ Kind.Endless) × (log.1.slots ≡ USUAL_SLOTS)) }
+{
+    match slots {
+        Some(word) => new_log(disks, Some(slots_of(word)?.get())),
+        None => new_log(disks, None),
+    }
+}
+
+fn new_log(disks: &str, slots: Option<u16>) -> Result<(Kind, Config), WordsFault>
+    ensures { IfOk result (λ log. (log.0, log.1.slots) ≡ kind_by slots) }
+{
     let disks = number(disks, 1, u64::from(DISKS))? as u8;
-    let slots = number(slots, 1, u64::from(SLOTS))? as u16;
+    let (kind, slots) = Kind::asked_by(slots);
     match Config::new(disks, slots) {
-        Some(config) => Ok(config),
+        Some(config) => Ok((kind, config)),
         None => Err(WordsFault::Usage),
     }
 }

@@ -3,10 +3,11 @@ ghost use Rattle.dlm_words.specs.Asked.{MayBeAsked};
 ghost use Rattle.dlm_words.specs.declared.words.WordsFault.TheVariants.{NoMemory};
 
 use crate::given_words::{
-    clients_of, cluster_of, command_of, config_of, host_of, last_host_of, slots_of,
+    clients_of, cluster_of, command_of, config_of, host_of, last_host_of, new_log_of, slots_of,
 };
 use clap::error::ErrorKind;
 use clap::{Arg, ArgAction, ArgMatches, Error};
+use endless_image::Kind;
 use host::Config;
 use lock_command::{ClientNumber, Command, HostNumber};
 use paxos_block::SlotCount;
@@ -24,9 +25,10 @@ pub enum Subcommand<'a> {
     Sweep {
         script: &'a str,
     },
-    /// Make the images of a cluster in this folder.
+    /// Make the images of a cluster in this folder, with a log that ends or one without an end.
     Format {
         folder: &'a str,
+        kind: Kind,
         config: Config,
         cluster: u64,
     },
@@ -54,6 +56,10 @@ pub enum Subcommand<'a> {
         old: &'a str,
         new: &'a str,
         slots: SlotCount,
+    },
+    /// Make the log in this folder one without an end, in its own images.
+    MakeEndless {
+        folder: &'a str,
     },
     /// Fill the log in this folder up, through this host, with requests that change nothing.
     Fill {
@@ -175,6 +181,11 @@ fn word<'a>(alloc: Global, name: &'a str) -> Arg<'a> {
     Arg::new(alloc, name).required(true).action(ArgAction::Set)
 }
 
+/// A word that may be given.
+fn further_word<'a>(alloc: Global, name: &'a str) -> Arg<'a> {
+    Arg::new(alloc, name).action(ArgAction::Set)
+}
+
 fn run_command<'a>(alloc: Global) -> Result<clap::Command<'a>, AllocError> {
     clap::Command::new(alloc, "run")
         .disable_help_flag(true)
@@ -182,12 +193,15 @@ fn run_command<'a>(alloc: Global) -> Result<clap::Command<'a>, AllocError> {
 }
 
 fn format_command<'a>(alloc: Global) -> Result<clap::Command<'a>, AllocError> {
+    // The slots, if they are given, and the cluster's number behind them.
+    let numbers = Arg::new(alloc, "numbers")
+        .action(ArgAction::Append)
+        .num_args(0..);
     clap::Command::new(alloc, "format")
         .disable_help_flag(true)
         .arg(word(alloc, "folder"))?
         .arg(word(alloc, "disks"))?
-        .arg(word(alloc, "slots"))?
-        .arg(word(alloc, "cluster"))
+        .arg(numbers)
 }
 
 fn submit_command<'a>(alloc: Global) -> Result<clap::Command<'a>, AllocError> {
@@ -225,8 +239,8 @@ fn migrate_command<'a>(alloc: Global) -> Result<clap::Command<'a>, AllocError> {
     clap::Command::new(alloc, "migrate")
         .disable_help_flag(true)
         .arg(word(alloc, "old"))?
-        .arg(word(alloc, "new"))?
-        .arg(word(alloc, "slots"))
+        .arg(further_word(alloc, "new"))?
+        .arg(further_word(alloc, "slots"))
 }
 
 fn fill_command<'a>(alloc: Global) -> Result<clap::Command<'a>, AllocError> {
@@ -275,13 +289,25 @@ fn format_task<'a>(format: &ArgMatches<'a>) -> Result<Subcommand<'a>, WordsFault
     ensures { IfOk result MayBeAsked }
 {
     let folder = given(format, "folder")?;
-    let config = config_of(given(format, "disks")?, given(format, "slots")?)?;
-    let cluster = cluster_of(given(format, "cluster")?)?;
+    let disks = given(format, "disks")?;
+    let (slots, cluster) = slots_and_cluster(format.get_strs("numbers").unwrap_or_default())?;
+    let (kind, config) = new_log_of(disks, slots)?;
+    let cluster = cluster_of(cluster)?;
     Ok(Subcommand::Format {
         folder,
+        kind,
         config,
         cluster,
     })
+}
+
+/// The last words of `format`: the slots, where they are given, and the cluster's number.
+fn slots_and_cluster<'a>(words: &[&'a str]) -> Result<(Option<&'a str>, &'a str), WordsFault> {
+    match words {
+        [cluster] => Ok((None, *cluster)),
+        [slots, cluster] => Ok((Some(*slots), *cluster)),
+        _ => Err(WordsFault::Usage),
+    }
 }
 
 fn submit_task<'a>(alloc: Global, submit: &ArgMatches<'a>) -> Result<Subcommand<'a>, WordsFault>
@@ -321,11 +347,15 @@ fn check_task<'a>(check: &ArgMatches<'a>) -> Result<Subcommand<'a>, WordsFault>
 fn migrate_task<'a>(migrate: &ArgMatches<'a>) -> Result<Subcommand<'a>, WordsFault>
     ensures { IfOk result MayBeAsked }
 {
-    Ok(Subcommand::Migrate {
-        old: given(migrate, "old")?,
-        new: given(migrate, "new")?,
-        slots: slots_of(given(migrate, "slots")?)?,
-    })
+    let old = given(migrate, "old")?;
+    match migrate.get_str("new") {
+        Some(new) => Ok(Subcommand::Migrate {
+            old,
+            new,
+            slots: slots_of(given(migrate, "slots")?)?,
+        }),
+        None => Ok(Subcommand::MakeEndless { folder: old }),
+    }
 }
 
 fn fill_task<'a>(fill: &ArgMatches<'a>) -> Result<Subcommand<'a>, WordsFault>

@@ -1,9 +1,9 @@
 -- What is printed is the table after the commands that the recovery learned.
-use Rattle.std.proofs.Common.{ℕ, subst}
+use Rattle.std.proofs.Common.{ℕ, ◌∙◌, subst}
 use Rattle.std.proofs.lemmas.Result.{on_ok_weaker}
 use Rattle.std.specs.Io.KnownBytes.{Appends}
 use Rattle.dlm_tasks.specs.Printed.{table_text}
-use Rattle.dlm_tasks.proofs.images.recover_table.Goals as goal
+use Rattle.dlm_tasks.proofs.ending.recover_table.Goals as goal
 
 pub returns-in-Ok : goal.returns-in-Ok
 returns-in-Ok g c =
@@ -20,6 +20,6 @@ returns-in-Ok g c =
       looks = c.look.ensures.looked;
       recovers = c.recover.ensures.operated;
       picture = c.table.ensures;
-      written = subst (λ (count : ℕ). Appends before after (table_text count shown)) c.in-Ok.ensures.learned written;
+      written = subst (λ (count : ℕ). Appends before after (table_text count shown)) (c.from.ensures ∙ c.in-Ok.ensures.learned) written;
     })
     c.print_table.ensures

@@ -1,9 +1,9 @@
 -- What is printed is how much the recovery learned, and how many of its slots have their mark.
-use Rattle.std.proofs.Common.{ℕ, subst}
+use Rattle.std.proofs.Common.{ℕ, ◌∙◌, subst}
 use Rattle.std.proofs.lemmas.Result.{on_ok_weaker}
 use Rattle.std.specs.Io.KnownBytes.{Appends}
 use Rattle.dlm_tasks.specs.Printed.{marked_text}
-use Rattle.dlm_tasks.proofs.images.mark_through.Goals as goal
+use Rattle.dlm_tasks.proofs.ending.mark_through.Goals as goal
 
 pub returns-in-Ok : goal.returns-in-Ok
 returns-in-Ok g c =
@@ -19,6 +19,8 @@ returns-in-Ok g c =
       started = started;
       looks = c.look.ensures.looked;
       marks = c.in-Ok.ensures.marked.0;
-      written = subst (λ (count : ℕ). Appends before after (marked_text count marked)) c.in-Ok.ensures.learned written;
+      written =
+          subst (λ (count : ℕ). Appends before after (marked_text count marked)) (c.from.ensures ∙ c.in-Ok.ensures.learned)
+          (subst (λ (told : ℕ). Appends before after (marked_text c.from.result told)) c.from-in-Ok.ensures written);
     })
     c.print_marked.ensures

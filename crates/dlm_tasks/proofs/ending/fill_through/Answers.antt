@@ -2,7 +2,7 @@
 use Rattle.std.proofs.lemmas.Result.{on_ok_weaker}
 use Rattle.host.specs.Host.{looks_on}
 use Rattle.dlm_images.specs.Operations.{after_made}
-use Rattle.dlm_tasks.proofs.images.fill_through.Goals as goal
+use Rattle.dlm_tasks.proofs.ending.fill_through.Goals as goal
 
 pub fill_log-requires : goal.fill_log-requires
 fill_log-requires g c =

@@ -2,7 +2,7 @@
 use Rattle.std.proofs.Common.{rules, Bool, true, subst, inr}
 use Rattle.std.proofs.lemmas.Result.{on_ok_weaker}
 use Rattle.dlm_tasks.specs.Printed.{Begins, HasSearched, IsFresh}
-use Rattle.dlm_tasks.proofs.images.submit_in.Goals as goal
+use Rattle.dlm_tasks.proofs.ending.submit_in.Goals as goal
 
 pub returns-in_ok-other : goal.returns-in_ok-other
 returns-in_ok-other g c =
