@@ -1,6 +1,6 @@
 #!/usr/bin/env bash
 # all.sh: the tests of the program, by the proved one: all scripts of tests/scripts/ and examples/, words, folders, races, faults of files, damaged
-# images, kills, migrations, renewals and hosts at once, and README's own command over a folder twice. `rt ci` is the gate, which proves; it stands beside.
+# images, kills, migrations, logs made endless in place, renewals, hosts at once, logs without an end, and README's own command over a folder twice. `rt ci` is the gate, which proves; it stands beside.
 # The last line counts the tests, and the status is 1 where one failed.
 set -uo pipefail
 
@@ -33,7 +33,10 @@ try faults.sh
 try check_images.sh
 try kill.sh 40
 try migrate.py --kills 40
+try in_place.py
 try renew.py --kills 40 --long 5
 try at_once.py --rounds 2 --seconds 4
+try endless.py
+try endless_long.py
 echo "$passed passed, $failed failed"
 [[ $failed -eq 0 ]]

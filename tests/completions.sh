@@ -119,7 +119,7 @@ if command -v zsh >/dev/null; then
         zsh -n "$top/completions/$file" || failed=$((failed + 1))
     done
     hosts='0 1 2 3 4 5 6 7 8 9 10 11 12 13 14 15'
-    shown 'dlm format images 3 ' 'slots, 1 to 4096'
+    shown 'dlm format images 3 ' 'slots, 1 to 4096; or cluster, for a log without an end'
     shown 'dlm format images 3 64 ' 'cluster, any number, another one for each folder'
     shown 'dlm submit images ' "host, 0 to 15 $hosts"
     shown 'dlm submit images 0 enqueue ' 'client, 0 to 239; then request, lock or host'

@@ -94,6 +94,13 @@ expect "slots, two lost" 2 "${lost}1.img is cut off"$'\n'"${lost}2.img is not th
 rm -- "$work"/d/*.img
 expect "slots of nothing" 2 "dlm: 26 Unreadable disk0" "$work/examples/slots.sh" "$work/d" 15
 
+mkdir -- "$work/endless"
+"$program" format "$work/endless" 3 7 >/dev/null
+"$program" submit "$work/endless" 0 enqueue 1 1 1 EX db >/dev/null
+expect "slots, no end" 0 "1 places of a log without an end" "$work/examples/slots.sh" "$work/endless" 15
+truncate -s -1 "$work/endless/disk1.img"
+expect "slots, no end, one cut off" 0 "slots.sh: $work/endless/disk1.img is cut off"$'\n'"1 places of a log without an end" "$work/examples/slots.sh" "$work/endless" 15
+
 # Cut off.
 fresh
 truncate -s 2000 -- "$work/d/disk0.img"

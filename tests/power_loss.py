@@ -8,7 +8,7 @@ without the program); of some states `dlm table` is asked too, over the disks of
 states, so that losses come upon losses.
 
     power_loss.py [--steps N] [--hosts N] [--disks N] [--slots N] [--states N] [--tables N] [--seed N] [--program PATH]
-                  [--forget WHAT] [--format] [--migrate] [--renew]
+                  [--forget WHAT] [--format] [--migrate] [--renew] [--endless]
 
 In each step so many hosts submit at once (none given: one to four), some of which end in the midst. `--format` begins with losses
 within `dlm format`: no state shows a log before all images are whole, and the same words finish it, or make the images once these are
@@ -19,6 +19,9 @@ complete and open.
 
 `--renew` does so within `dlm renew`, onto three disks, and within `dlm fill`. There the old folder has its table in each state. The new one has
 this table, or reads as none. Once a new image was made, other words are refused in each state, so `renewed` names the new set by then.
+
+`--endless` does so within a submission that begins an epoch of a log without an end, and within the next one after a loss. In each state `dlm table` over some majority
+shows the table with that command, or without it where it was not acknowledged; and the same words again get its reply. With `--format` that is of such a log, too.
 
 `--forget body` does not count the syncs after a write of a body, and likewise `closed`, `opened` and `opening`, by what was written
 before, and `folder` those of a folder: so the test is seen to fail, but for `opening`. Over a migration and a renewal `opened` is seen, `body` and
@@ -37,6 +40,8 @@ import subprocess
 import sys
 import tempfile
 
+import endless
+import endless_log
 import lock_log
 import migrate
 
@@ -119,6 +124,26 @@ class Renewal:
         if len(whole) == len(self.new):
             return 1, ALREADY_THERE
         return 0, self.finished if whole else self.made
+
+
+class Epoch:
+    """The submission that begins epoch 3, through a host that was in epoch 1: it has a number and blocks there that it has to clear."""
+
+    share = 0.05
+    words = ["3", "enqueue", "2", "1", "2", "EX", "db"]
+
+    def __init__(self, work):
+        folder = os.path.join(work, "full")
+        plain = endless.put_alone(folder, 2, endless.SLOTS)
+        for disk in range(3):
+            path = f"{folder}/disk{disk}.img"
+            endless.put_bytes(path, endless_log.standing_place(endless.SLOTS, 1, 3), endless.copy_of(2))
+            for slot in (1, 2, 3, 200):
+                endless.put_bytes(path, endless_log.slot_place(endless.SLOTS, 1, slot, 3), endless.vote(endless.spelled(3, "status 9 1 9"), 4))
+        self.images = images_of(folder, 0)
+        self.before = plain.table.text()
+        self.reply = plain.reply(3, " ".join(self.words[1:])).split(" ", 2)[2]
+        self.after = plain.table.text()
 
 
 def images_of(folder, first):
@@ -399,9 +424,11 @@ class Walk:
         env = {**os.environ, "LD_PRELOAD": self.shim, "DLM_LOG": log}
         subprocess.run([self.given.program, *self.words_of_a_format(self.folder)], env=env, check=True, stdout=subprocess.DEVNULL)
         self.formatted = images_of(self.folder, 0)
-        storage, told = Storage({}), ""
-        for record in [*records(log), None]:
-            for state in self.states_of(storage):
+        found, storage, told = records(log), Storage({}), ""
+        # Images of a log without an end are long. So of the places at which zeros are written some will do.
+        some = {*range(16), *self.random.sample(range(len(found)), 12), *range(len(found) - 16, len(found) + 1)} if self.given.endless else range(len(found) + 1)
+        for place, record in enumerate([*found, None]):
+            for state in self.states_of(storage) if place in some else []:
                 self.counts["states of a format"] += 1
                 self.ask_for_nothing(state, "formatted" in told)
             if record:
@@ -409,7 +436,7 @@ class Walk:
                 told += record[4].decode() if record[0] == "P" else ""
 
     def words_of_a_format(self, folder):
-        return ["format", folder, str(self.given.disks), "6", "7"]
+        return ["format", folder, str(self.given.disks), *([] if self.given.endless else ["6"]), "7"]
 
     def states_of(self, storage):
         """What a loss of power may leave of these images: nothing that was not synced, all, and others. An image whose folder was not
@@ -463,7 +490,7 @@ class Walk:
         # What a host wrote is not there.
         apart = self.put_anew("apart", state)
         out = self.run(self.words_of_a_format(apart))
-        again = f"formatted {self.given.disks} disks, 6 slots\n"
+        again = f"formatted {self.given.disks} disks, {'1024 slots an epoch' if self.given.endless else '6 slots'}\n"
         is_left = all_whole and any(state[disk][0] != 0xA5 for disk in state)
         if state and not is_left and (out.returncode, out.stderr) == (1, ALREADY_THERE):
             apart = self.put_anew("apart", {})
@@ -622,6 +649,36 @@ class Walk:
             self.wrong.append(f"a renewal after a fill: {out}, told {told!r}")
         self.is_moved(new, True, told)
 
+    def begins_an_epoch(self, storage, told, further):
+        """A submission over these images begins an epoch. Power is lost at some places of it. Of these at some the same words are submitted again."""
+        found, out = self.recorded("", ["submit", self.put_anew("endless", storage.now()), *self.task.words])
+        self.counts["runs that begin an epoch"] += 1
+        if out.returncode or out.stdout.split(" ", 2)[2:] != [self.task.reply]:
+            self.wrong.append(f"a submission: {out.returncode} {out.stdout!r} {out.stderr!r}")
+        ends = set(self.random.sample(range(len(found) + 1), min(len(found) + 1, 3)))
+        for place, record in enumerate([*found, None]):
+            states = self.states_of(storage) if self.random.random() < self.task.share or place in ends else []
+            for state in states:
+                self.ask_in_an_epoch(state, told)
+            if further and place in ends:
+                self.begins_an_epoch(Storage(self.random.choice(states)), told, further - 1)
+            if record:
+                storage.take(record, self.forgets)
+                told += record[4].decode() if record[0] == "P" else ""
+
+    def ask_in_an_epoch(self, state, told):
+        """Over the disks of some majority."""
+        self.counts["states of a run that begins an epoch"] += 1
+        disks = self.random.sample(sorted(state), self.random.choice((2, 3)))
+        apart = self.put_anew("apart", {disk: state[disk] for disk in disks})
+        out = self.run(["table", apart, "9"])
+        shown = lock_log.sorted_below(out.stdout.splitlines())[1:]
+        if out.returncode or shown != self.task.after and (told or shown != self.task.before):
+            self.wrong.append(f"a table over {disks}: {out.returncode} {out.stdout!r} {out.stderr!r}, told {told!r}")
+        out = self.run(["submit", apart, *self.task.words])
+        if out.returncode or out.stdout.split(" ", 2)[2:] != [self.task.reply]:
+            self.wrong.append(f"the same again over {disks}: {out.returncode} {out.stdout!r} {out.stderr!r}, told {told!r}")
+
     def look(self, state, acks):
         """By every majority of the disks the greatest vote of an acknowledged slot is its command."""
         votes = []
@@ -668,6 +725,7 @@ def main():
     words.add_argument("--format", action="store_true")
     words.add_argument("--migrate", action="store_true")
     words.add_argument("--renew", action="store_true")
+    words.add_argument("--endless", action="store_true")
     words.add_argument("--forget", choices=["", "opening", "closed", "body", "opened", "folder", "renewed", "old"], default="")
     words.add_argument("--program", default=lock_log.PROGRAM)
     given = words.parse_args()
@@ -691,6 +749,9 @@ def main():
             walk.task = Renewal(walk)
             walk.moves(Storage(walk.task.old), "", 2)
             walk.fills()
+        if given.endless:
+            walk.task = Epoch(work)
+            walk.begins_an_epoch(Storage(walk.task.images), "", 1)
         steps = 0
         while steps < given.steps and not walk.wrong:
             walk.step()

@@ -357,7 +357,7 @@ def words_that_are_no_task():
     wants("no words", start([], stdout=subprocess.PIPE).returncode, 2)
     for text in ("run", "run a b", "RUN a", "help", "-V", "run -h", "run -", "-- run a", "race", "race 0", "race 17", "race 01", "race 1 2"):
         usage(text)
-    for text in ("format d 3 16", "format d 0 16 7", "format d 8 16 7", "format d 3 4097 7", "format d 3 16 18446744073709551616",
+    for text in ("format d 3", "format d 0 16 7", "format d 8 16 7", "format d 3 4097 7", "format d 3 16 18446744073709551616",
                  "format d 03 16 7", "table d 16", "table d 0 0", "mark d 16", "check", "check d 0", "submit d 16 release 1 1 1"):
         usage(text)
     for text in ("renew d 1 e 3 16", "renew d 1 e 3 16 8 256", "renew d 1 e 3 16 8 1 x", "renew d 1 e 3 16 8 01", "renew d 1 e 3 16 8 -1"):

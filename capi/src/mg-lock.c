@@ -403,6 +403,7 @@ static void help_for_dlm(void) {
           "  dlm table FOLDER HOST\n"
           "  dlm mark FOLDER HOST\n"
           "  dlm check FOLDER\n"
+          "  dlm migrate FOLDER\n"
           "  dlm migrate OLD NEW SLOTS\n"
           "  dlm fill FOLDER HOST\n"
           "  dlm renew OLD HOST NEW DISKS SLOTS CLUSTER [CLIENT]...\n"
