@@ -21,7 +21,6 @@ KNOWN = {
     ("docs/OPERATIONS.md", "dlm-shared "): "tests/machines.sh, with loop devices in the place of LUNs",
     ("docs/OPERATIONS.md", "mkdir a b && echo"): "tests/machines.sh",
     ("docs/OPERATIONS.md", "for k in 0 1 2; do truncate"): "tests/machines.sh",
-    ("docs/OPERATIONS.md", "rust: let waits = host.submit"): "crates/host_tests/src/hosts.rt makes such calls",
     ("docs/OPERATIONS.md", "mg-lock "): "capi/tests/mg_lock.py, over a folder of its own",
     ("docs/OPERATIONS.md", "groupadd dlm"): "tests/users.sh, with numbers in the place of a group and its users",
     ("docs/OPERATIONS.md", "mkdir /var/lib/dlm && chgrp"): "tests/users.sh, below a folder of its own",
