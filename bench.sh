@@ -9,6 +9,7 @@ proved=$crate/out/bench
 plain=$crate/out/baseline
 
 source "$top/build.sh"
+answer_words show_head "$@"
 ensure_built bench
 rustc -O --edition 2024 -o "$plain" "$crate/baseline/baseline.rs"
 

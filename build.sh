@@ -47,6 +47,22 @@ is_newest_file() {
     newer=$(find "${sources[@]}" -newer "$1" -print -quit) && [[ -z $newer ]]
 }
 
+# answer_words COMMAND [WORD..]: where the one word asks for help, runs the command, and where it asks for the version prints that. Then it ends.
+answer_words() {
+    [[ $# -eq 2 ]] || return 0
+    case $2 in
+        -h | --help | help) "$1" ;;
+        --version) echo "midgegalena $(<"$top/VERSION")" ;;
+        *) return 0 ;;
+    esac
+    exit 0
+}
+
+# What a script says of itself is its head.
+show_head() {
+    sed -n '2,/^[^#]/s/^# \{0,1\}//p' -- "${BASH_SOURCE[-1]}"
+}
+
 # Standard error may be closed.
 say() {
     echo "$1: $2" >&2 || true

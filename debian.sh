@@ -5,6 +5,16 @@
 # The address none.invalid is nobody's, by its name: the field wants one, and none is given.
 set -euo pipefail
 
+case "$*" in
+    -h | --help | help)
+        sed -n '2,/^[^#]/s/^# \{0,1\}//p' -- "${BASH_SOURCE[0]}"
+        exit
+        ;;
+    --version)
+        echo "midgegalena $(<"$(dirname -- "$(readlink -f -- "${BASH_SOURCE[0]}")")/VERSION")"
+        exit
+        ;;
+esac
 [[ $# -eq 1 || $# -eq 2 ]] || { echo "usage: debian.sh ARCHIVE [FOLDER]" >&2; exit 2; }
 into=${2-$(dirname -- "$1")}
 work=$(mktemp -d)

@@ -132,6 +132,12 @@ case "${*:-install}" in
     'uninstall library')
         each_of_library take_out
         ;;
+    -h | --help | help)
+        sed -n '2,/^[^#]/s/^# \{0,1\}//p' -- "${BASH_SOURCE[0]}"
+        ;;
+    --version)
+        echo "midgegalena $version"
+        ;;
     *)
         echo "usage: [PREFIX=..] [DESTDIR=..] install.sh [uninstall]" >&2
         exit 2

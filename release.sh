@@ -15,6 +15,8 @@ fail() {
     exit 1
 }
 
+source "$top/build.sh"
+answer_words show_head "$@"
 [[ $# -le 1 ]] || { echo "usage: release.sh [FOLDER]" >&2; exit 2; }
 commit=$(git -C "$top" rev-parse HEAD) || fail "this is no checkout of the repository"
 changes=$(git -C "$top" status --porcelain)
@@ -22,7 +24,6 @@ changes=$(git -C "$top" status --porcelain)
 version=$(<"$top/VERSION")
 made=$top/capi/out
 
-source "$top/build.sh"
 ensure_built dlm
 is_proved dlm || fail "crates/dlm/out/dlm is not what a build here has proved: take it away, and ./dlm proves and builds it"
 "$top/capi/build.sh" || fail "the library for C could not be built, and nothing is released without it"

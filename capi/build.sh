@@ -13,6 +13,7 @@ major=${version%%.*}
 cc=${CC:-cc}
 made=(libmidgegalena.a "libmidgegalena.so.$version" mg-lock dlm-shared dlm-mount)
 source "$top/build.sh"
+answer_words show_head "$@"
 
 fail() {
     echo "capi/build.sh: $1" >&2

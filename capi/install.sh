@@ -8,6 +8,11 @@ here=$(cd -- "$(dirname -- "$(readlink -f -- "${BASH_SOURCE[0]}")")" && pwd)
 case ${1-install} in
     install) "$here/build.sh" "${PREFIX:-/usr/local}" ;;
     uninstall) ;;
+    -h | --help | help)
+        sed -n '2,/^[^#]/s/^# \{0,1\}//p' -- "${BASH_SOURCE[0]}"
+        exit
+        ;;
+    --version) exec "$here/../install.sh" --version ;;
     *)
         echo "usage: [PREFIX=..] [DESTDIR=..] capi/install.sh [uninstall]" >&2
         exit 2
