@@ -33,18 +33,42 @@ find_sources() {
     done
 }
 
+# Prints what crates.txt has of a crate and those that it stands on, to which `below` is set.
+lines_of() {
+    local line name
+    while read -r line; do
+        name=${line%%[: ]*}
+        [[ -z $name || " ${below[*]-} $1 " != *" $name "* ]] || echo "$line"
+    done < "$top/crates.txt"
+}
+
+# Prints the sum of all that find_sources finds of a crate: of what stands there, and not of times.
+sum_of_sources() {
+    local sources below
+    find_sources "$1"
+    find_below "$1"
+    sources=("${sources[@]:1}")
+    (cd -- "$top" && lines_of "$1" && find "${sources[@]#"$top/"}" -type f -print0 | LC_ALL=C sort -z | xargs -0 sha256sum) | sha256sum
+}
+
 # is_newest FILE CRATE: whether there is such a program, and it is newer than the code and the contracts of the crate and of those that it stands on.
-# A file that was deleted is noticed by the time of its folder.
+# A file that was deleted is noticed by the time of its folder. Times tell nothing in a copied clone: there the program is the one that was proved, and the
+# sum of what it was made of is that of what is there. Then it gets the time at which this was looked at.
 is_newest() {
     [[ -x $1 ]] && is_newest_file "$1" "$2"
 }
 
 # The same of a file that is no program.
 is_newest_file() {
-    local sources newer
+    local sources newer began made_of=$top/crates/$2/out/made_of
     [[ -f $1 ]] || return 1
     find_sources "$2"
-    newer=$(find "${sources[@]}" -newer "$1" -print -quit) && [[ -z $newer ]]
+    newer=$(find "${sources[@]}" -newer "$1" -print -quit) || return 1
+    [[ -n $newer ]] || return 0
+    [[ -f $made_of ]] || return 1
+    began=$(date +%s.%N)
+    is_proved "$2" "${1##*/}" && [[ $(sum_of_sources "$2") == "$(<"$made_of")" ]] || return 1
+    touch -d "@$began" -- "$1" 2> /dev/null || true
 }
 
 # answer_words COMMAND [WORD..]: where the one word asks for help, runs the command, and where it asks for the version prints that. Then it ends.
@@ -70,29 +94,27 @@ say() {
 
 # copy_crates CRATE FOLDER: makes of the folder a repository that holds the crate and those that it stands on, without wrong bodies. Sets `below`.
 copy_crates() {
-    local name line
+    local name
     find_below "$1"
     mkdir -p -- "$2/.git"
     cp -- "$top/HANDLES" "$2"
     for name in "${below[@]}" "$1"; do
         tar -C "$top" --exclude=out --exclude=must-fail --exclude=wrong -cf - "crates/$name" | tar -C "$2" -xf -
     done
-    while read -r line; do
-        name=${line%%[: ]*}
-        [[ -z $name || " ${below[*]-} $1 " != *" $name "* ]] || echo "$line"
-    done < "$top/crates.txt" > "$2/crates.txt"
+    lines_of "$1" > "$2/crates.txt"
 }
 
-# show_progress PROGRAM LOG CRATES: a line for each crate that is proved, or was on this machine before; all that `rt` prints goes into the log.
+# show_progress PROGRAM LOG CRATES: a line for each crate that is proved, or was on this machine before, and how many crates are left; all that `rt` prints goes
+# into the log.
 show_progress() {
     local line functions='' left=$3
     while IFS= read -r line; do
         printf '%s\n' "$line" >&3
         case $line in
             'logic=proved functions='*) line=${line#*functions=} functions="${line%% *} functions" ;;
-            'rt: '*' proved') line=${line#rt: } left=$((left - 1)) && say "$1" "${line% proved}: $functions proved, $left left" ;;
+            'rt: '*' proved') line=${line#rt: } left=$((left - 1)) && say "$1" "${line% proved}: $functions proved, crates left: $left" ;;
             'rt: '*' NOT PROVED'*) say "$1" "${line#rt: }" ;;
-            'rt: '*' is kept: '*) line=${line#rt: } left=$((left - 1)) && say "$1" "${line%% is kept: *}: proved before, $left left" ;;
+            'rt: '*' is kept: '*) line=${line#rt: } left=$((left - 1)) && say "$1" "${line%% is kept: *}: proved before, crates left: $left" ;;
         esac
     done 3> "$2"
 }
@@ -100,17 +122,18 @@ show_progress() {
 # The gate's command in a copy of the program's crates proves them side by side, each as soon as those below it are proved, builds the program, and
 # runs it once. What it has proved `rt` keeps beside the kit, also where it is ended in the middle. The program gets the time at which that began.
 build() {
-    local crate=$1 copy below out=$top/crates/$1/out ended=0
+    local crate=$1 copy below made_of out=$top/crates/$1/out ended=0
     mkdir -p -- "$out"
     copy=$(mktemp -d)
     trap 'rm -rf -- "$copy"' EXIT
     touch -- "$copy/began"
     copy_crates "$crate" "$copy/repository"
+    made_of=$(top=$copy/repository && sum_of_sources "$crate")
     (cd -- "$copy/repository" && rt ci < /dev/null 2>&1) | show_progress "$crate" "$out/build.log" $((${#below[@]} + 1)) || ended=1
     if [[ $ended -eq 0 ]]; then
         touch -r "$copy/began" -- "$copy/repository/crates/$crate/out/$crate"
         cp -p -- "$copy/repository/crates/$crate/out/$crate" "$out/$crate.$$" && mv -- "$out/$crate.$$" "$out/$crate"
-        note_proved "$crate"
+        note_proved "$crate" "$crate" "$made_of"
     fi
     rm -rf -- "$copy"
     trap - EXIT
@@ -148,9 +171,12 @@ check_below() {
     done
 }
 
-# note_proved CRATE [FILE]: what is proved, the program or this file, has its sum beside it, written by those alone that have just proved it.
+# note_proved CRATE [FILE [SUM]]: what is proved, the program or this file, has its sum beside it, and that of what it was made of, which is what is there now
+# if none is given. They are written by those alone that have just proved it.
 note_proved() {
-    sha256sum < "$top/crates/$1/out/${2-$1}" > "$top/crates/$1/out/proved"
+    local out=$top/crates/$1/out
+    sha256sum < "$out/${2-$1}" > "$out/proved"
+    echo "${3-$(sum_of_sources "$1")}" > "$out/made_of"
 }
 
 # is_proved CRATE [FILE]

@@ -41,14 +41,15 @@ is_made() {
 
 # The archive gets the time at which its proof began.
 prove() {
-    local crate=$top/crates/dlm_c
+    local crate=$top/crates/dlm_c made_of
     ! is_newest_file "$crate/out/libdlm_c.a" dlm_c || ! is_proved dlm_c libdlm_c.a || return 0
     echo "capi/build.sh: proving and building crates/dlm_c, which takes a quarter of an hour or more where nothing was proved before" >&2
     touch -- "$out/began"
+    made_of=$(sum_of_sources dlm_c)
     : > "$out/build.log"
     check_below dlm_c "$out/build.log" && (cd -- "$crate" && rt lib < /dev/null) >> "$out/build.log" 2>&1 || fail "not built: $out/build.log says why"
     touch -r "$out/began" -- "$crate/out/libdlm_c.a"
-    note_proved dlm_c libdlm_c.a
+    note_proved dlm_c libdlm_c.a "$made_of"
 }
 
 mkdir -p -- "$out"

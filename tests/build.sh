@@ -22,16 +22,16 @@ while read -r line; do
     echo "logic=proved functions=7 and more"
     echo "rt: \$crate proved"
 done < crates.txt
-[[ ! -e "$work/late" ]] || { rm "$work/late" && sleep 0.02 && touch "$work/crates/dlm/src/main.rt"; }
+[[ ! -e "$work/late" ]] || { rm "$work/late" && sleep 0.02 && echo late >> "$work/crates/dlm/src/main.rt"; }
 mkdir -p crates/dlm/out && printf '#!/usr/bin/env bash\necho ran "\$@"\n' > crates/dlm/out/dlm && chmod +x crates/dlm/out/dlm
 echo "4 passed, 0 failed"
 END
 chmod +x -- "$work/bin/rt"
 PATH=$work/bin:$PATH
-told='dlm: beats: 7 functions proved, 1 left
-dlm: disk: proved before, 2 left
-dlm: dlm: 7 functions proved, 0 left
-dlm: inspect: 7 functions proved, 3 left'
+told='dlm: beats: 7 functions proved, crates left: 1
+dlm: disk: proved before, crates left: 2
+dlm: dlm: 7 functions proved, crates left: 0
+dlm: inspect: 7 functions proved, crates left: 3'
 
 # expect NAME BUILDS: `dlm` has to build or not, and then to run.
 expect() {
@@ -45,22 +45,38 @@ expect() {
     sleep 0.02
 }
 
+# As `cp -r` leaves it, where the program is copied first.
+all_newer() { find "$work/crates/"*/{src,specs} "$work/crates.txt" -exec touch {} + 2> /dev/null; sleep 0.02; }
+
 expect "no program" yes
 expect "nothing changed" no
-touch -- "$work/crates/disk/src/lib.rt"
+echo more >> "$work/crates/disk/src/lib.rt"
 expect "code changed" yes
+all_newer
+expect "a copied clone, in which all files are newer" no
+expect "the same, once more" no
+echo >> "$work/crates/dlm/out/dlm"
+all_newer
+expect "a copied clone with another program" yes
+all_newer
+echo more >> "$work/crates/disk/src/lib.rt"
+expect "a copied clone in which code changed" yes
 touch -- "$work/crates/disk/specs/Disk.antt"
 expect "a contract was added" yes
 rm -- "$work/crates/disk/src/more.rt"
 expect "a file was deleted" yes
 touch -- "$work/crates/bench/src/main.rt"
 expect "another program's code changed" no
-touch -- "$work/crates.txt" "$work/late"
+sed -i 's/^dlm: .*/& clap/' "$work/crates.txt"
+expect "what the program stands on changed" yes
+echo other >> "$work/crates/dlm/src/main.rt"
+touch -- "$work/late"
 expect "an edit during the build" yes
 expect "after an edit during the build" yes
 expect "nothing changed again" no
 
-touch -- "$work/broken" "$work/crates.txt"
+touch -- "$work/broken"
+echo broken >> "$work/crates/dlm/src/main.rt"
 for ending in open closed; do
     if [[ $ending = open ]]; then
         "$work/dlm" a 2> "$work/said"
@@ -85,5 +101,5 @@ is_proved dlm && { echo "what was not built counts as proved"; failed=$((failed 
 rm -- "$work/crates/dlm/out/dlm"
 expect "the program was taken away" yes
 is_proved dlm || { echo "what was built again does not count as proved"; failed=$((failed + 1)); }
-echo "$failed of 16 builds are not as they have to be"
+echo "$failed of 21 builds are not as they have to be"
 [[ $failed -eq 0 ]]

@@ -20,7 +20,7 @@ cat > "$work/stand_ins/bin/rt" << END
 [[ \$1 == lib && \${PWD##*/} == dlm_c && ! -e "$work/broken" ]] || exit 1
 echo rt >> "$work/calls"
 mkdir -p out && date +%N > out/libdlm_c.a
-[[ ! -e "$work/late" ]] || { rm "$work/late" && sleep 0.02 && touch src/lib.rt; }
+[[ ! -e "$work/late" ]] || { rm "$work/late" && sleep 0.02 && echo late >> src/lib.rt; }
 END
 # The others write what their word -o, or the archive's name, says.
 for name in cc ld ar objcopy; do
@@ -56,13 +56,16 @@ touch -- "$work/capi/examples/dlm-mount/dlm-mount.c"
 expect "dlm-mount changed" cc
 touch -- "$work/crates/disk/proofs/Disk.antt"
 expect "a proof changed" ''
-touch -- "$work/crates/disk/src/lib.rt"
+echo more >> "$work/crates/disk/src/lib.rt"
 expect "a crate below changed" 'disk torn_block rt cc'
+touch -- "$work/crates/"{dlm_c,disk}/src/lib.rt
+expect "a copied clone, in which code is newer" cc
 echo other > "$work/crates/dlm_c/out/libdlm_c.a"
 expect "another archive in the proved one's place" 'disk torn_block rt cc'
 rm -- "$work/crates/dlm_c/out/proved"
 expect "nothing tells what was proved" 'disk torn_block rt cc'
-touch -- "$work/late" "$work/crates/dlm_c/src/lib.rt"
+touch -- "$work/late"
+echo more >> "$work/crates/dlm_c/src/lib.rt"
 expect "an edit during the proof" 'disk torn_block rt cc'
 touch -- "$work/capi/src/mg-lock.c"
 expect "after an edit during the proof" 'disk torn_block rt cc'
@@ -79,7 +82,8 @@ failing() {
 echo 1.8 > "$work/VERSION"
 failing "VERSION alone was changed" "VERSION is 1.8, and the header's numbers are 1.7"
 echo 1.7 > "$work/VERSION"
-touch -- "$work/broken" "$work/crates/dlm_c/src/lib.rt"
+touch -- "$work/broken"
+echo more >> "$work/crates/dlm_c/src/lib.rt"
 failing "it is not proved" 'not built: .*/build.log says why'
 rm -- "$work/broken"
 touch -- "$work/unproved"
