@@ -1,6 +1,7 @@
 #!/usr/bin/env bash
 # install.sh: puts programs, library, manual pages and completions in place, below PREFIX (none given: /usr/local), with DESTDIR in front of it
-# where one is given, as for a package. install.sh uninstall: takes them out. Both print the files.
+# where one is given, as for a package. install.sh uninstall: takes out what is there of them, and the folders that are empty then, but not the first ones
+# of /usr and /usr/local, as bin. Both print the files.
 # In a checkout the program is built first, if it has to be. The library for C, with the programs over it, goes with it where it is built
 # (capi/build.sh); else that is said on standard error. capi/install.sh asks for that part alone: install.sh install library.
 # In an archive of release.sh all is there; its pages, what they name, and BUILT go to share/doc/midgegalena.
@@ -79,16 +80,17 @@ write_pc() {
     done < "$1"
 }
 
-take_out() {
-    rm -f -- "$root/$2"
-    echo "$root/$2"
-}
-
 # Folders are left where something else is in them.
-take_folders() {
-    local folders=("$root/$doc" "$root/$doc"/**/) at
-    for ((at = ${#folders[@]} - 1; at >= 0; at--)); do
-        [[ ! -d ${folders[at]} ]] || rmdir -- "${folders[at]}" 2> /dev/null || true
+take_out() {
+    local folder=$2
+    if [[ -e $root/$2 || -L $root/$2 ]]; then
+        rm -- "$root/$2"
+        echo "$root/$2"
+    fi
+    while [[ $folder == */* ]]; do
+        folder=${folder%/*}
+        [[ $folder == */* || ! $prefix =~ ^/usr(/local)?/?$ ]] || break
+        [[ ! -d $root/$folder ]] || rmdir -- "$root/$folder" 2> /dev/null || break
     done
 }
 
@@ -124,10 +126,7 @@ case "${*:-install}" in
     uninstall)
         each_of_program take_out
         each_of_library take_out
-        if [[ $is_archive -eq 1 ]]; then
-            each_of_pages take_out
-            take_folders
-        fi
+        [[ $is_archive -eq 0 ]] || each_of_pages take_out
         ;;
     'uninstall library')
         each_of_library take_out

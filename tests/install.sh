@@ -1,5 +1,5 @@
 #!/usr/bin/env bash
-# install.sh into a folder and out of it again: the program runs there, the page is found by man, and nothing is left behind.
+# install.sh into a folder and out of it again: the program runs there, the page is found by man, and nothing is left behind, but what was there before.
 set -uo pipefail
 
 source "$(dirname -- "$(readlink -f -- "${BASH_SOURCE[0]}")")/lib.sh"
@@ -15,15 +15,24 @@ for prefix in /usr/local '/opt/lock manager'; do
     [[ $(find "$work/root" ! -type d | wc -l) -eq $files ]] || fail "puts $(find "$work/root" ! -type d | wc -l) files"
     [[ $("$place/bin/dlm" run "$top/examples/first_reply.dlm") == "18 h0 ack 0 Granted" ]] || fail "the program does not run"
     if command -v man >/dev/null; then
-        man -M "$place/share/man" dlm 2>"$work/told" | grep -q 'locks for hosts that share disks' || fail "man finds no page: $(<"$work/told")"
+        man -M "$place/share/man" dlm 2>"$work/said" | grep -q 'locks for hosts that share disks' || fail "man finds no page: $(<"$work/said")"
     fi
     (
         # shellcheck source=/dev/null
         source "$place/share/bash-completion/completions/dlm"
         complete -p dlm >/dev/null
     ) || fail "the completion is none"
-    DESTDIR=$work/root PREFIX=$prefix "$top/install.sh" uninstall >/dev/null || fail "uninstall ends with $?"
-    [[ -z $(find "$work/root" ! -type d) ]] || fail "leaves files behind"
+    # Somebody else's file stays, with its folder. Of /usr/local the first folders stay, too.
+    mkdir -p -- "$place/share/other" && : >"$place/share/other/file"
+    left=$'share\nshare/other\nshare/other/file'
+    [[ $prefix != /usr/local ]] || left=$'bin\n'$left
+    [[ $prefix != /usr/local || -n $says ]] || left=$'bin\ninclude\nlib\n'${left#*$'\n'}
+    DESTDIR=$work/root PREFIX=$prefix "$top/install.sh" uninstall >"$work/taken" || fail "uninstall ends with $?"
+    diff <(LC_ALL=C sort "$work/told") <(LC_ALL=C sort "$work/taken") || fail "uninstall tells of other files than were there"
+    [[ $(cd -- "$place" && find * | LC_ALL=C sort) == "$left" ]] || fail "leaves behind: $(cd -- "$place" && find *)"
+    DESTDIR=$work/root PREFIX=$prefix "$top/install.sh" uninstall >"$work/taken" || fail "a second uninstall ends with $?"
+    [[ ! -s $work/taken ]] || fail "a second uninstall tells of files: $(<"$work/taken")"
+    rm -r -- "$work/root"
 done
 for words in what "install what" "uninstall what"; do
     # shellcheck disable=SC2086
