@@ -1,0 +1,12 @@
+pub mod Behind
+pub mod Counting
+pub mod Few
+pub mod Given
+pub mod Images
+pub mod Joined
+pub mod Lives
+pub mod Parting
+pub mod Places
+pub mod Runs
+pub mod Serving
+pub mod Tasks

@@ -1,0 +1,5 @@
+pub mod AtOnce
+pub mod Disks
+pub mod Images
+pub mod Joined
+pub mod Tasks
