@@ -1,0 +1,6 @@
+mod Breaking
+mod Entries
+mod Lists
+mod Owed
+mod Shown
+mod Steps
