@@ -2,6 +2,7 @@ pub mod Asking
 pub mod Claims
 pub mod Cleanups
 pub mod Devices
+pub mod Epochs
 pub mod Handles
 pub mod Hearing
 pub mod Held

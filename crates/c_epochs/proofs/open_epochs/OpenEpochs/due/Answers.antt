@@ -1,0 +1,23 @@
+use Rattle.std.proofs.Common.{rules, ◌∙◌, ◌<◌, ◌≡◌, ℕ, ℤ, inl, sym, subst, w32}
+use Rattle.std.proofs.lemmas.Int.{to_z-of_z}
+use Rattle.disk.specs.Disk.{Call}
+use Rattle.epoch_host.specs.Walking.{call_due}
+use Rattle.c_host.specs.Numbers.{done}
+use Rattle.c_epochs.specs.Calls.{TellsCallDue}
+use Rattle.c_epochs.proofs.Standing.{is_busy}
+use Rattle.c_epochs.proofs.open_epochs.OpenEpochs.due.Goals as goal
+
+pub call-requires : goal.call-requires
+call-requires c = record { busy = is_busy c.args.self.now.host.task (sym c.idle.ensures ∙ c.if-idle.false) }
+
+pub returns-clause-next : goal.returns-clause-next
+returns-clause-next c = inl (
+  is_busy c.args.self.now.host.task (sym c.idle.ensures ∙ c.if-idle.false),
+  subst (λ (n : ℤ). TellsCallDue (call_due c.args.self.now.host) c.tell.new.call c.args.written.now.bytes c.tell.new.written.bytes n) (sym (to_z-of_z w32 c.tell.result (search rules)))
+      (subst (λ (d : ℕ × Call). TellsCallDue d c.tell.new.call c.args.written.now.bytes c.tell.new.written.bytes c.tell.result) c.call.ensures.due c.tell.ensures.told),
+)
+
+pub returns-clause-within : goal.returns-clause-within
+returns-clause-within c = λ is_done.
+    let told : c.tell.result ≡ done = sym (to_z-of_z w32 c.tell.result (search rules)) ∙ is_done in
+    record { disk = subst (λ (n : ℕ). n < c.args.self.now.host.config.disks) (sym (c.tell.ensures.disk told)) c.call.ensures.disk; range = c.tell.ensures.within told _ c.call.ensures.range }
