@@ -95,6 +95,27 @@ tried "full log, built" cc -std=c99 $common "$here/tests/full_log.c" $flags -o "
 folder
 tried "full log" "$work/full_log" "$work/images" "$dlm"
 
+# A log without an end: hosts go through epochs, in memory where there is room, since that takes thousands of commands; mg-lock and dlm-shared refuse it.
+tried "endless, built" cc -std=c99 $common "$here/tests/endless.c" $flags -o "$work/endless"
+folder
+memory=$(mktemp -d -p /dev/shm 2> /dev/null) && trap 'rm -rf -- "$work" "$memory"' EXIT || memory=$work/images
+tried "endless" "$work/endless" "$memory" "$dlm"
+says_endless() { { "$@" 2>&1 || true; } | grep -q ' 25 WrongHeader (the log of this folder has no end: '; }
+for words in "mg-lock -n $memory/epochs 0 db -- true" "mg-lock --status $memory/epochs" "mg-lock --recover $memory/epochs 0" "dlm-shared table $memory/epochs 0"; do
+    # shellcheck disable=SC2086
+    tried "refused: $words" says_endless "$PREFIX"/bin/$words
+done
+rm -rf -- "$memory"
+for program in values contend failover; do
+    source=$here/tests/$program.c
+    [[ $program != failover ]] || source=$here/examples/c/failover.c
+    tried "$program over a log without an end, built" cc -std=c99 $common -include "$here/tests/over_endless.h" "$source" $flags -o "$work/endless_$program"
+    folder
+    given=("$work/images")
+    [[ $program != contend ]] || given+=(4 40)
+    tried "$program over a log without an end" "$work/endless_$program" "${given[@]}"
+done
+
 # Standard input, output and error are closed, in each of seven ways: no image's header changes.
 tried "closed, built" cc -std=c99 $common "$here/tests/closed.c" $flags -o "$work/closed"
 tried "format, built" cc -std=c99 $common -x c - $flags -o "$work/format" << 'END'
@@ -606,6 +627,10 @@ if echo 'int main(void) { return 0; }' | cc -x c -fsanitize=address,undefined - 
         [[ $program != contend ]] || given+=(3 5)
         tried "sanitized $program" "$work/sanitized_$program" "${given[@]}"
     done
+    tried "sanitized contend over a log without an end, built" cc -std=c99 $common -fsanitize=address,undefined -fno-sanitize-recover=all -include "$here/tests/over_endless.h" \
+        "$here/tests/contend.c" "$here/src/"{midgegalena,format,device}.c "$top/crates/dlm_c/out/libdlm_c.a" "$kit/libos_c.a" "$kit/liblibc_c.a" -o "$work/sanitized_endless"
+    folder
+    tried "sanitized contend over a log without an end" "$work/sanitized_endless" "$work/images" 3 5
 else
     left_out "gcc's sanitizers: they are not there"
 fi

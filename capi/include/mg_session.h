@@ -54,7 +54,7 @@ struct mg_session;
  * not remove signs.
  *
  * Where the folder is a link, each call works in the folder to which that leads. A folder whose cluster number is lower than that of one
- * before it is refused, MG_WRONG_HEADER. */
+ * before it is refused, MG_WRONG_HEADER, and so is one whose log has no end: mg_cause says that. */
 int mg_begin(const char *folder, unsigned host, unsigned flags, struct mg_session **out, int *disk);
 
 /* Ends a session. NULL is nothing. Locks that were not given stay in the log. The next mg_begin of this host number without MG_SHARE
@@ -66,10 +66,10 @@ void mg_end(struct mg_session *session);
 
 struct mg_held {
     uint32_t lock;         /* its number, for mg_give */
-    int32_t slot;          /* where the command that asked for it stands in the log; -1 of a lock that a former run took */
-    uint64_t cluster;      /* of the folder that this slot is of */
-    uint32_t slots_left;   /* in the log, once it was asked for */
     uint32_t released;     /* locks of processes that are gone, which this call released */
+    int64_t slot;          /* where the command that asked for it stands in the log; -1 of a lock that a former run took */
+    uint64_t cluster;      /* of the folder that this slot is of */
+    uint64_t slots_left;   /* in the log, once it was asked for */
     struct mg_value value; /* of its name, when it was granted */
 };
 

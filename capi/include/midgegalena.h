@@ -24,18 +24,19 @@
 extern "C" {
 #endif
 
-/* The library's numbers: an increase of the first breaks programs, an increase of the second adds to what there is. */
+/* The library's numbers: an increase of the first breaks programs, an increase of the second adds to what there is. As long as the first is 0 the second
+ * may break programs, too, as 8 does: compile them anew. */
 #define MG_VERSION_MAJOR 0
-#define MG_VERSION_MINOR 7
+#define MG_VERSION_MINOR 8
 
-/* "0.7", of the library that is linked. */
+/* "0.8", of the library that is linked. */
 const char *mg_version(void);
 
 /* ---- limits ---- */
 
 #define MG_HOSTS 16        /* numbered from 0 */
 #define MG_DISKS 7
-#define MG_SLOTS 4096      /* commands in the life of a folder */
+#define MG_SLOTS 4096      /* commands in the life of a folder whose log ends */
 #define MG_LOCKS 256       /* at once */
 #define MG_CLIENTS 32      /* in the life of a folder; a renewal may leave some out */
 #define MG_NAME_LENGTH 15  /* bytes from 0x21 to 0x7E */
@@ -57,6 +58,7 @@ enum mg_outcome {
     MG_STOPPED = -5,      /* mg_take: it was told to stop (mg_set_rest) */
     MG_IN_DOUBT = -6,     /* mg_take, mg_give: it is not known whether the lock is, or stays, in the table (mg_session.h) */
     MG_BUSY = -7,         /* a call of the session is under way: this one came from what mg_set_rest has it call. Nothing was done */
+    MG_NO_TABLE = -8,     /* the host does not know the lock table now: see "a log without an end". A look learns it */
 
     /* The host refused the operation. The command is not acknowledged, and may be in the log all the same: ask again with the
      * same request number */
@@ -115,7 +117,7 @@ enum mg_mode {
 
 struct mg_host;
 
-/* Makes the images of a new folder, which is there and has none: 1 to 7 disks, 1 to 4,096 slots. `diskK.img` may be a link to a block device, which is written over;
+/* Makes the images of a new folder, which is there and has none: 1 to 7 disks, 1 to 4,096 slots. Its log ends; one without an end is made by `dlm format`. `diskK.img` may be a link to a block device, which is written over;
  * else it becomes a file. Where `disk` is not NULL it becomes the image that is at fault, -1 where none is. mg_cause says more.
  *
  * Refused, and nothing is changed: MG_ALREADY_THERE where anything else has the name of an image, or a device is formatted; MG_UNREADABLE where a device is too
@@ -151,7 +153,8 @@ int mg_open(const char *folder, unsigned host, struct mg_host **out, int *disk);
 
 /* Opens a folder's images to read alone: for mg_look, mg_wait, and what shows the table. It takes no host number, locks nothing
  * and writes nothing, so any number of processes may do so at once, beside those that work under the numbers. mg_refresh, mg_mark
- * and all commands are refused, MG_ONLY_LOOKS, and mg_wait does not recover. mg_host_facts tells host 0, which says nothing here. */
+ * and all commands are refused, MG_ONLY_LOOKS, and mg_wait does not recover. mg_host_facts tells host 0, which says nothing here.
+ * A folder whose log has no end is refused, MG_WRONG_HEADER: there a look writes. */
 int mg_open_to_look(const char *folder, struct mg_host **out, int *disk);
 
 /* Makes a host number of such devices this machine's. It is the caller's word that the machine that had it is off, or cut off from the
@@ -205,7 +208,7 @@ enum mg_reply {
 };
 
 struct mg_answer {
-    int32_t slot;    /* where the command stands in the log, -1 where it was not acknowledged */
+    int64_t slot;    /* where the command stands in the log, -1 where it was not acknowledged */
     int32_t reply;   /* enum mg_reply */
     uint32_t purged; /* MG_PURGED: how many locks were taken away */
     int32_t held;    /* MG_STATE: the mode that the lock holds, and the one that it wants, MG_NONE for none */
@@ -242,7 +245,7 @@ int mg_purge(struct mg_host *host, unsigned client, uint64_t request, unsigned p
  * outrun, or be outrun by, a command of another host. */
 int mg_refresh(struct mg_host *host, uint64_t *learned);
 
-/* Learns the commands that are marked, up to the first that is not. It reads and syncs, writes nothing and disturbs nobody. It
+/* Learns the commands that are marked, up to the first that is not. It reads and syncs, writes nothing (but see "a log without an end") and disturbs nobody. It
  * claims nothing of what it has not learned: a command whose host died before it had marked it, and each after that one, may
  * be acknowledged and stay unseen until somebody marks it (mg_mark). */
 int mg_look(struct mg_host *host, uint64_t *learned);
@@ -259,6 +262,24 @@ int mg_mark(struct mg_host *host, uint64_t *learned);
  * `timeout` milliseconds, below 0 for no end; the lock still waits. MG_LOG_FULL: it waits, and all slots are learned, so in this
  * folder it waits for ever. Another number ends it at once. */
 int mg_wait(struct mg_host *host, unsigned lock, int interval, int timeout, int *granted);
+
+/* ---- a log without an end ----
+ *
+ * All calls of a host that mg_open has opened work on it as on a log that ends, and see by the header what it is. It is a row of epochs, each with so many slots.
+ * When one is full the next one begins, with commands that carry the table over. Slots are counted through all epochs, and some of them hold such
+ * commands. So a command's slot grows for ever, and is a token as good as in a log that ends.
+ *
+ * - It is never full, so no command is refused for that, and mg_wait waits on.
+ * - A look, too, comes to the newest epoch, and writes the host's own blocks for that. If it finds an epoch full it carries the table over into the next one,
+ *   and may be outrun, MG_OUTRUN. mg_wait goes on then.
+ * - A host knows the table once it has looked, learned or had a command acknowledged. A call that fails as an epoch begins may leave it without one. Then what
+ *   shows the table is refused, MG_NO_TABLE, and mg_log and mg_host_facts tell 0 commands, until a call learns it.
+ * - Where memory is refused the operation is given up, MG_NO_MEMORY. Its command may be in the log: ask again with the same request number.
+ */
+
+/* The epoch where the host is, how many slots each has, and how many of its own hold commands that the host has learned. A log that ends is one epoch, 0.
+ * Each may be NULL. MG_NO_TABLE: it is in none, as before its first operation. It makes no device call; mg_look finds the newest epoch. */
+int mg_epoch(struct mg_host *host, uint64_t *epoch, uint64_t *slots, uint64_t *used);
 
 /* ---- the table, as the host knows it: no device call ---- */
 
@@ -284,14 +305,14 @@ struct mg_host_view {
     uint64_t learned; /* commands of the log */
     uint32_t host;
     uint32_t disks;
-    uint32_t slots;
-    uint32_t unused;
+    uint32_t slots;   /* of the log; of one without an end, of an epoch */
+    uint32_t endless; /* 1: the log has no end; else 0 */
 };
 
 int mg_host_facts(struct mg_host *host, struct mg_host_view *into);
 
 /* How many slots the log has, and how many of them hold the commands that this host has learned. Others may have taken more
- * since: mg_look learns them. Where both are the same the log is full. Either may be NULL. */
+ * since: mg_look learns them. Where both are the same the log is full. A log without an end has UINT64_MAX. Either may be NULL. */
 int mg_log(struct mg_host *host, uint64_t *slots, uint64_t *used);
 
 /* The lock of this number, or MG_NO_SUCH_LOCK. */

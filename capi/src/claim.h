@@ -87,6 +87,7 @@ int32_t dlm_c_settle_left(struct claim *claim, struct cleanup *cleanup);
 
 /* By a host: of midgegalena.c. Commands of others are marked for so many milliseconds, once they are learned. The host's own is marked at once where
  * somebody may wait for it, else perhaps later. A lock 0 is none: all are passed, or the purge is to be submitted. `ours` has MG_LOCKS numbers. */
+int refuse_endless(void); /* the number, and its cause is told */
 int64_t microseconds(void);
 void sleep_for(int64_t length);
 int64_t pause_after(const struct mg_host *host, unsigned outrun);

@@ -211,7 +211,7 @@ static int submit(struct mg_host *host, const char *folder, unsigned number_of_h
         snprintf(reply, sizeof reply, "%s", replies[answer.reply]);
     else
         snprintf(reply, sizeof reply, "%d %s", status, mg_name(status));
-    length = snprintf(line, sizeof line, "ack %d %s\n", (int)answer.slot, reply);
+    length = snprintf(line, sizeof line, "ack %lld %s\n", (long long)answer.slot, reply);
     return write(STDOUT_FILENO, line, (size_t)length) == length ? 0 : REFUSED;
 }
 
@@ -246,7 +246,11 @@ static int refuse_others(const char *folder) {
     struct mg_disk_view disks[MG_DISKS];
     struct mg_host *host;
     size_t count = 0;
-    if (mg_open_to_look(folder, &host, NULL) != MG_OK)
+    int disk, status = mg_open_to_look(folder, &host, &disk);
+    /* One whose log has no end, too: mg_open would open that. */
+    if (status == MG_WRONG_HEADER)
+        return refuse(status, folder, 0, disk);
+    if (status != MG_OK)
         return 0;
     if (mg_images(host, images, MG_DISKS, NULL) != MG_OK || mg_disks(host, disks, MG_DISKS, &count) != MG_OK)
         count = 0;

@@ -246,7 +246,7 @@ static void put_environment(void) {
     put("MG_LOCK_NAME", "%s", asked.name);
     put("MG_LOCK_MODE", "%s", MODES[asked.mode]);
     put("MG_LOCK_NUMBER", "%u", (unsigned)db.lock);
-    put("MG_LOCK_SLOT", "%d", (int)db.slot);
+    put("MG_LOCK_SLOT", "%lld", (long long)db.slot);
     put("MG_LOCK_CLUSTER", "%llu", (unsigned long long)db.cluster);
     put("MG_LOCK_VALUE", "%s", value);
     put("MG_LOCK_VALID", "%d", is_valid);

@@ -172,6 +172,8 @@ static int accept_set(struct mg_session *session, struct mg_host *host) {
     int status = mg_host_facts(host, &facts);
     if (status != MG_OK)
         return status;
+    if (facts.endless)
+        return refuse_endless();
     if (facts.cluster < session->set)
         return MG_WRONG_HEADER;
     session->set = facts.cluster;
@@ -485,7 +487,7 @@ struct work {
     int cause;            /* errno, where the folder could not be opened */
     struct due_order end;
     unsigned released;
-    uint32_t slots_left;
+    uint64_t slots_left;
     struct mg_value value;
 };
 
@@ -650,7 +652,7 @@ static void conclude(struct mg_session *session, struct entry *entry, struct mg_
     if (view.request > session->request)
         session->request = view.request;
     if (host && mg_host_facts(host, &facts) == MG_OK)
-        work->slots_left = (uint32_t)(facts.slots - facts.learned);
+        work->slots_left = facts.slots - facts.learned;
     if (host && work->end.outcome == IS_HELD)
         (void)mg_value(host, entry->lock, &work->value);
     if (work->is_part || (work->is_take && work->end.outcome == IS_HELD && session->host && is_unmarked(session->host)))
@@ -886,7 +888,7 @@ int mg_give(struct mg_session *session, unsigned lock, const void *value) {
 
 /* ---- take ---- */
 
-static const struct mg_held NOTHING_HELD = {0, -1, 0, 0, 0, {{0}, 0}};
+static const struct mg_held NOTHING_HELD = {0, 0, -1, 0, 0, {{0}, 0}};
 
 static bool is_name(const char *name) {
     size_t length = name ? strlen(name) : 0;

@@ -25,12 +25,18 @@
 #include <time.h>
 #include <unistd.h>
 
-/* ---- crates/dlm_c/src, and crates/c_host/src below it ---- */
+/* ---- crates/dlm_c/src, and crates/c_host/src and crates/c_epochs/src below it ---- */
 
-enum { ROW_LENGTH = 4096, COPY_LENGTH = 128 };
+enum { ROW_LENGTH = 4096, COPY_LENGTH = 128, BLOCK_LENGTH = 256 };
 
-/* Handle of handle.rt: all zeros keep no host. Nothing but the functions below reads or writes it. */
+/* Handle of handle.rt, of a log that ends: all zeros keep no host. Nothing but the functions below reads or writes it. */
 struct handle {
+    bool is_open;
+    void *at;
+};
+
+/* EpochHandle of epoch_handle.rt: the same of a log without an end. */
+struct epoch_handle {
     bool is_open;
     void *at;
 };
@@ -79,13 +85,18 @@ struct written {
     uint8_t bytes[COPY_LENGTH];
 };
 
+/* WrittenBlock of c_epochs: a host clears its whole blocks before it works in an epoch. */
+struct written_block {
+    uint8_t bytes[BLOCK_LENGTH];
+};
+
 struct told_answer {
     uint64_t boot;
     uint32_t outcome;
     uint32_t unused;
 };
 
-/* Answer of answer.rt */
+/* Answer of answer.rt in c_host */
 struct answer {
     int32_t slot;
     int32_t reply;
@@ -95,20 +106,48 @@ struct answer {
     uint32_t count;
 };
 
-/* The sizes of the structs there. That each field lies where it does there is tried by tests/calls.c. */
+/* PlacedAnswer of answer.rt in c_epochs */
+struct placed_answer {
+    uint64_t place;
+    uint64_t learned;
+    int32_t reply;
+    uint32_t purged;
+    int32_t held;
+    int32_t wanted;
+    uint32_t marked;
+    uint32_t unused;
+};
+
+/* EpochsView of view.rt in c_epochs */
+struct epochs_view {
+    uint64_t cluster;
+    uint64_t epoch;
+    uint64_t taken;
+    uint64_t learned;
+    uint32_t host;
+    uint32_t disks;
+    uint32_t slots;
+    uint32_t is_in_epoch;
+    uint32_t has_table;
+    uint32_t unused;
+};
+
+/* The sizes of the structs there. That each field lies where it does there is tried by tests/calls.c and tests/endless.c. */
 typedef char sizes_are_as_there[sizeof(struct handle) == 16 && sizeof(struct request) == 56 && sizeof(struct image) == 1040 &&
                                         sizeof(struct images) == 7280 && sizeof(struct opened) == 32 &&
                                         sizeof(struct header) == 1032 && sizeof(struct due_call) == 32 &&
                                         sizeof(struct written) == 128 && sizeof(struct row) == 4096 && sizeof(struct told_answer) == 16 &&
                                         sizeof(struct answer) == 24 && sizeof(struct mg_value) == 20 && sizeof(struct mg_lock_view) == 36 &&
-                                        sizeof(struct mg_client_view) == 24 && sizeof(struct mg_host_view) == 32
+                                        sizeof(struct mg_client_view) == 24 && sizeof(struct mg_host_view) == 32 && sizeof(struct epoch_handle) == 16 &&
+                                        sizeof(struct written_block) == 256 && sizeof(struct placed_answer) == 40 && sizeof(struct epochs_view) == 56
                                     ? 1
                                     : -1];
 
 enum { ENQUEUE = 1, CONVERT = 2, RELEASE = 3, CANCEL = 4, STATUS = 5, PURGE = 6 };
-enum { SYNC = 2, READ = 3, WRITE = 4 };
+enum { ATTACH = 1, SYNC = 2, READ = 3, WRITE = 4 };
 enum { DONE = 0, RESET = 1, FAILED = 2 };
-enum { NOTHING_DUE = -5 };
+enum { NOTHING_DUE = -5, NO_TABLE = -10, HAS_AN_END = -11 };
+enum { NOT_LEARNED = 30 }; /* of a marking alone, of crates/attempt: that place is of no epoch where the host is */
 
 bool dlm_c_is_waited_for(const struct request *request);
 int32_t dlm_c_open(const struct images *images, uint32_t number, struct handle *handle, struct opened *told, int32_t *disk);
@@ -129,14 +168,35 @@ int32_t dlm_c_clients(struct handle *handle, struct mg_client_view *into, size_t
 int32_t dlm_c_text(struct handle *handle, uint8_t *into, size_t room, size_t *length);
 int32_t dlm_c_sign_name(struct handle *handle, uint32_t number, uint32_t lock, uint8_t *into, size_t room);
 
+int32_t dlm_c_epochs_open(const struct images *images, uint32_t number, struct epoch_handle *handle, struct opened *told, int32_t *disk);
+void dlm_c_epochs_close(struct epoch_handle *handle);
+int32_t dlm_c_epochs_submit(struct epoch_handle *handle, const struct request *request, const uint8_t *name, size_t length, uint32_t tries);
+int32_t dlm_c_epochs_recover(struct epoch_handle *handle, uint32_t tries);
+int32_t dlm_c_epochs_look(struct epoch_handle *handle);
+int32_t dlm_c_epochs_mark(struct epoch_handle *handle, uint64_t place);
+int32_t dlm_c_epochs_call(struct epoch_handle *handle, uint64_t boot, struct due_call *call, struct written_block *written);
+int32_t dlm_c_epochs_next(struct epoch_handle *handle, const struct told_answer *told, const struct row *row, struct due_call *call,
+                          struct written_block *written);
+int32_t dlm_c_epochs_answer(struct epoch_handle *handle, struct placed_answer *answer);
+int32_t dlm_c_epochs_host(struct epoch_handle *handle, struct epochs_view *into);
+int32_t dlm_c_epochs_lock(struct epoch_handle *handle, uint32_t lock, struct mg_lock_view *into);
+int32_t dlm_c_epochs_value(struct epoch_handle *handle, uint32_t lock, struct mg_value *into);
+int32_t dlm_c_epochs_locks(struct epoch_handle *handle, struct mg_lock_view *into, size_t room, size_t *count);
+int32_t dlm_c_epochs_clients(struct epoch_handle *handle, struct mg_client_view *into, size_t room, size_t *count);
+int32_t dlm_c_epochs_text(struct epoch_handle *handle, uint8_t *into, size_t room, size_t *length);
+
 int32_t dlm_c_submit_order(struct claim *claim, struct handle *handle);
 int32_t dlm_c_hear(struct claim *claim, struct handle *handle, uint32_t event, int32_t status, bool left_over);
 int32_t dlm_c_next_left(struct handle *handle, const struct cleanup *cleanup, const uint32_t *ours, size_t length, struct mg_lock_view *into);
 int32_t dlm_c_next_purge(struct handle *handle, const struct cleanup *cleanup, uint32_t *lock);
 int32_t dlm_c_submit_purge(struct handle *handle, const struct cleanup *cleanup);
 
-/* What it says below 0, but for a bad argument, is of calls that this file does not make. */
-int status_of(int32_t told) { return told >= MG_BAD_ARGUMENT ? told : MG_BROKEN; }
+/* What it says below 0, but for a bad argument and a table that is not known, is of calls that this file does not make. */
+int status_of(int32_t told) {
+    if (told == NO_TABLE)
+        return MG_NO_TABLE;
+    return told >= MG_BAD_ARGUMENT ? told : MG_BROKEN;
+}
 
 /* ---- texts ---- */
 
@@ -155,6 +215,7 @@ static const struct meaning MEANINGS[] = {
     {MG_STOPPED, "", "it was told to stop; nothing is held"},
     {MG_BUSY, "", "a call of the session is under way; what mg_set_rest has it call may not use it, and nothing was done"},
     {MG_IN_DOUBT, "", "it is not known whether the lock stays in the table; the session keeps it, and releases it later"},
+    {MG_NO_TABLE, "", "the host does not know the lock table now; a look, or mg_refresh, learns it"},
     {MG_OUTRUN, "Outrun", "another host's greater ballot was read at the last try; ask again, with the same request number"},
     {MG_NO_MAJORITY, "NoMajority",
      "no majority of the disks answers; bring them back, and ask again, with the same request number"},
@@ -223,6 +284,13 @@ void because(const char *format, ...) {
     (void)vsnprintf(cause + length, sizeof cause - length, format, rest);
     va_end(rest);
     errno = error;
+}
+
+/* A look comes to the epoch, and that is written under the host's number. What claims keep is of slots of one log. */
+int refuse_endless(void) {
+    because("the log of this folder has no end: here calls of a host that was opened by its number (mg_open) work, and dlm; a look without a number, sessions and mg-lock "
+            "do not work here yet");
+    return MG_WRONG_HEADER;
 }
 
 /* ---- files: as FileDisk of crates/disk ---- */
@@ -298,11 +366,13 @@ char *path_of(const char *folder, const char *name, int number, const char *end)
 
 enum { FIRST_TRIES = 8, FIRST_BYTES = 64 };
 
-/* LOOKS: without a number, so no call of it writes. TAKES: only to make the number this machine's. */
-enum way { WORKS, LOOKS, TAKES };
+/* LOOKS: without a number, so no call of it writes. TAKES: only to make the number this machine's. ASKS: only to tell whose it is. */
+enum way { WORKS, LOOKS, TAKES, ASKS };
 
 struct mg_host {
-    struct handle handle;
+    struct handle handle;       /* one of these two is open */
+    struct epoch_handle epochs;
+    bool is_endless;            /* that one */
     unsigned tries, disks;
     bool only_looks;
     int lock;
@@ -312,10 +382,11 @@ struct mg_host {
     /* The device call that is due, what it writes, and what was read last. */
     struct due_call call;
     struct written written;
+    struct written_block written_block; /* in its place, where the log has no end */
     struct row row;
     int64_t took;         /* the last attempt, in microseconds */
     bool marks_late;
-    int32_t due, due_end; /* the slots of commands that are to be marked, and others between; none where they are the same */
+    int64_t due, due_end; /* the slots of commands that are to be marked, and others between; none where they are the same */
     int faults[MG_DISKS]; /* MG_OK, or why the image is not used, or that a call on it failed */
     struct mg_image_view images[MG_DISKS];
     int errors[MG_DISKS]; /* errno, where an image could not be opened or read */
@@ -325,12 +396,16 @@ struct mg_host {
 
 static bool is_shared(const struct mg_host *host, unsigned disk) { return host->how[disk].sector_size != 0; }
 
-/* Makes the device call that is due, and says what it was answered. It is never an attach: of these the library has the answer,
- * since every file tells boot number 1. */
+/* Makes the device call that is due, and says what it was answered. An attach is hardly ever told: the library answers the first of them itself, since every
+ * file tells boot number 1. */
 static uint32_t make_call(struct mg_host *host) {
     const struct due_call *call = &host->call;
+    const uint8_t *bytes = host->is_endless ? host->written_block.bytes : host->written.bytes;
+    size_t room = host->is_endless ? sizeof host->written_block : sizeof host->written;
     int *file = call->disk < MG_DISKS ? &host->files[call->disk] : NULL;
     bool done = false;
+    if (call->kind == ATTACH)
+        return DONE;
     if (call->boot != BOOT)
         return RESET;
     if (!file || *file == NO_FILE)
@@ -339,12 +414,12 @@ static uint32_t make_call(struct mg_host *host) {
         done = call->length == ROW_LENGTH && device_read(*file, &host->how[call->disk], host->room, call->at, &host->row);
     else if (call->kind == READ)
         done = read_settled(*file, host->row.bytes, (size_t)call->length, call->at);
-    else if (call->kind == WRITE && call->length > COPY_LENGTH)
+    else if (call->kind == WRITE && call->length > room)
         done = false;
     else if (call->kind == WRITE && is_shared(host, call->disk))
-        done = device_write(*file, &host->how[call->disk], host->room, call->at, host->written.bytes, (size_t)call->length);
+        done = device_write(*file, &host->how[call->disk], host->room, call->at, bytes, (size_t)call->length);
     else if (call->kind == WRITE)
-        done = write_whole(*file, host->written.bytes, (size_t)call->length, call->at);
+        done = write_whole(*file, bytes, (size_t)call->length, call->at);
     else if (call->kind == SYNC) {
         done = sync_data(*file);
         if (!done) {
@@ -356,33 +431,178 @@ static uint32_t make_call(struct mg_host *host) {
     return done ? DONE : FAILED;
 }
 
-/* Makes the calls of an operation that was begun, until it has ended, and tells how. */
-static int carry_out(struct mg_host *host, int32_t begun, struct answer *answer) {
+/* ---- a host of either kind of log ---- */
+
+/* How an operation ended. */
+struct outcome {
+    int64_t slot;     /* of the command, through all epochs; -1 where it was not acknowledged */
+    uint64_t learned; /* of a recovery and a look: how many commands are learned */
+    int32_t reply;
+    uint32_t purged;
+    int32_t held;
+    int32_t wanted;
+};
+
+static const struct outcome NO_OUTCOME = {-1, 0, MG_NO_REPLY, 0, MG_NONE, MG_NONE};
+
+/* What a host knows of itself, and of the epoch where it is. A log that ends is one epoch. */
+struct facts {
+    struct mg_host_view view;
+    bool is_in_epoch;
+    uint64_t epoch;
+    uint64_t taken; /* slots of it whose commands are learned */
+};
+
+static int32_t open_handle(struct mg_host *host, const struct images *images, unsigned number, struct opened *told, int32_t *disk) {
+    int32_t status = dlm_c_epochs_open(images, number, &host->epochs, told, disk);
+    host->is_endless = status == 0;
+    return status == HAS_AN_END ? dlm_c_open(images, number, &host->handle, told, disk) : status;
+}
+
+static void close_handle(struct mg_host *host) {
+    dlm_c_close(&host->handle);
+    dlm_c_epochs_close(&host->epochs);
+}
+
+/* It ends where it is outrun. */
+static int32_t begin_to_submit(struct mg_host *host, const struct request *request, const char *name) {
+    const uint8_t *bytes = (const uint8_t *)name;
+    if (host->is_endless)
+        return dlm_c_epochs_submit(&host->epochs, request, bytes, strlen(name), 1);
+    return dlm_c_submit(&host->handle, request, bytes, strlen(name), 1);
+}
+
+static int32_t begin_to_recover(struct mg_host *host) {
+    return host->is_endless ? dlm_c_epochs_recover(&host->epochs, host->tries) : dlm_c_recover(&host->handle, host->tries);
+}
+
+static int32_t begin_to_look(struct mg_host *host) { return host->is_endless ? dlm_c_epochs_look(&host->epochs) : dlm_c_look(&host->handle); }
+
+static int32_t begin_to_mark(struct mg_host *host, int64_t slot) {
+    return host->is_endless ? dlm_c_epochs_mark(&host->epochs, (uint64_t)slot) : dlm_c_mark(&host->handle, (uint32_t)slot);
+}
+
+static int32_t first_call(struct mg_host *host) {
+    if (host->is_endless)
+        return dlm_c_epochs_call(&host->epochs, BOOT, &host->call, &host->written_block);
+    return dlm_c_call(&host->handle, BOOT, &host->call, &host->written);
+}
+
+static int32_t next_call(struct mg_host *host, const struct told_answer *told) {
+    if (host->is_endless)
+        return dlm_c_epochs_next(&host->epochs, told, &host->row, &host->call, &host->written_block);
+    return dlm_c_next(&host->handle, told, &host->row, &host->call, &host->written);
+}
+
+static int32_t outcome_of_epochs(struct mg_host *host, struct outcome *into) {
+    struct placed_answer answer;
+    int32_t status;
+    memset(&answer, 0, sizeof answer);
+    status = dlm_c_epochs_answer(&host->epochs, &answer);
+    into->slot = answer.reply == MG_NO_REPLY ? -1 : (int64_t)answer.place;
+    into->learned = answer.learned;
+    into->reply = answer.reply;
+    into->purged = answer.purged;
+    into->held = answer.held;
+    into->wanted = answer.wanted;
+    return status;
+}
+
+/* How the last operation ended. */
+static int32_t outcome_of(struct mg_host *host, struct outcome *into) {
+    struct answer answer;
+    int32_t status;
+    if (host->is_endless)
+        return outcome_of_epochs(host, into);
+    memset(&answer, 0, sizeof answer);
+    status = dlm_c_answer(&host->handle, &answer);
+    into->slot = answer.slot;
+    into->learned = answer.count;
+    into->reply = answer.reply;
+    into->purged = answer.purged;
+    into->held = answer.held;
+    into->wanted = answer.wanted;
+    return status;
+}
+
+static int facts_of_epochs(struct mg_host *host, struct facts *into) {
+    struct epochs_view view;
+    int status;
+    memset(&view, 0, sizeof view);
+    status = status_of(dlm_c_epochs_host(&host->epochs, &view));
+    into->view.cluster = view.cluster;
+    into->view.learned = view.learned;
+    into->view.host = view.host;
+    into->view.disks = view.disks;
+    into->view.slots = view.slots;
+    into->view.endless = 1;
+    into->is_in_epoch = view.is_in_epoch == 1;
+    into->epoch = view.epoch;
+    into->taken = view.taken;
+    return status;
+}
+
+static int facts_of(struct mg_host *host, struct facts *into) {
+    int status;
+    memset(into, 0, sizeof *into);
+    if (host->is_endless)
+        return facts_of_epochs(host, into);
+    status = status_of(dlm_c_host(&host->handle, &into->view));
+    into->is_in_epoch = true;
+    into->taken = into->view.learned;
+    return status;
+}
+
+static int32_t show_lock(struct mg_host *host, uint32_t lock, struct mg_lock_view *into) {
+    return host->is_endless ? dlm_c_epochs_lock(&host->epochs, lock, into) : dlm_c_lock(&host->handle, lock, into);
+}
+
+static int32_t show_value(struct mg_host *host, uint32_t lock, struct mg_value *into) {
+    return host->is_endless ? dlm_c_epochs_value(&host->epochs, lock, into) : dlm_c_value(&host->handle, lock, into);
+}
+
+static int32_t show_locks(struct mg_host *host, struct mg_lock_view *into, size_t room, size_t *count) {
+    return host->is_endless ? dlm_c_epochs_locks(&host->epochs, into, room, count) : dlm_c_locks(&host->handle, into, room, count);
+}
+
+static int32_t show_clients(struct mg_host *host, struct mg_client_view *into, size_t room, size_t *count) {
+    return host->is_endless ? dlm_c_epochs_clients(&host->epochs, into, room, count) : dlm_c_clients(&host->handle, into, room, count);
+}
+
+static int32_t show_text(struct mg_host *host, uint8_t *into, size_t room, size_t *length) {
+    return host->is_endless ? dlm_c_epochs_text(&host->epochs, into, room, length) : dlm_c_text(&host->handle, into, room, length);
+}
+
+/* ---- operations ---- */
+
+/* Makes the calls of an operation that was begun, until it has ended, and tells how. Where memory is refused a host of a log without an end gives it up. */
+static int carry_out(struct mg_host *host, int32_t begun, struct outcome *outcome) {
     struct told_answer told = {BOOT, DONE, 0};
     int32_t status;
-    memset(answer, 0, sizeof *answer);
-    answer->slot = -1;
-    answer->held = answer->wanted = MG_NONE;
+    *outcome = NO_OUTCOME;
     if (begun != 0)
         return status_of(begun);
-    status = dlm_c_call(&host->handle, BOOT, &host->call, &host->written);
+    status = first_call(host);
     while (status == 0) {
         told.outcome = make_call(host);
         if (told.outcome != DONE && host->call.disk < MG_DISKS && host->faults[host->call.disk] == MG_OK)
             host->faults[host->call.disk] = MG_UNREADABLE;
-        status = dlm_c_next(&host->handle, &told, &host->row, &host->call, &host->written);
+        status = next_call(host, &told);
     }
     if (status != NOTHING_DUE)
-        return MG_BROKEN;
-    return status_of(dlm_c_answer(&host->handle, answer));
+        return status == MG_NO_MEMORY ? MG_NO_MEMORY : MG_BROKEN;
+    return status_of(outcome_of(host, outcome));
 }
 
-/* Marks what is to be marked. It stands in the log whether or not that comes to its end. With late marks what was refused is still to be marked. */
+/* Marks what is to be marked. It stands in the log whether or not that comes to its end. With late marks what was refused is still to be marked. Of an epoch
+ * that the host has left nothing is: nobody looks there. */
 static int mark_due(struct mg_host *host) {
-    struct answer marked;
+    struct outcome marked;
     int status = MG_OK;
     while (host->due < host->due_end && status == MG_OK) {
-        status = carry_out(host, dlm_c_mark(&host->handle, (uint32_t)host->due), &marked);
+        status = carry_out(host, begin_to_mark(host, host->due), &marked);
+        if (status == NOT_LEARNED && host->is_endless)
+            status = MG_OK;
         if (status == MG_OK)
             host->due++;
     }
@@ -413,7 +633,7 @@ static void let_go(struct mg_host *host) {
             close(host->files[disk]);
     if (host->lock != NO_FILE)
         close(host->lock);
-    dlm_c_close(&host->handle);
+    close_handle(host);
     free(host->room);
     free(host);
 }
@@ -589,9 +809,9 @@ static int open_host(struct mg_host *host, struct images *images, const char *fo
     if (!host->room)
         return MG_NO_MEMORY;
     for (unsigned k = 0; k < MG_DISKS; k++)
-        if (!find_image(host, folder, k, way == LOOKS ? O_RDONLY : O_RDWR, &images->all[k]))
+        if (!find_image(host, folder, k, way == LOOKS || way == ASKS ? O_RDONLY : O_RDWR, &images->all[k]))
             return MG_NO_MEMORY;
-    status = dlm_c_open(images, number, &host->handle, &told, disk);
+    status = open_handle(host, images, number, &told, disk);
     if (status != 0 && *disk >= 0 && *disk < MG_DISKS && (status == MG_UNREADABLE || host->images[*disk].other >= 0))
         say_why_not(host, (unsigned)*disk);
     else if (status == MG_WRONG_HEADER && *disk >= 0 && *disk < MG_DISKS && is_shared(host, (unsigned)*disk))
@@ -609,7 +829,9 @@ static int open_host(struct mg_host *host, struct images *images, const char *fo
             return MG_BAD_ARGUMENT;
         }
     }
-    if (way == LOOKS)
+    if (way == LOOKS && host->is_endless)
+        return refuse_endless();
+    if (way == LOOKS || way == ASKS)
         return MG_OK;
     status = lock_number(folder, number, &host->lock);
     return status == MG_OK ? own_number(host, folder, number, way == TAKES) : status;
@@ -715,7 +937,7 @@ int mg_machine_of(const char *folder, unsigned number, char *into, size_t size) 
     if (!into || size < 2 * sizeof owner.bytes + 1)
         return MG_BAD_ARGUMENT;
     into[0] = '\0';
-    status = open_folder(folder, number, LOOKS, &host, NULL);
+    status = open_folder(folder, number, ASKS, &host, NULL);
     if (status != MG_OK)
         return status;
     /* If it is another machine's, that one; else this one's, if the devices have that name. */
@@ -785,24 +1007,41 @@ int64_t pause_after(const struct mg_host *host, unsigned outrun) {
 static const struct mg_answer NO_ANSWER = {-1, MG_NO_REPLY, 0, MG_NONE, MG_NONE};
 
 static uint64_t learned_by(struct mg_host *host) {
-    struct mg_host_view view;
-    memset(&view, 0, sizeof view);
-    (void)dlm_c_host(&host->handle, &view);
-    return view.learned;
+    struct facts facts;
+    (void)facts_of(host, &facts);
+    return facts.view.learned;
+}
+
+/* How many commands were learned in between: where the host has come to another epoch, of that one. */
+static uint64_t learned_since(const struct facts *before, const struct facts *after) {
+    if (!before->is_in_epoch || before->epoch != after->epoch || before->taken > after->taken)
+        return after->taken;
+    return after->taken - before->taken;
 }
 
 /* A submission that was begun, and ends where it is outrun. It may have learned commands of others first. So its last attempt is taken to be as
  * long as it was on average for a slot. */
-static int carry_out_once(struct mg_host *host, int32_t begun, struct answer *answer) {
-    uint64_t learned = learned_by(host);
+static int carry_out_once(struct mg_host *host, int32_t begun, struct outcome *outcome) {
+    struct facts before, after;
     int64_t from = microseconds();
-    int status = carry_out(host, begun, answer);
-    host->took = (microseconds() - from) / (int64_t)(1 + learned_by(host) - learned);
+    int status;
+    (void)facts_of(host, &before);
+    status = carry_out(host, begun, outcome);
+    (void)facts_of(host, &after);
+    host->took = (microseconds() - from) / (int64_t)(1 + learned_since(&before, &after));
     return status;
 }
 
+/* Whether it was outrun, and may try again, having been outrun so often before: then it waits first. */
+static bool tries_again(const struct mg_host *host, int status, unsigned outrun) {
+    if (status != MG_OUTRUN || outrun + 1 >= host->tries)
+        return false;
+    sleep_for(pause_after(host, outrun));
+    return true;
+}
+
 /* Marks a command that is acknowledged, or leaves that to the next call. */
-static int mark_in_time(struct mg_host *host, int32_t slot, bool is_waited_for) {
+static int mark_in_time(struct mg_host *host, int64_t slot, bool is_waited_for) {
     bool is_alone = !is_unmarked(host);
     if (is_alone || slot < host->due)
         host->due = slot;
@@ -811,12 +1050,13 @@ static int mark_in_time(struct mg_host *host, int32_t slot, bool is_waited_for) 
     return host->marks_late && !is_waited_for ? MG_OK : mark_due(host);
 }
 
-static int submit_once(struct mg_host *host, const struct request *request, const char *name, struct answer *answer) {
-    return carry_out_once(host, dlm_c_submit(&host->handle, request, (const uint8_t *)name, strlen(name), 1), answer);
+static int submit_once(struct mg_host *host, const struct request *request, const char *name, struct outcome *outcome) {
+    return carry_out_once(host, begin_to_submit(host, request, name), outcome);
 }
 
 static int submit(struct mg_host *host, const struct request *request, const char *name, struct mg_answer *into) {
-    struct answer answer;
+    struct outcome outcome;
+    unsigned outrun = 0;
     int status;
     if (into)
         *into = NO_ANSWER;
@@ -825,20 +1065,18 @@ static int submit(struct mg_host *host, const struct request *request, const cha
     if (host->only_looks)
         return MG_ONLY_LOOKS;
     (void)mark_due(host);
-    status = submit_once(host, request, name, &answer);
-    for (unsigned outrun = 0; status == MG_OUTRUN && outrun + 1 < host->tries; outrun++) {
-        sleep_for(pause_after(host, outrun));
-        status = submit_once(host, request, name, &answer);
-    }
+    do
+        status = submit_once(host, request, name, &outcome);
+    while (tries_again(host, status, outrun++));
     if (into) {
-        into->slot = answer.slot;
-        into->reply = answer.reply;
-        into->purged = answer.purged;
-        into->held = answer.held;
-        into->wanted = answer.wanted;
+        into->slot = outcome.slot;
+        into->reply = outcome.reply;
+        into->purged = outcome.purged;
+        into->held = outcome.held;
+        into->wanted = outcome.wanted;
     }
-    if (answer.slot >= 0)
-        (void)mark_in_time(host, answer.slot, dlm_c_is_waited_for(request));
+    if (outcome.slot >= 0)
+        (void)mark_in_time(host, outcome.slot, dlm_c_is_waited_for(request));
     return status;
 }
 
@@ -924,12 +1162,12 @@ void claim_hears(struct claim *claim, struct mg_host *host, enum event event, in
 /* Puts the claim's command into the log, tells the claim what came of that, and then marks it. The status is of the command, or of the mark: an image
  * that fails then is given up by the host, too. */
 int claim_submits(struct claim *claim, struct mg_host *host, bool is_waited_for) {
-    struct answer answer;
+    struct outcome outcome;
     int status;
     (void)mark_due(host);
-    status = carry_out_once(host, dlm_c_submit_order(claim, &host->handle), &answer);
+    status = carry_out_once(host, dlm_c_submit_order(claim, &host->handle), &outcome);
     claim_hears(claim, host, HAS_REPLIED, 0, false);
-    return answer.slot < 0 ? status : mark_in_time(host, answer.slot, is_waited_for);
+    return outcome.slot < 0 ? status : mark_in_time(host, outcome.slot, is_waited_for);
 }
 
 /* The name of a lock's sign of life, by the set that is open. */
@@ -953,45 +1191,51 @@ int next_purge(struct mg_host *host, const struct cleanup *cleanup, uint32_t *lo
 }
 
 int submit_purge(struct mg_host *host, const struct cleanup *cleanup, unsigned *purged) {
-    struct answer answer;
+    struct outcome outcome;
     int status;
     (void)mark_due(host);
-    status = carry_out_once(host, dlm_c_submit_purge(&host->handle, cleanup), &answer);
-    *purged += answer.purged;
-    if (answer.slot >= 0)
-        (void)mark_in_time(host, answer.slot, true);
+    status = carry_out_once(host, dlm_c_submit_purge(&host->handle, cleanup), &outcome);
+    *purged += outcome.purged;
+    if (outcome.slot >= 0)
+        (void)mark_in_time(host, outcome.slot, true);
     return status;
 }
 
 /* ---- what others did ---- */
 
-static int look(struct mg_host *host, struct answer *answer) {
+/* A look that finds an epoch full carries its table over, by commands that others may outrun. Any other look is never outrun. */
+static int look(struct mg_host *host, struct outcome *outcome) {
+    unsigned outrun = 0;
+    int status;
     (void)mark_due(host);
-    return carry_out(host, dlm_c_look(&host->handle), answer);
+    do
+        status = host->is_endless ? carry_out_once(host, begin_to_look(host), outcome) : carry_out(host, begin_to_look(host), outcome);
+    while (tries_again(host, status, outrun++));
+    return status;
 }
 
-static int refresh(struct mg_host *host, struct answer *answer) {
-    int status = look(host, answer);
+static int refresh(struct mg_host *host, struct outcome *outcome) {
+    int status = look(host, outcome);
     if (status != MG_OK)
         return status;
-    return carry_out(host, dlm_c_recover(&host->handle, host->tries), answer);
+    return carry_out(host, begin_to_recover(host), outcome);
 }
 
 int mg_look(struct mg_host *host, uint64_t *learned) {
-    struct answer answer;
+    struct outcome outcome;
     int status;
     if (learned)
         *learned = 0;
     if (!host)
         return MG_BAD_ARGUMENT;
-    status = look(host, &answer);
+    status = look(host, &outcome);
     if (learned)
-        *learned = answer.count;
+        *learned = outcome.learned;
     return status;
 }
 
 int mg_refresh(struct mg_host *host, uint64_t *learned) {
-    struct answer answer;
+    struct outcome outcome;
     int status;
     if (learned)
         *learned = 0;
@@ -999,36 +1243,41 @@ int mg_refresh(struct mg_host *host, uint64_t *learned) {
         return MG_BAD_ARGUMENT;
     if (host->only_looks)
         return MG_ONLY_LOOKS;
-    status = refresh(host, &answer);
+    status = refresh(host, &outcome);
     if (learned)
-        *learned = answer.count;
+        *learned = outcome.learned;
     return status;
 }
 
-/* Learns all that was acknowledged, and marks what it has learned so: one command, and then more for so many milliseconds. */
-static int learn_and_mark(struct mg_host *host, int64_t length, struct answer *answer) {
-    struct answer marked;
-    uint64_t first, end;
+/* Learns all that was acknowledged, and marks what it has learned so: one command, and then more for so many milliseconds. Of a log without an end it marks those
+ * of the newest epoch, for nobody looks at one before. */
+static int learn_and_mark(struct mg_host *host, int64_t length, struct outcome *outcome) {
+    struct outcome marked;
+    struct facts facts;
+    uint64_t before, first, end;
     int64_t learned;
-    int status = look(host, answer);
+    int status = look(host, outcome);
     if (status != MG_OK)
         return status;
-    first = learned_by(host);
-    status = carry_out(host, dlm_c_recover(&host->handle, host->tries), answer);
-    end = learned_by(host);
+    before = learned_by(host);
+    status = carry_out(host, begin_to_recover(host), outcome);
+    (void)facts_of(host, &facts);
+    end = facts.view.learned;
+    first = end > facts.taken ? end - facts.taken : 0;
+    first = before > first ? before : first;
     learned = milliseconds();
     for (uint64_t slot = first; slot < end && (slot == first || milliseconds() - learned < length); slot++)
-        (void)carry_out(host, dlm_c_mark(&host->handle, (uint32_t)slot), &marked);
+        (void)carry_out(host, begin_to_mark(host, (int64_t)slot), &marked);
     return status;
 }
 
 int learn_all(struct mg_host *host, int64_t length) {
-    struct answer answer;
-    return learn_and_mark(host, length, &answer);
+    struct outcome outcome;
+    return learn_and_mark(host, length, &outcome);
 }
 
 int mg_mark(struct mg_host *host, uint64_t *learned) {
-    struct answer answer;
+    struct outcome outcome;
     int status;
     if (learned)
         *learned = 0;
@@ -1036,9 +1285,9 @@ int mg_mark(struct mg_host *host, uint64_t *learned) {
         return MG_BAD_ARGUMENT;
     if (host->only_looks)
         return MG_ONLY_LOOKS;
-    status = learn_and_mark(host, INT64_MAX, &answer);
+    status = learn_and_mark(host, INT64_MAX, &outcome);
     if (learned)
-        *learned = answer.count;
+        *learned = outcome.learned;
     return status;
 }
 
@@ -1056,6 +1305,9 @@ static int64_t time_of_recovery(void) {
 static int look_further(struct mg_host *host, int64_t *recovers) {
     uint64_t learned = learned_by(host);
     int status = mg_look(host, NULL);
+    /* Others carry the table over into the next epoch, and mark that. */
+    if (status == MG_OUTRUN)
+        return MG_OK;
     if (status != MG_OK)
         return status;
     if (learned_by(host) == learned) {
@@ -1089,9 +1341,10 @@ int mg_wait(struct mg_host *host, unsigned lock, int interval, int timeout, int 
         if (status != MG_OK)
             return status;
         status = mg_lock(host, lock, &view);
-        if (status != MG_OK)
+        /* If it was outrun as an epoch began it does not know the table. A later look tells. */
+        if (status != MG_OK && status != MG_NO_TABLE)
             return status;
-        if (view.wanted == MG_NONE) {
+        if (status == MG_OK && view.wanted == MG_NONE) {
             if (granted)
                 *granted = view.held;
             return MG_OK;
@@ -1114,10 +1367,13 @@ int mg_wait(struct mg_host *host, unsigned lock, int interval, int timeout, int 
 /* ---- the table ---- */
 
 int mg_host_facts(struct mg_host *host, struct mg_host_view *into) {
+    struct facts facts;
+    int status;
     if (!host || !into)
         return MG_BAD_ARGUMENT;
-    memset(into, 0, sizeof *into);
-    return status_of(dlm_c_host(&host->handle, into));
+    status = facts_of(host, &facts);
+    *into = facts.view;
+    return status;
 }
 
 int mg_log(struct mg_host *host, uint64_t *slots, uint64_t *used) {
@@ -1126,24 +1382,39 @@ int mg_log(struct mg_host *host, uint64_t *slots, uint64_t *used) {
     memset(&view, 0, sizeof view);
     status = mg_host_facts(host, &view);
     if (slots)
-        *slots = view.slots;
+        *slots = view.endless ? UINT64_MAX : view.slots;
     if (used)
         *used = view.learned;
     return status;
+}
+
+int mg_epoch(struct mg_host *host, uint64_t *epoch, uint64_t *slots, uint64_t *used) {
+    struct facts facts;
+    int status = MG_BAD_ARGUMENT;
+    memset(&facts, 0, sizeof facts);
+    if (host)
+        status = facts_of(host, &facts);
+    if (epoch)
+        *epoch = facts.epoch;
+    if (slots)
+        *slots = facts.view.slots;
+    if (used)
+        *used = facts.taken;
+    return status == MG_OK && !facts.is_in_epoch ? MG_NO_TABLE : status;
 }
 
 int mg_lock(struct mg_host *host, unsigned lock, struct mg_lock_view *into) {
     if (!host || !into)
         return MG_BAD_ARGUMENT;
     memset(into, 0, sizeof *into);
-    return status_of(dlm_c_lock(&host->handle, lock, into));
+    return status_of(show_lock(host, lock, into));
 }
 
 int mg_value(struct mg_host *host, unsigned lock, struct mg_value *into) {
     if (!host || !into)
         return MG_BAD_ARGUMENT;
     memset(into, 0, sizeof *into);
-    return status_of(dlm_c_value(&host->handle, lock, into));
+    return status_of(show_value(host, lock, into));
 }
 
 /* Whether there is a host, and a place for so much as there is room for; nothing is counted so far. */
@@ -1165,7 +1436,7 @@ int mg_locks(struct mg_host *host, struct mg_lock_view *into, size_t room, size_
         room = MG_LOCKS;
     if (room > 0)
         memset(into, 0, room * sizeof *into);
-    status = status_of(dlm_c_locks(&host->handle, room > 0 ? into : &none, room, &there));
+    status = status_of(show_locks(host, room > 0 ? into : &none, room, &there));
     if (count)
         *count = there;
     return status;
@@ -1181,7 +1452,7 @@ int mg_clients(struct mg_host *host, struct mg_client_view *into, size_t room, s
         room = MG_CLIENTS;
     if (room > 0)
         memset(into, 0, room * sizeof *into);
-    status = status_of(dlm_c_clients(&host->handle, room > 0 ? into : &none, room, &there));
+    status = status_of(show_clients(host, room > 0 ? into : &none, room, &there));
     if (count)
         *count = there;
     return status;
@@ -1199,7 +1470,7 @@ int mg_text(struct mg_host *host, char *into, size_t size, size_t *length) {
         room = MG_TEXT_SIZE;
     if (size > 0)
         memset(into, 0, room + 1);
-    status = status_of(dlm_c_text(&host->handle, room > 0 ? (uint8_t *)into : &none, room, &there));
+    status = status_of(show_text(host, room > 0 ? (uint8_t *)into : &none, room, &there));
     if (length)
         *length = there;
     return status;

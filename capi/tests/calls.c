@@ -306,7 +306,7 @@ int main(int argc, char **argv) {
     for (status = -100; status < 100; status++)
         IS(mg_strerror(status) != NULL && mg_name(status) != NULL, 1);
     IS_TEXT(mg_name(7), "NoMajority");
-    IS_TEXT(mg_version(), "0.7");
+    IS_TEXT(mg_version(), "0.8");
     if (failures == 0)
         puts("calls: as they should be");
     return failures != 0;

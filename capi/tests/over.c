@@ -32,7 +32,7 @@
 enum { HOSTS = 5, FIRST_HOST = 2, TAKES = 20, SECONDS = 6, SLOTS = 2048, FEW_SLOTS = 500, MILLION = 1000000, LEFT = 20, PAUSES = 4 };
 
 /* Slots that are left in the log, as the busy hosts know it. */
-static volatile uint32_t *slots_left;
+static volatile uint64_t *slots_left;
 
 static void works(const char *folder, unsigned host) {
     struct mg_session *session;

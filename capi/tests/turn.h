@@ -3,6 +3,7 @@
 #define TURN_H
 
 #include <fcntl.h>
+#include <stdint.h>
 #include <stdlib.h>
 #include <sys/file.h>
 #include <sys/mman.h>
@@ -14,7 +15,7 @@ struct turns {
     volatile long counted;   /* by reading and writing, under the lock alone */
     volatile long ended[16]; /* of each process, by itself */
     volatile long two;       /* times that somebody else was there */
-    volatile int slot;       /* of the last holder */
+    volatile int64_t slot;   /* of the last holder */
     volatile long behind;    /* times that a holder had a lower slot than the one before it */
 };
 
@@ -26,7 +27,7 @@ static inline struct turns *turns_in(const char *path) {
     return at;
 }
 
-static inline void turn(int slot) {
+static inline void turn(int64_t slot) {
     struct turns *turns = turns_in("turns.map");
     int guard = open("guard", O_RDWR | O_CREAT | O_CLOEXEC, 0666);
     long counted;

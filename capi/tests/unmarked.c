@@ -17,7 +17,7 @@ static void left_without_a_mark(const char *folder) {
     struct request enqueue = asks(ENQUEUE, 240, 1, 1539);
     struct mg_session *session;
     struct mg_host *host;
-    struct answer taken;
+    struct outcome taken;
     struct mg_held held;
     char sign[400];
     size_t count = 9;
@@ -52,7 +52,7 @@ static void asked_for_again(const char *folder, int timeout, bool is_stale) {
     struct mg_session *session;
     struct mg_host *host;
     struct mg_answer waits = {0, 0, 0, 0, 0};
-    struct answer taken;
+    struct outcome taken;
     struct mg_held held;
     char sign[400];
     enqueue.mode = MG_EX;
@@ -88,7 +88,7 @@ static void hidden_by_another(const char *folder) {
     struct request enqueue = asks(ENQUEUE, 9, 1, 9);
     struct mg_session *session, *second;
     struct mg_host *host;
-    struct answer taken;
+    struct outcome taken;
     struct mg_held held, other;
     IS(mkdir(folder, 0777), 0);
     IS(mg_format(folder, 3, 64, 7, NULL), MG_OK);
@@ -118,7 +118,7 @@ static void purged_behind_it(const char *folder, unsigned flags) {
     struct request enqueue = asks(ENQUEUE, 9, 1, 9), purge = asks(PURGE, 8, 1, 0);
     struct mg_session *session;
     struct mg_host *host;
-    struct answer told;
+    struct outcome told;
     struct mg_held held;
     IS(mkdir(folder, 0777), 0);
     IS(mg_format(folder, 3, 64, 7, NULL), MG_OK);
@@ -139,7 +139,7 @@ int main(int argc, char **argv) {
     char other[300];
     struct mg_host *first, *second;
     struct mg_answer answer;
-    struct answer released;
+    struct outcome released;
     struct request release = asks(RELEASE, 1, 2, 1);
     int64_t began;
     int granted;

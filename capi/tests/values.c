@@ -48,6 +48,7 @@ static void passed(struct mg_host *first, struct mg_host *second) {
     struct mg_answer answer;
     struct mg_value value;
     char text[MG_TEXT_SIZE];
+    IS(mg_look(first, NULL), MG_OK);
     IS(mg_value(first, 1, &value), MG_NO_SUCH_LOCK);
     IS(mg_enqueue(first, 1, 1, 1, MG_EX, "seats", 0, &answer), MG_OK);
     HAS(first, 1, NONE, MG_VALID);

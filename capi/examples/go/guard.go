@@ -106,9 +106,9 @@ func milliseconds(length time.Duration) C.int {
 // the cluster is the same.
 type Held struct {
 	Lock      uint32
-	Slot      int32
+	Slot      int64
 	Cluster   uint64
-	SlotsLeft uint32
+	SlotsLeft uint64
 	Value     [C.MG_VALUE_LENGTH]byte
 	Valid     bool
 }
@@ -133,7 +133,7 @@ func (session *Session) Take(name string, mode Mode, timeout time.Duration) (Hel
 	if err := check(C.mg_take(session.handle, named, C.int(mode), milliseconds(timeout), &view)); err != nil {
 		return Held{}, err
 	}
-	held := Held{uint32(view.lock), int32(view.slot), uint64(view.cluster), uint32(view.slots_left), [C.MG_VALUE_LENGTH]byte{}, false}
+	held := Held{uint32(view.lock), int64(view.slot), uint64(view.cluster), uint64(view.slots_left), [C.MG_VALUE_LENGTH]byte{}, false}
 	for i := range held.Value {
 		held.Value[i] = byte(view.value.bytes[i])
 	}

@@ -30,10 +30,10 @@ struct Value {
 #[derive(Default)]
 struct View {
     lock: u32,
-    slot: i32,
-    cluster: u64,
-    slots_left: u32,
     released: u32,
+    slot: i64,
+    cluster: u64,
+    slots_left: u64,
     value: Value,
 }
 

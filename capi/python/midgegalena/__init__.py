@@ -15,7 +15,7 @@ import sys
 import threading
 import time
 from contextlib import contextmanager, suppress
-from ctypes import CFUNCTYPE, POINTER, Structure, byref, c_char_p, c_int, c_int32, c_size_t, c_uint, c_uint8, c_uint32, c_uint64, c_void_p
+from ctypes import CFUNCTYPE, POINTER, Structure, byref, c_char_p, c_int, c_int32, c_int64, c_size_t, c_uint, c_uint8, c_uint32, c_uint64, c_void_p
 from types import TracebackType
 from typing import Any, Callable, Iterator, Optional, Tuple, Union
 
@@ -40,19 +40,13 @@ class Value(Structure):
 
 
 class HeldView(Structure):
-    _fields_ = [("lock", c_uint32), ("slot", c_int32), ("cluster", c_uint64), ("slots_left", c_uint32), ("released", c_uint32), ("value", Value)]
+    _fields_ = [("lock", c_uint32), ("released", c_uint32), ("slot", c_int64), ("cluster", c_uint64), ("slots_left", c_uint64), ("value", Value)]
 
 
 class LockView(Structure):
     _fields_ = [
         ("lock", c_uint32), ("client", c_uint32), ("host", c_uint32), ("held", c_int32), ("wanted", c_int32),
         ("name", ctypes.c_char * 16),
-    ]
-
-
-class HostView(Structure):
-    _fields_ = [
-        ("cluster", c_uint64), ("learned", c_uint64), ("host", c_uint32), ("disks", c_uint32), ("slots", c_uint32), ("unused", c_uint32),
     ]
 
 
@@ -76,7 +70,7 @@ def load(path: Optional[str] = None) -> ctypes.CDLL:
     lib.mg_set_rest.argtypes = [c_void_p, Rest, c_void_p]
     lib.mg_host_of.argtypes = [c_void_p, POINTER(c_void_p)]
     lib.mg_look.argtypes = [c_void_p, POINTER(c_uint64)]
-    lib.mg_host_facts.argtypes = [c_void_p, POINTER(HostView)]
+    lib.mg_log.argtypes = [c_void_p, POINTER(c_uint64), POINTER(c_uint64)]
     lib.mg_locks.argtypes = [c_void_p, POINTER(LockView), c_size_t, POINTER(c_size_t)]
     return lib
 
@@ -332,9 +326,9 @@ class Session:
 
     def log(self) -> tuple[int, int]:
         """How many slots the log has, and how many of them hold commands."""
-        view = HostView()
-        self._check(self.lib.mg_host_facts(self._look(), byref(view)))
-        return view.slots, view.learned
+        slots, used = c_uint64(), c_uint64()
+        self._check(self.lib.mg_log(self._look(), byref(slots), byref(used)))
+        return slots.value, used.value
 
     def locks(self) -> list[LockOfTable]:
         """All locks: name, number, client, mode that is held, and mode that is wanted, -1 for none."""

@@ -1,0 +1,30 @@
+/* What tests over logs without an end share: images with fewer slots an epoch than those of `dlm format`, by docs/FORMAT.md. */
+#ifndef ENDLESS_H
+#define ENDLESS_H
+
+#include <fcntl.h>
+#include <stdint.h>
+#include <stdio.h>
+#include <unistd.h>
+
+enum { SLOTS = 320, CLUSTER = 7, IMAGE = 2 * (8192 + 4096 * SLOTS) + 4096 };
+
+static inline void path_of(char *into, size_t size, const char *folder, int disk, const char *end) { snprintf(into, size, "%s/disk%d.img%s", folder, disk, end); }
+
+/* Whether the images were made in a folder that has none. */
+static inline int lay_out(const char *folder, int disks) {
+    int is_made = 1;
+    for (int k = 0; k < disks && is_made; k++) {
+        const uint8_t header[16] = {0xA5, 4, (uint8_t)k, (uint8_t)disks, 0, 0, SLOTS / 256, SLOTS % 256, 0, 0, 0, 0, 0, 0, 0, CLUSTER};
+        char path[500];
+        int file;
+        path_of(path, sizeof path, folder, k, "");
+        file = open(path, O_WRONLY | O_CREAT | O_EXCL, 0666);
+        is_made = file >= 0 && ftruncate(file, IMAGE) == 0 && pwrite(file, header, sizeof header, 0) == (ssize_t)sizeof header;
+        if (file >= 0)
+            close(file);
+    }
+    return is_made;
+}
+
+#endif
