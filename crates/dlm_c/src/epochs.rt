@@ -15,7 +15,10 @@ ghost use Rattle.dlm_c.specs.Showing.{ShowsNothing};
 use crate::epoch_handle::EpochHandle;
 use crate::no_host;
 use c_epochs::{EpochsView, OpenEpochs, PlacedAnswer, ShowFault, WrittenBlock};
-use c_host::{CLOSED, ClientView, DueCall, Fault, Images, LockView, Opened, Request, Row, ToldAnswer, ValueView};
+use c_host::{
+    CLOSED, ClientView, DueCall, Fault, Images, LockView, Opened, Request, Row, ToldAnswer,
+    ValueView,
+};
 use std::alloc::Global;
 
 /// The images are of a log that ends.
