@@ -627,8 +627,10 @@ if echo 'int main(void) { return 0; }' | cc -x c -fsanitize=address,undefined - 
         [[ $program != contend ]] || given+=(3 5)
         tried "sanitized $program" "$work/sanitized_$program" "${given[@]}"
     done
-    tried "sanitized contend over a log without an end, built" cc -std=c99 $common -fsanitize=address,undefined -fno-sanitize-recover=all -include "$here/tests/over_endless.h" \
-        "$here/tests/contend.c" "$here/src/"{midgegalena,format,device}.c "$top/crates/dlm_c/out/libdlm_c.a" "$kit/libos_c.a" "$kit/liblibc_c.a" -o "$work/sanitized_endless"
+    tried "sanitized contend over a log without an end, compiled" cc -std=c99 $common -fsanitize=address,undefined -fno-sanitize-recover=all \
+        -include "$here/tests/over_endless.h" -c "$here/tests/contend.c" -o "$work/sanitized_endless.o"
+    tried "sanitized contend over a log without an end, built" cc -std=c99 $common -fsanitize=address,undefined -fno-sanitize-recover=all "$work/sanitized_endless.o" \
+        "$here/src/"{midgegalena,format,device}.c "$top/crates/dlm_c/out/libdlm_c.a" "$kit/libos_c.a" "$kit/liblibc_c.a" -o "$work/sanitized_endless"
     folder
     tried "sanitized contend over a log without an end" "$work/sanitized_endless" "$work/images" 3 5
 else
