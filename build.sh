@@ -141,7 +141,8 @@ build() {
 }
 
 # check_below CRATE LOG: proves the libraries that a crate stands on, where they lie, each as soon as those below it are proved. A check uses more than one
-# processor, so half as many run at once as there are. What one has proved is kept for the next and for `rt lib`. All that `rt` prints goes into the log.
+# processor, so half as many are begun at once as there are. In one checkout they wait for one another, where they share a library. What one has proved is kept for the next and
+# for `rt lib`. All that `rt` prints goes into the log.
 check_below() {
     local name library pid status failed=0 below
     local -A named=() proved=() running=()
