@@ -67,8 +67,9 @@ Midgegalena. The rights are its owner's. No licence is given yet: ask
 whoever gave you this what you may do with it.
 END
 
-# A hint for programs that are packaged with this library.
-echo "libmidgegalena ${version%%.*} midgegalena (>= $version)" > "$package/DEBIAN/shlibs"
+# A hint for programs that are packaged with this library, by the name that they are linked with.
+[[ $version =~ ^0\.[0-9]+|^[0-9]+ ]]
+echo "libmidgegalena ${BASH_REMATCH[0]} midgegalena (>= $version)" > "$package/DEBIAN/shlibs"
 echo "activate-noawait ldconfig" > "$package/DEBIAN/triggers"
 cat > "$package/DEBIAN/control" << END
 Package: midgegalena

@@ -12,6 +12,9 @@ prefix=${PREFIX:-/usr/local}
 root=${DESTDIR-}$prefix
 doc=share/doc/midgegalena
 version=$(<"$top/VERSION")
+# What a program is linked with. Below 1.0 each minor number may change it.
+[[ $version =~ ^0\.[0-9]+|^[0-9]+ ]]
+abi=${BASH_REMATCH[0]}
 is_archive=1 dlm=bin/dlm headers=include libraries=lib programs=bin
 if [[ ! -f $top/BUILT ]]; then
     is_archive=0 dlm=crates/dlm/out/dlm headers=capi/include libraries=capi/out programs=capi/out
@@ -30,8 +33,8 @@ each_of_library() {
     "$1" "$headers/mg_session.h" include/mg_session.h 644
     "$1" "$libraries/libmidgegalena.a" lib/libmidgegalena.a 644
     "$1" "$libraries/libmidgegalena.so.$version" "lib/libmidgegalena.so.$version" 644
-    "$1" "libmidgegalena.so.$version" "lib/libmidgegalena.so.${version%%.*}" link
-    "$1" "libmidgegalena.so.${version%%.*}" lib/libmidgegalena.so link
+    [[ $abi == "$version" ]] || "$1" "libmidgegalena.so.$version" "lib/libmidgegalena.so.$abi" link
+    "$1" "libmidgegalena.so.$abi" lib/libmidgegalena.so link
     "$1" "$libraries/midgegalena.pc" lib/pkgconfig/midgegalena.pc 644
     for name in mg-lock dlm-shared dlm-mount; do
         "$1" "$programs/$name" "bin/$name" 755

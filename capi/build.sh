@@ -9,7 +9,9 @@ top=$(dirname -- "$here")
 prefix=${1:-/usr/local}
 out=$here/out
 version=$(<"$top/VERSION")
-major=${version%%.*}
+# What a program is linked with. Below 1.0 each minor number may change it.
+[[ $version =~ ^0\.[0-9]+|^[0-9]+ ]]
+abi=${BASH_REMATCH[0]}
 cc=${CC:-cc}
 made=(libmidgegalena.a "libmidgegalena.so.$version" mg-lock dlm-shared dlm-mount)
 source "$top/build.sh"
@@ -72,11 +74,11 @@ ld -r -o "$out/devices.o" "$out/device.o" "$top/crates/dlm_c/out/libdlm_c.a" "$k
 objcopy --wildcard --keep-global-symbol='device_*' --keep-global-symbol='dlm_c_device*' --keep-global-symbol=sync_data "$out/devices.o"
 rm -f -- "$out"/libmidgegalena.*
 ar rcs "$out/libmidgegalena.a" "$out/whole.o"
-"$cc" -shared -Wl,-soname,"libmidgegalena.so.$major" -Wl,-z,defs,-z,relro,-z,now ${CFLAGS:-} -o "$out/libmidgegalena.so.$version" "$out/whole.o"
+"$cc" -shared -Wl,-soname,"libmidgegalena.so.$abi" -Wl,-z,defs,-z,relro,-z,now ${CFLAGS:-} -o "$out/libmidgegalena.so.$version" "$out/whole.o"
 "$cc" -std=c99 -O2 -Wall -Wextra -pedantic ${CFLAGS:-} -I "$here/include" "$here/src/"{mg-lock,status}.c "$out/libmidgegalena.a" -o "$out/mg-lock"
 "$cc" -std=c99 -O2 -Wall -Wextra -pedantic ${CFLAGS:-} -I "$here/include" "$here/src/dlm-shared.c" "$out/devices.o" "$out/libmidgegalena.a" -o "$out/dlm-shared"
 "$cc" -std=gnu11 -O2 -Wall -Wextra ${CFLAGS:-} -I "$here/include" -I "$here/src" "$here/examples/dlm-mount/dlm-mount.c" "$out/devices.o" -o "$out/dlm-mount"
-ln -sf "libmidgegalena.so.$version" "$out/libmidgegalena.so.$major"
-ln -sf "libmidgegalena.so.$major" "$out/libmidgegalena.so"
+[[ $abi == "$version" ]] || ln -sf "libmidgegalena.so.$version" "$out/libmidgegalena.so.$abi"
+ln -sf "libmidgegalena.so.$abi" "$out/libmidgegalena.so"
 write_pc
 (cd -- "$out" && sha256sum -- "${made[@]}" > made)

@@ -182,7 +182,7 @@ within dpkg --path-include='/usr/share/*' -i /package.deb
 [[ $(within dpkg-query -W -f '${Status}' midgegalena) == 'install ok installed' ]]
 [[ $(within mg-lock --version) == "mg-lock of midgegalena $version" ]]
 [[ $(within dlm run /script.dlm) == '18 h0 ack 0 Granted' ]]
-within ldconfig -p | grep -q 'libmidgegalena\.so\.0 '
+within ldconfig -p | grep -q "libmidgegalena\.so\.$version "
 within dpkg -V midgegalena
 within dpkg -P midgegalena
 within dpkg-query -W midgegalena 2> "$work/said" && exit 1

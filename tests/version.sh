@@ -61,6 +61,9 @@ has_words ./dlm "$work/help of dlm"
 [[ -z $(grep '^  [a-z]' "$work/help of dlm" | grep -v '  [a-z][a-z ,]*$') ]] || fail "./dlm --help does not say what each word does"
 grep -q '^  (cd crates/dlm && rt try ' "$work/help of dlm" || fail "./dlm --help has no first look"
 
+# The library that the Python package loads is that of this version: below 1.0 each minor number has a library of its own.
+same "capi/python" "$(sed -n 's/.*"libmidgegalena\.so\.\([0-9.]*\)".*/\1/p' capi/python/midgegalena/__init__.py)"
+
 built=capi/out
 if [[ -x $built/mg-lock && -x $built/dlm-shared && -x $built/dlm-mount ]]; then
     for name in mg-lock dlm-shared dlm-mount; do

@@ -55,7 +55,7 @@ Rest = CFUNCTYPE(c_int, c_void_p, c_int)
 
 def load(path: Optional[str] = None) -> ctypes.CDLL:
     """The library, with what its calls take and return."""
-    lib = ctypes.CDLL(path or os.environ.get("MIDGEGALENA", "libmidgegalena.so.0"))
+    lib = ctypes.CDLL(path or os.environ.get("MIDGEGALENA", "libmidgegalena.so.0.8"))
     lib.mg_name.restype = lib.mg_strerror.restype = c_char_p
     lib.mg_format.argtypes = [c_char_p, c_uint, c_uint, c_uint64, POINTER(c_int)]
     lib.mg_begin.argtypes = [c_char_p, c_uint, c_uint, POINTER(c_void_p), POINTER(c_int)]
