@@ -4,7 +4,7 @@
     wrong.py                what is due, and why; and whether each edit of wrong/ and of must-fail/ can still be applied
     wrong.py try CRATE..    has the checker try what is due in these crates (`all`: in each; where nothing is due, all of wrong/), and records in wrong/tried what it refused
     wrong.py note CRATE..   records the same of what `rt ci` or `rt must-fail` printed on standard input, over a copy of these very crates
-    wrong.py put            puts a copy of the edits that are due into must-fail/, where `rt ci` tries them: as many crates as have 100 together
+    wrong.py put            puts a copy of the edits that are due into must-fail/, where `rt ci` tries them: as many crates as have 50 together
     wrong.py back           takes these copies out again
 
 An edit is due where it, or its crate's src/, specs/ or proofs/, differs from what wrong/tried says was tried, but for lines that are comments. In turn, one crate in twelve is due
@@ -25,7 +25,7 @@ import tempfile
 TOP = os.path.dirname(os.path.dirname(os.path.realpath(__file__)))
 TURNS = 12
 # So many edits of wrong/ one run of the gate tries at most.
-LIMIT = int(os.environ.get("WRONG_LIMIT", "100"))
+LIMIT = int(os.environ.get("WRONG_LIMIT", "50"))
 
 
 def edits_of(crate, part="wrong"):
