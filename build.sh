@@ -140,25 +140,33 @@ build() {
     return $ended
 }
 
-# check_below CRATE LOG: proves the libraries that a crate stands on, where they lie, each as soon as those below it are proved. A check uses more than one
-# processor, so half as many are begun at once as there are. In one checkout they wait for one another, where they share a library. What one has proved is kept for the next and
-# for `rt lib`. All that `rt` prints goes into the log.
+# check_below CRATE LOG: proves the libraries that a crate stands on, each as soon as those below it are proved. In one checkout two checks that share a library wait
+# for one another. So each is run in one of the copies of the crates in the crate's out/checks, of which there is one more than half the processors, since a check uses
+# more than one. A check begins with what those in the other copies kept, and so does `rt lib`, as long as the copies stay. All that `rt` prints goes into the log.
 check_below() {
-    local name library pid status failed=0 below
-    local -A named=() proved=() running=()
+    local name library copy pid status failed=0 below
+    local -A named=() proved=() running=() place=()
+    local -a free=()
     while read -r name library; do
         [[ $name != [a-z]* ]] || named[${name%:}]=$library
     done < "$top/crates.txt"
     find_below "$1"
+    for ((copy = 1; copy <= $(nproc) / 2 + 1; copy++)); do
+        renew_copy "$1" "$top/crates/$1/out/checks/$copy"
+        free+=("$top/crates/$1/out/checks/$copy")
+    done
     while true; do
         for name in "${below[@]}"; do
             [[ $failed -eq 0 && -z ${proved[$name]-} && " ${running[*]-} " != *" $name "* ]] || continue
-            [[ ${#running[@]} -eq 0 || ${#running[@]} -lt $(($(nproc) / 2)) ]] || break
+            [[ ${#free[@]} -gt 0 ]] || break
             for library in ${named[$name]}; do
                 [[ -z ${named[$library]+listed} || -n ${proved[$library]-} ]] || continue 2
             done
-            (cd -- "$top/crates/$name" && rt check < /dev/null) >> "$2" 2>&1 &
+            copy=${free[-1]}
+            unset 'free[-1]'
+            (cd -- "$copy/crates/$name" && rt check < /dev/null) >> "$2" 2>&1 &
             running[$!]=$name
+            place[$!]=$copy
         done
         [[ ${#running[@]} -gt 0 ]] || return "$failed"
         status=0
@@ -168,8 +176,15 @@ check_below() {
         else
             failed=1
         fi
-        unset "running[$pid]"
+        free+=("${place[$pid]}")
+        unset "running[$pid]" "place[$pid]"
     done
+}
+
+# renew_copy CRATE FOLDER: copy_crates, where there may be an older copy. What checks kept there stays.
+renew_copy() {
+    [[ ! -d $2/crates ]] || find "$2/crates" -mindepth 2 -maxdepth 2 ! -name out -exec rm -r -- {} +
+    copy_crates "$1" "$2"
 }
 
 # note_proved CRATE [FILE [SUM]]: what is proved, the program or this file, has its sum beside it, and that of what it was made of, which is what is there now

@@ -10,7 +10,7 @@ cp -- "$top/capi/"{build.sh,midgegalena.pc.in} "$work/capi"
 printf 'torn_block: disk thiserror\ndlm_c staticlib: disk torn_block\ndisk: thiserror\nbench: torn_block\n' > "$work/crates.txt"
 echo 1.7 > "$work/VERSION"
 printf '#define MG_VERSION_MAJOR 1\n#define MG_VERSION_MINOR 7\n' > "$work/capi/include/midgegalena.h"
-touch -- "$work/crates/"{dlm_c,disk}/src/lib.rt "$work/capi/src/mg-lock.c" "$work/stand_ins/c/"{libos_c,liblibc_c}.a
+touch -- "$work/HANDLES" "$work/crates/"{dlm_c,disk}/src/lib.rt "$work/capi/src/mg-lock.c" "$work/stand_ins/c/"{libos_c,liblibc_c}.a
 
 # `rt check` says in which crate it is run, and fails where there is a file `unproved`. `rt lib` makes the archive of the crate that it is run in, says so, and
 # fails where there is a file `broken`; it edits a source in the midst where there is `late`.
