@@ -57,6 +57,7 @@ by_release l c slot (End (Failed why)) gives without leads drops = absurd withou
 at_step : (l : Learned) (c : Claim) (slot : ℕ) (step : Step) → GivesBack l c slot → GivesBack l (record c { step = step }) slot
 at_step l c slot step gives = record {
   command = gives.command;
+  known = gives.known;
   late = gives.late;
   there = gives.there;
   request = gives.request;

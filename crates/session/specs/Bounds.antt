@@ -1,5 +1,6 @@
 -- How many orders an operation may still give, once it is to end soon.
-use Rattle.std.specs.Prelude.{◌≡◌, ◌+◌, ◌<◌, ◌≤◌, ◌⊎◌, ℕ, Bool, true, false, is_some, length}
+use Rattle.std.specs.Prelude.{◌≡◌, ◌+◌, ◌<◌, ◌⊎◌, ℕ, Bool, true, false, is_some}
+use Rattle.session.specs.Places.{IsFull}
 use Rattle.session.specs.declared.claim.Claim.{Claim}
 use Rattle.session.specs.declared.claim.Standing.{Standing}
 use Rattle.session.specs.declared.claim.Standing.TheVariants.{Leaving}
@@ -39,7 +40,7 @@ IsPause step = ((milliseconds : ℕ) × (step ≡ Resting milliseconds)) ⊎ (st
 
 -- A wait may pause: no process that is gone holds the name, or the log is full, so that nothing can be done about it.
 abbrev pub MayPause : Learned → Type 0
-MayPause l = (l.left_over ≡ false) ⊎ (l.slots ≤ length l.log.now)
+MayPause l = (l.left_over ≡ false) ⊎ IsFull l
 
 -- what it leads to depends on a log that is read
 abbrev pub IsReading : Step → Type 0

@@ -13,7 +13,9 @@ use Rattle.lock_command.specs.declared.record.LockRecord.{LockRecord}
 use Rattle.lock_table.specs.declared.known_client.KnownClient.{KnownClient}
 use Rattle.lock_table.specs.Picture.{Shown}
 use Rattle.session.specs.Numbers.{client_of}
+use Rattle.session.specs.Places.{command_at}
 use Rattle.session.specs.declared.claim.Claim.{Claim}
+use Rattle.session.specs.declared.learned.Learned.{Learned}
 
 -- THE LOCK IN THE TABLE
 
@@ -80,17 +82,18 @@ pub record Knows (table : Shown) (client : ℕ) (known : KnownClient) : Type 0 w
 abbrev pub IsRequest : ℕ → ℕ → Command → Type 0
 IsRequest client request command = (command.client ≡ client) × (command.request ≡ request)
 
--- No command of the log between these slots is such a one.
-abbrev pub NoneBetween : (Command → Type 0) → List Command → ℕ → ℕ → Type 0
-NoneBetween Is log from to = (at : ℕ) (command : Command) → from ≤ at → at < to → slice_get log at ≡ Some command → Is command → ⊥
+-- No command that is known between these places is such a one. That tells something only where the first one is known.
+abbrev pub NoneBetween : (Command → Type 0) → Learned → ℕ → ℕ → Type 0
+NoneBetween Is l from to = (place : ℕ) (command : Command) → from ≤ place → place < to → command_at l place ≡ Some command → Is command → ⊥
 
--- The first command from here on that is this request of the client stands at this slot.
-pub record IsFirst (log : List Command) (from client request slot : ℕ) : Type 0 where
+-- The first command from here on that is this request of the client stands at this place. All commands from here to there are known.
+pub record IsFirst (l : Learned) (from client request place : ℕ) : Type 0 where
   pub command : Command
-  pub late : from ≤ slot
-  pub there : slice_get log slot ≡ Some command
+  pub known : l.first ≤ from
+  pub late : from ≤ place
+  pub there : command_at l place ≡ Some command
   pub is : IsRequest client request command
-  pub first : NoneBetween (IsRequest client request) log from slot
+  pub first : NoneBetween (IsRequest client request) l from place
 
 -- it asks for the claimed lock
 abbrev pub AsksFor : Claim → Command → Type 0

@@ -8,3 +8,4 @@ pub mod Numbers
 pub mod Orders
 pub mod Outcomes
 pub mod Pauses
+pub mod Places

@@ -1,7 +1,8 @@
 -- What changes in a claim: nothing but what is named here.
-use Rattle.std.specs.Prelude.{◌≡◌, ◌+◌, ◌==◌, ◌⊎◌, ℕ, Bool, Option, Some, None, is_some, true, length, max, if◌then◌else◌}
+use Rattle.std.specs.Prelude.{◌≡◌, ◌+◌, ◌==◌, ◌⊎◌, ℕ, Bool, Option, Some, None, is_some, true, max, if◌then◌else◌}
 use Rattle.session.specs.Choosing.{IsFree, IsNext}
 use Rattle.session.specs.Outcomes.{EndsIn, IsOut}
+use Rattle.session.specs.Places.{place_of, upto}
 use Rattle.session.specs.declared.claim.Choice.{Choice}
 use Rattle.session.specs.declared.claim.Claim.{Claim}
 use Rattle.session.specs.declared.claim.Goal.TheVariants.{GiveUp, Take}
@@ -47,10 +48,10 @@ Forgets l old new = IsSpent l old × GoesOn (record old { release = None }) new
 abbrev pub slot_in : ℕ → Claim → Option ℕ
 slot_in set c = if set == c.set then c.slot else None
 
--- so many slots come before what is submitted next: those that were learned, and those up to that command
+-- so many places come before what is submitted next: those that were learned, and those up to that command
 abbrev pub passed : Option ℕ → ℕ → ℕ
 passed None learned = learned
-passed (Some slot) learned = max learned (slot + 1)
+passed (Some slot) learned = max learned (place_of (slot + 1))
 
 -- The lock is released by a number that is chosen now, from what is learned of these images. A release before this one has no further effect.
 abbrev pub ReleasesAnew : Learned → Claim → Claim → Type 0
@@ -60,7 +61,7 @@ ReleasesAnew l old new = IsSpent l old × IsNext l old.host old.request new.requ
   request = new.request;
   set = l.set;
   slot = slot_in l.set old;
-  since = passed (slot_in l.set old) (length l.log.now);
+  since = passed (slot_in l.set old) (upto l);
   step = new.step;
   tries = new.tries;
   pace = new.pace;
@@ -93,7 +94,7 @@ Asks l choice old new = new ≡ record old {
   set = l.set;
   release = None;
   value = None;
-  since = length l.log.now;
+  since = upto l;
   step = new.step;
   pace = record old.pace { outrun = 0 };
 }

@@ -1,12 +1,17 @@
 -- What has to be heard before an operation on a claim may end so.
-use Rattle.std.specs.Prelude.{◌≡◌, ◌≢◌, ◌≤◌, ◌⊎◌, ⊤, ℕ, Option, Some, None, length, not, slice_get}
+use Rattle.std.specs.Prelude.{◌≡◌, ◌≢◌, ◌≤◌, ◌⊎◌, ⊤, ℕ, Option, Some, None, not}
 use Rattle.lock_command.specs.declared.command.Command.{Command}
 use Rattle.lock_command.specs.declared.command.Action.TheVariants.{Release}
+use Rattle.lock_command.specs.declared.reply.Answer.TheVariants as answer
+use Rattle.lock_command.specs.declared.reply.Refusal.TheVariants.{NotQueued}
+use Rattle.lock_command.specs.declared.reply.Reply.{Reply}
 use Rattle.lock_command.specs.declared.state.LockState.TheVariants.{Granted}
 use Rattle.session.specs.Evidence.{AsksFor, HasHeard, IsFirst, IsRequest, Lacks, NoneBetween, Purges, Shows, is_numbered}
 use Rattle.session.specs.Numbers.{client_of}
+use Rattle.session.specs.Places.{IsFull, command_at}
 use Rattle.session.specs.declared.claim.Claim.{Claim}
-use Rattle.session.specs.declared.claim.Goal.TheVariants.{Check, Give}
+use Rattle.session.specs.declared.claim.Goal.{Goal}
+use Rattle.session.specs.declared.claim.Goal.TheVariants.{Check, Give, GiveUp}
 use Rattle.session.specs.declared.claim.Sign.{Sign}
 use Rattle.session.specs.declared.claim.Standing.TheVariants.{Unasked}
 use Rattle.session.specs.declared.claim.Step.{Step}
@@ -16,6 +21,7 @@ use Rattle.session.specs.declared.claim.Then.TheVariants.{AskAgain, End}
 use Rattle.session.specs.declared.learned.Learned.{Learned}
 use Rattle.session.specs.declared.outcome.Outcome.{Outcome}
 use Rattle.session.specs.declared.outcome.Why.{Why}
+use Rattle.session.specs.declared.outcome.Why.TheVariants as why
 use Rattle.session.specs.declared.outcome.Outcome.TheVariants.{Held, NotHeld, Given, InDoubt, Failed}
 
 -- what the step leads to, with nothing left to hear but that a sign of life is given up
@@ -55,7 +61,7 @@ pub record IsHeldIn (l : Learned) (c : Claim) : Type 0 where
 -- The command that asked for the lock has no further effect: the client has gone on to a later one, or the log is full, or is one of other images.
 abbrev pub IsOut : Learned → Claim → Option ℕ → Type 0
 IsOut l c None = ⊤
-IsOut l c (Some request) = (l.set ≢ c.set) ⊎ (l.slots ≤ length l.log.now) ⊎ HasHeard l.table.now (client_of c.host) request
+IsOut l c (Some request) = (l.set ≢ c.set) ⊎ IsFull l ⊎ HasHeard l.table.now (client_of c.host) request
 
 -- The table of the folder that was opened last lacks the lock, and it does not come into it any more.
 pub record IsGone (l : Learned) (c : Claim) : Type 0 where
@@ -64,26 +70,37 @@ pub record IsGone (l : Learned) (c : Claim) : Type 0 where
   pub out : IsOut l c c.asked
 
 -- At this slot the log has the claim's own release with the claim's value. Since its number was chosen, while the lock was in the table, no command of that
--- number came before it, and no purge of the host.
+-- number came before it, and no purge of the host: all commands since are known.
 pub record GivesBack (l : Learned) (c : Claim) (slot : ℕ) : Type 0 where
   pub command : Command
+  pub known : l.first ≤ c.since
   pub late : c.since ≤ slot
-  pub there : slice_get l.log.now slot ≡ Some command
+  pub there : command_at l slot ≡ Some command
   pub request : c.release ≡ Some command.request
   pub action : command.action ≡ Release c.lock c.value
-  pub first : NoneBetween (IsRequest (client_of c.host) command.request) l.log.now c.since slot
+  pub first : NoneBetween (IsRequest (client_of c.host) command.request) l c.since slot
   pub client : command.client ≡ client_of c.host
-  pub spared : NoneBetween (Purges c.host) l.log.now c.since slot
+  pub spared : NoneBetween (Purges c.host) l c.since slot
   pub lacks : Lacks l.table.now c
 
 -- At this slot the log has the command that asks for the claimed lock, as the first of its number since that was chosen.
 pub record AsksAt (l : Learned) (c : Claim) (asking : Command) (slot : ℕ) : Type 0 where
-  pub first : IsFirst l.log.now c.since asking.client asking.request slot
-  pub asks : (command : Command) → slice_get l.log.now slot ≡ Some command → AsksFor c command
+  pub first : IsFirst l c.since asking.client asking.request slot
+  pub asks : (command : Command) → command_at l slot ≡ Some command → AsksFor c command
 
 -- it is the slot of the command that was submitted
 abbrev pub IsSlotOf : Learned → Claim → ℕ → Type 0
 IsSlotOf l c slot = (command : Command) × (c.step ≡ Submitting command) × AsksAt l c command slot
+
+-- The reply refuses the command for this reason.
+abbrev pub RefusesFor : Reply → Why → Type 0
+RefusesFor reply why.Taken = (reply.answer ≡ answer.Refused NotQueued)
+RefusesFor reply (why.Refused refusal) = (reply.answer ≡ answer.Refused refusal)
+RefusesFor reply other = ⊥
+
+-- The operation gave the lock up for this reason, or gave it back, and it is gone.
+abbrev pub IsGivenUpFor : Goal → Why → Type 0
+IsGivenUpFor goal reason = (goal ≡ GiveUp reason) ⊎ ((goal ≡ Give) × (reason ≡ why.Gone))
 
 -- The sign of life is that of this lock number. Its file is removed exactly where no lock in the table has the number.
 pub record IsGivenUp (l : Learned) (number : ℕ) (sign : Sign) : Type 0 where

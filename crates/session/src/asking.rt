@@ -7,10 +7,10 @@ ghost use Rattle.session.specs.Evidence.{Knows};
 ghost use Rattle.session.specs.Keeping.{IsOnSame, Keeps, KeepsRelease, KeepsReleaseUntilOut};
 ghost use Rattle.session.specs.Numbers.{client_of};
 ghost use Rattle.session.specs.declared.claim.Standing.{Standing};
-ghost use Rattle.session.specs.Outcomes.{AsksAt, EndsIn, IsBorneOut, IsSlotOf, IsSubmitting, IsUnheard, IsWithout, TellsWhy};
+ghost use Rattle.session.specs.Outcomes.{AsksAt, EndsIn, IsBorneOut, IsGivenUpFor, IsSlotOf, IsSubmitting, IsUnheard, IsWithout, RefusesFor, TellsWhy};
 
 use crate::claim::{Choice, Claim, Goal, Sign, Standing, Step, Then};
-use crate::evidence::{Seen, asks_for, find, first_of, is_numbered, is_taken, last_request};
+use crate::evidence::{Seen, asks_at, find, first_of, is_numbered, is_taken, last_request};
 use crate::learned::Learned;
 use crate::numbers::{NUMBERS, client_of, lock_of};
 use crate::outcome::{Failure, Outcome, Why};
@@ -175,7 +175,7 @@ impl Claim {
                 self.value = None;
                 self.slot = None;
                 self.set = learned.set;
-                self.since = learned.log.len();
+                self.since = learned.upto();
                 self.pace.outrun = 0;
                 self.submit_ask(choice.request);
             }
@@ -254,6 +254,10 @@ impl Claim {
         ensures nearer { ComesNearer self.old self.new }
         ensures slot { self.new.slot ≡ self.old.slot ⊎ IfSome self.new.slot (IsSlotOf learned.now self.old) }
         ensures pauses { IsPause self.new.step → MayPause learned.now }
+        // Why a lock was not granted is what the reply says.
+        ensures refused { (why : Why) → self.old.standing ≡ Standing.Asked → EndsIn self.new (Outcome.NotHeld why) → RefusesFor reply.now why }
+        // Why a lock is not held that was released is what the operation was for.
+        ensures given_up { (why : Why) → self.old.standing ≡ Standing.Leaving → EndsIn self.new (Outcome.NotHeld why) → IsGivenUpFor self.old.goal why }
         ensures moves { MovesOn learned.now self.old self.new ⊎ TellsSlot self.old self.new }
         ensures goal { KeepsGoal self.old self.new }
         ensures value { KeepsValue self.old self.new }
@@ -278,6 +282,7 @@ impl Claim {
         ensures soon { is_some self.old.over ≡ true → orders_left self.new ≤ 12 }
         ensures slot { self.new.slot ≡ self.old.slot ⊎ IfSome self.new.slot (AsksAt learned.now self.old command.now) }
         ensures pauses { IsPause self.new.step → MayPause learned.now }
+        ensures refused { (why : Why) → self.old.standing ≢ Standing.Unasked → EndsIn self.new (Outcome.NotHeld why) → RefusesFor reply.now why }
         ensures moves { MovesOn learned.now self.old self.new ⊎ TellsSlot self.old self.new }
         ensures goal { KeepsGoal self.old self.new }
         ensures value { KeepsValue self.old self.new }
@@ -308,7 +313,7 @@ impl Claim {
     /// Releases a lock that is another command's, and then asks again.
     fn give_over(&mut self, learned: &Learned<'_>)
         requires newest { learned.now.set ≡ self.old.newest }
-        ensures borne_out { IsBorneOut learned.now self.new }
+        ensures unheard { IsUnheard self.new }
         ensures soon { is_some self.old.over ≡ true → orders_left self.new ≤ 12 }
         ensures no_pause { IsPause self.new.step → ⊥ }
         ensures moves { MovesOn learned.now self.old self.new }
@@ -321,16 +326,16 @@ impl Claim {
             return self.give_up(why);
         }
         self.standing = Standing::Leaving;
-        self.let_go(learned);
+        self.put_release(learned);
     }
 
     /// Where the command that asked for the lock stands, if that is the first one of its number.
-    fn asked_at(&self, command: &Command, learned: &Learned<'_>) -> Option<u16>
+    fn asked_at(&self, command: &Command, learned: &Learned<'_>) -> Option<u64>
         ensures { IfSome result (AsksAt learned.now self.now command.now) }
     {
-        let slot = first_of(learned.log, self.since, command.client, command.request)?;
-        if asks_for(&learned.log[slot], self) {
-            u16::try_from(slot).ok()
+        let slot = first_of(learned, self.since, command.client, command.request)?;
+        if asks_at(learned, slot, self) {
+            Some(slot)
         } else {
             None
         }
@@ -338,7 +343,8 @@ impl Claim {
 
     /// What is done where the table has not got the lock.
     fn after(&self, reply: &Reply) -> Then
-        ensures { IsWithout result }
+        ensures without { IsWithout result }
+        ensures refused { (why : Why) → result ≡ Then.End (Outcome.NotHeld why) → RefusesFor reply.now why }
     {
         match reply.answer {
             Answer::Refused(Refusal::NotQueued) => Then::End(Outcome::NotHeld(Why::Taken)),
@@ -349,7 +355,7 @@ impl Claim {
         }
     }
 
-    /// The command was not acknowledged.
+    /// The command was not acknowledged. That a log without an end is full tells nothing of the command.
     pub(crate) fn submit_failed(&mut self, failure: Failure, learned: &Learned<'_>)
         requires newest { learned.now.set ≡ self.old.newest }
         ensures borne_out { IsBorneOut learned.now self.new }
@@ -361,9 +367,24 @@ impl Claim {
         ensures keeps { Keeps self.old self.new }
         ensures release { KeepsReleaseUntilOut learned.now self.old self.new }
     {
-        if failure == Failure::LogFull {
+        if failure == Failure::LogFull && learned.slots.is_some() {
             return self.meet_end(learned);
         }
+        self.submit_failed_unread(failure);
+    }
+
+    /// The same, where it is not known what the log and the table show.
+    pub(crate) fn submit_failed_unread(&mut self, failure: Failure)
+        ensures unheard { IsUnheard self.new }
+        ensures yields { self.old.over ≡ None → failure ≡ Failure.Outrun → self.new.step ≡ Step.Yielding }
+        ensures soon { is_some self.old.over ≡ true → is_leaving self.old.standing ≡ false → orders_left self.new ≤ 12 }
+        ensures leaves { is_some self.old.over ≡ true → is_leaving self.old.standing ≡ true → orders_left self.new ≤ 1 + self.old.tries }
+        ensures moves { GoesOn self.old self.new }
+        ensures goal { KeepsGoal self.old self.new }
+        ensures value { KeepsValue self.old self.new }
+        ensures keeps { Keeps self.old self.new }
+        ensures release { KeepsRelease self.old self.new }
+    {
         let is_outrun = failure == Failure::Outrun;
         match self.over {
             None if is_outrun => {
@@ -389,7 +410,7 @@ impl Claim {
         ensures release { KeepsReleaseUntilOut learned.now self.old self.new }
     {
         let why = Why::Failed(Failure::LogFull);
-        if learned.log.len() < usize::from(learned.slots) {
+        if !learned.is_full() {
             return self.break_off();
         }
         if self.standing == Standing::Leaving {

@@ -92,8 +92,8 @@ pub struct Claim {
     pub standing: Standing,
     /// The request that asked for it. Nobody knows that of a lock which a former run left.
     pub asked: Option<RequestNumber>,
-    /// Where that request's command stands in the log, if a reply told.
-    pub slot: Option<u16>,
+    /// At which place of the log that request's command stands, if a reply told.
+    pub slot: Option<u64>,
     /// The images of which this slot is one.
     pub set: u64,
     /// The release of it that may be in the log.
@@ -102,8 +102,8 @@ pub struct Claim {
     pub value: Option<ValueBytes>,
     /// The last request of the session.
     pub request: u64,
-    /// So many slots come before whatever was submitted by that: those learned when it was chosen, and those up to the command that asked for the lock.
-    pub since: usize,
+    /// So many places come before whatever was submitted by that: those learned when it was chosen, and those up to the command that asked for the lock.
+    pub since: u64,
     /// The images that were opened last.
     pub newest: u64,
     pub goal: Goal,

@@ -1,11 +1,14 @@
-ghost use Rattle.std.specs.Prelude.{◌≡◌, ◌≢◌, ◌≤◌, ◌<◌, ◌^◌, ◌↔◌, ◌⊎◌, IsTrue, IfSome, length, None};
+ghost use Rattle.std.specs.Prelude.{◌≡◌, ◌≢◌, ◌≤◌, ◌<◌, ◌^◌, ◌↔◌, ◌⊎◌, IsTrue, IfSome, None, Some};
 ghost use Rattle.lock_command.specs.declared.state.LockState.TheVariants as lock;
+ghost use Rattle.lock_command.specs.declared.command.Command.{Command};
 ghost use Rattle.lock_command.specs.State.{goal_of};
 ghost use Rattle.lock_table.specs.declared.known_client.KnownClient.{KnownClient};
 ghost use Rattle.session.specs.Evidence as evidence;
+ghost use Rattle.session.specs.Places.{command_at, upto};
 ghost use Rattle.session.specs.Evidence.{AsksFor, HasHeard, IsFirst, IsOf, IsRequest, Knows, Lacks, NoneBetween, Purges, Shows, ShowsWaiting};
 
 use crate::claim::Claim;
+use crate::learned::Learned;
 use crate::numbers::client_of;
 use lock_command::{
     Action, ClientNumber, Command, HostNumber, LockName, LockNumber, Mode, RequestNumber,
@@ -122,32 +125,39 @@ pub fn has_heard(table: &Picture, client: ClientNumber, request: u64) -> bool
     false
 }
 
-/// Where the first command from here on stands that is this request of the client.
+/// The place of the first command from here on that is this request of the client. None, too, where not all commands from here on are known.
 pub fn first_of(
-    log: &[Command],
-    from: usize,
+    learned: &Learned<'_>,
+    from: u64,
     client: ClientNumber,
     request: RequestNumber,
-) -> Option<usize>
-    ensures first { IfSome result (λ slot. IsFirst log.now from client request slot) }
-    ensures within { IfSome result (λ slot. slot < length log.now) }
-    ensures none { result ≡ None → NoneBetween (IsRequest client request) log.now from (length log.now) }
+) -> Option<u64>
+    ensures first { IfSome result (λ place. IsFirst learned.now from client request place) }
+    ensures within { IfSome result (λ place. place < upto learned.now) }
+    ensures none { result ≡ None → learned.now.first ≤ from → NoneBetween (IsRequest client request) learned.now from (upto learned.now) }
 {
-    for at in from..log.len() {
-        if log[at].client == client && log[at].request == request {
-            return Some(at);
+    if from < learned.first {
+        return None;
+    }
+    for place in from..learned.upto() {
+        if let Some(command) = learned.command(place) {
+            if command.client == client && command.request == request {
+                return Some(place);
+            }
         }
     }
     None
 }
 
-/// Whether no command between these slots takes away the locks of the host.
-pub fn is_spared(log: &[Command], from: usize, to: usize, host: HostNumber) -> bool
-    ensures { IsTrue result ↔ NoneBetween (Purges host) log.now from to }
+/// Whether no command that is known between these places takes away the locks of the host.
+pub fn is_spared(learned: &Learned<'_>, from: u64, to: u64, host: HostNumber) -> bool
+    ensures { IsTrue result ↔ NoneBetween (Purges host) learned.now from to }
 {
-    for at in from..to.min(log.len()) {
-        if purges(&log[at], host) {
-            return false;
+    for place in from..to {
+        if let Some(command) = learned.command(place) {
+            if purges(&command, host) {
+                return false;
+            }
         }
     }
     true
@@ -162,8 +172,22 @@ fn purges(command: &Command, host: HostNumber) -> bool
     }
 }
 
-/// Whether the command releases this lock, and stores this value.
-pub fn releases(command: &Command, lock: LockNumber, value: Option<ValueBytes>) -> bool
+/// Whether the command at this place is known, releases this lock, and stores this value.
+pub fn releases_at(
+    learned: &Learned<'_>,
+    place: u64,
+    lock: LockNumber,
+    value: Option<ValueBytes>,
+) -> bool
+    ensures { IsTrue result ↔ ((command : Command) × (command_at learned.now place ≡ Some command) × (command.action ≡ Action.Release lock value)) }
+{
+    match learned.command(place) {
+        Some(command) => releases(&command, lock, value),
+        None => false,
+    }
+}
+
+fn releases(command: &Command, lock: LockNumber, value: Option<ValueBytes>) -> bool
     ensures { IsTrue result ↔ (command.now.action ≡ Action.Release lock value) }
 {
     match &command.action {
@@ -175,8 +199,17 @@ pub fn releases(command: &Command, lock: LockNumber, value: Option<ValueBytes>) 
     }
 }
 
-/// Whether the command asks for this claim's lock.
-pub fn asks_for(command: &Command, claim: &Claim) -> bool
+/// Whether the command at this place is known, and asks for this claim's lock.
+pub fn asks_at(learned: &Learned<'_>, place: u64, claim: &Claim) -> bool
+    ensures { IsTrue result ↔ ((command : Command) × (command_at learned.now place ≡ Some command) × AsksFor claim.now command) }
+{
+    match learned.command(place) {
+        Some(command) => asks_for(&command, claim),
+        None => false,
+    }
+}
+
+fn asks_for(command: &Command, claim: &Claim) -> bool
     ensures { IsTrue result ↔ AsksFor claim.now command.now }
 {
     match &command.action {

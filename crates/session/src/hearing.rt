@@ -2,7 +2,7 @@ ghost use Rattle.std.specs.Prelude.{◌≡◌, ◌+◌, ◌≢◌, ◌≤◌, �
 ghost use Rattle.session.specs.Bounds.{ComesNearer, IsOpening, IsPause, IsReading, MayPause, is_leaving, orders_left};
 ghost use Rattle.session.specs.Keeping.{IsOnSame, Keeps, KeepsRelease, KeepsReleaseUntilOut};
 ghost use Rattle.session.specs.Moves.{AsksOn, BreaksOff, Chooses, GoesOn, KeepsGoal, KeepsValue, MovesOn};
-ghost use Rattle.session.specs.Outcomes.{IsBorneOut, IsGivenUp, IsOut, IsUnheard, TellsWhy, then_of};
+ghost use Rattle.session.specs.Outcomes.{EndsIn, IsBorneOut, IsGivenUp, IsOut, IsSubmitting, IsUnheard, TellsWhy, then_of};
 
 use crate::beginning::LAST_TRIES;
 use crate::claim::{Claim, Goal, Sign, Standing, Step, Then};
@@ -23,18 +23,53 @@ impl Claim {
         ensures keeps { Keeps (record self.old { newest = learned.now.set }) self.new }
         ensures release { KeepsReleaseUntilOut learned.now self.old self.new }
     {
-        self.newest = learned.set;
-        self.pace.failure = None;
+        let learns_first = self.shares && self.release.is_none();
         match self.step {
-            Step::Opening => self.talk(learned),
+            Step::Opening if self.standing == Standing::Leaving && !learns_first => {
+                // A release that may be in the log is put there once more, and found where it stands: so nothing is learned before.
+                self.reach(learned.set);
+                self.let_go(learned);
+            }
+            _ => self.opened_unread(learned.set),
+        }
+    }
+
+    /// The folder with these images is open, and its host does not know the table yet.
+    pub fn opened_unread(&mut self, set: u64)
+        ensures unheard { IsUnheard self.new }
+        // The log is read next, unless the operation is to end soon. A lock that is to be released is looked for all the same.
+        ensures reads { IsOpening self.old.step → self.old.over ≡ None → IsReading self.new.step }
+        ensures leaves { self.old.step ≡ Step.Opening → self.old.standing ≡ Standing.Leaving → self.new.step ≡ Step.Looking }
+        ensures told { (why : Why) → IsOpening self.old.step → self.old.over ≡ Some why → self.old.standing ≢ Standing.Leaving → TellsWhy self.new why }
+        ensures out_of_turn { (IsOpening self.old.step → ⊥) → EndsIn self.new (Outcome.InDoubt (Why.Failed Failure.Broken)) }
+        ensures nearer { ComesNearer self.old self.new }
+        ensures moves { GoesOn (record self.old { newest = set }) self.new }
+        ensures goal { KeepsGoal self.old self.new }
+        ensures value { KeepsValue self.old self.new }
+        ensures keeps { Keeps (record self.old { newest = set }) self.new }
+        ensures release { KeepsRelease self.old self.new }
+    {
+        self.reach(set);
+        match self.step {
+            Step::Opening => self.talk(),
             Step::OpeningToLook => self.look(),
             _ => self.break_off(),
         }
     }
 
+    /// The images that are open now.
+    fn reach(&mut self, set: u64)
+        ensures { self.new ≡ record self.old { newest = set; pace = record self.old.pace { failure = None } } }
+    {
+        self.newest = set;
+        self.pace.failure = None;
+    }
+
     /// The folder is open to look.
     fn look(&mut self)
         ensures unheard { IsUnheard self.new }
+        ensures reads { self.old.over ≡ None → self.new.step ≡ Step.Looking }
+        ensures told { (why : Why) → self.old.over ≡ Some why → TellsWhy self.new why }
         ensures soon { is_some self.old.over ≡ true → orders_left self.new ≤ 12 }
         ensures moves { GoesOn self.old self.new }
         ensures goal { KeepsGoal self.old self.new }
@@ -48,25 +83,22 @@ impl Claim {
         }
     }
 
-    /// The folder is open under the host number.
-    fn talk(&mut self, learned: &Learned<'_>)
-        requires newest { learned.now.set ≡ self.old.newest }
-        ensures borne_out { IsBorneOut learned.now self.new }
+    /// The folder is open under the host number, and is looked at first.
+    fn talk(&mut self)
+        ensures unheard { IsUnheard self.new }
+        ensures reads { self.old.over ≡ None → IsReading self.new.step }
+        ensures looks { self.old.standing ≡ Standing.Leaving → self.new.step ≡ Step.Looking }
+        ensures told { (why : Why) → self.old.over ≡ Some why → self.old.standing ≢ Standing.Leaving → TellsWhy self.new why }
         ensures soon { is_some self.old.over ≡ true → orders_left self.new ≤ 12 ⊎ is_leaving self.old.standing ≡ true }
         ensures leaves { is_leaving self.old.standing ≡ true → orders_left self.new ≤ 3 + self.old.tries }
-        ensures moves { MovesOn learned.now self.old self.new }
+        ensures moves { GoesOn self.old self.new }
         ensures goal { KeepsGoal self.old self.new }
         ensures value { KeepsValue self.old self.new }
         ensures keeps { Keeps self.old self.new }
-        ensures release { KeepsReleaseUntilOut learned.now self.old self.new }
+        ensures release { KeepsRelease self.old self.new }
     {
         if self.standing == Standing::Leaving {
-            // A release that may be in the log is put there once more, and found where it stands: so nothing is learned before.
-            if self.shares && self.release.is_none() {
-                self.step = Step::Looking;
-            } else {
-                self.let_go(learned);
-            }
+            self.step = Step::Looking;
             return;
         }
         if let Some(why) = self.over {
@@ -113,7 +145,7 @@ impl Claim {
         if learned.set != self.newest {
             return self.follow();
         }
-        self.pace.hear(learned.log.len());
+        self.pace.hear(learned.upto());
         match self.step {
             Step::Learning | Step::Looking if self.standing == Standing::Leaving => self.let_go(
                 learned,
@@ -210,7 +242,7 @@ impl Claim {
         match request {
             Some(request) => {
                 learned.set != self.set
-                    || learned.log.len() >= usize::from(learned.slots)
+                    || learned.is_full()
                     || has_heard(learned.table, client_of(self.host), request.get())
             }
             None => true,
@@ -271,8 +303,7 @@ impl Claim {
         ensures keeps { Keeps self.old self.new }
         ensures release { KeepsRelease self.old self.new }
     {
-        let is_full = learned.log.len() >= usize::from(learned.slots);
-        if !is_full && (learned.left_over || self.pace.is_quiet(self.lock.get())) {
+        if !learned.is_full() && (learned.left_over || self.pace.is_quiet(self.lock.get())) {
             self.pace.wake();
             self.step = Step::Opening;
         } else {
@@ -341,12 +372,13 @@ impl Claim {
         }
     }
 
-    /// The sign of life is given up, and there is no memory to read the table.
-    pub fn dropped_unread(&mut self)
+    /// The sign of life is given up, and the table is not known, for this reason.
+    pub fn dropped_unread(&mut self, failure: Failure)
         ensures ends { (sign : Sign) (outcome : Outcome) → self.old.step ≡ Step.Dropping sign (Then.End outcome) →
             self.new ≡ record self.old { step = Step.Ended outcome } }
         ensures again { (sign : Sign) → self.old.step ≡ Step.Dropping sign Then.AskAgain →
             GoesOn (record self.old { standing = Standing.Unasked; asked = None }) self.new }
+        ensures told { (sign : Sign) → self.old.step ≡ Step.Dropping sign Then.AskAgain → TellsWhy self.new (Why.Failed failure) }
         ensures out_of_turn { ((sign : Sign) (then : Then) → self.old.step ≡ Step.Dropping sign then → ⊥) → BreaksOff self.old self.new }
         ensures goal { KeepsGoal self.old self.new }
         ensures value { KeepsValue self.old self.new }
@@ -359,7 +391,7 @@ impl Claim {
             Step::Dropping(_, Then::AskAgain) => {
                 self.standing = Standing::Unasked;
                 self.asked = None;
-                self.give_up(Why::Failed(Failure::NoMemory));
+                self.give_up(Why::Failed(failure));
             }
             _ => self.break_off(),
         }
@@ -401,7 +433,28 @@ impl Claim {
         }
     }
 
-    /// The folder could not be opened, or there is no memory to hear what came of it.
+    /// What was ordered could not be done, and the table is not known.
+    pub fn refused_unread(&mut self, failure: Failure)
+        ensures unheard { IsUnheard self.new }
+        ensures nearer { ComesNearer self.old self.new }
+        ensures moves { GoesOn self.old self.new }
+        ensures goal { KeepsGoal self.old self.new }
+        ensures value { KeepsValue self.old self.new }
+        ensures keeps { Keeps self.old self.new }
+        ensures release { KeepsRelease self.old self.new }
+        ensures told { IsReading self.old.step → self.old.over ≡ None → TellsWhy self.new (Why.Failed failure) }
+        // A command that was outrun is put into the log once more, after a pause.
+        ensures yields { IsSubmitting self.old.step → self.old.over ≡ None → failure ≡ Failure.Outrun → self.new.step ≡ Step.Yielding }
+        ensures out_of_turn { (IsSubmitting self.old.step → ⊥) → (IsReading self.old.step → ⊥) → BreaksOff self.old self.new }
+    {
+        match self.step {
+            Step::Submitting(_) => self.submit_failed_unread(failure),
+            Step::Learning | Step::Looking | Step::Tidying => self.fail(failure),
+            _ => self.break_off(),
+        }
+    }
+
+    /// The folder could not be opened, or nothing can be heard of it.
     pub fn closed(&mut self, failure: Failure)
         ensures unheard { IsUnheard self.new }
         ensures nearer { ComesNearer self.old self.new }

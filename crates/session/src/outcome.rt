@@ -8,7 +8,7 @@ pub enum Outcome {
     /// The lock is not in the table, and does not come into it any more.
     NotHeld(Why),
     /// The lock was given back by the command at this slot.
-    Given { slot: u16 },
+    Given { slot: u64 },
     /// A command of this session whose outcome is not known may put the lock into the table, or take it away. The session keeps the lock.
     InDoubt(Why),
     /// Nothing was found out, and nothing was changed.

@@ -10,8 +10,8 @@ pub struct Pace {
     pub pause: u16,
     /// The longest pause between two looks, in milliseconds.
     pub interval: u16,
-    /// How many commands were learned when there was news last.
-    pub learned: usize,
+    /// How many places were learned when there was news last.
+    pub learned: u64,
     /// For so many milliseconds there was no news.
     pub quiet: u32,
     /// For so many milliseconds the disks were away.
@@ -80,8 +80,8 @@ impl Pace {
         Some(LONG_PAUSE)
     }
 
-    /// So many commands were learned by now.
-    pub fn hear(&mut self, learned: usize)
+    /// So many places were learned by now.
+    pub fn hear(&mut self, learned: u64)
         ensures away { self.new.away ≡ 0 }
         ensures learned { self.new.learned ≡ learned }
         ensures news { self.old.learned ≢ learned → self.new.quiet ≡ 0 }

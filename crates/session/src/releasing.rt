@@ -3,10 +3,10 @@ ghost use Rattle.session.specs.Bounds.{IsPause, is_leaving, orders_left};
 ghost use Rattle.session.specs.Choosing.{IsNext};
 ghost use Rattle.session.specs.Keeping.{Keeps, KeepsRelease, KeepsReleaseUntilOut};
 ghost use Rattle.session.specs.Moves.{Forgets, GoesOn, IsSpent, KeepsGoal, KeepsValue, MovesOn, ReleasesAnew, passed, slot_in};
-ghost use Rattle.session.specs.Outcomes.{GivesBack, IsBorneOut, IsGone, IsUnheard, IsWithout, IsWithoutOrGiven};
+ghost use Rattle.session.specs.Outcomes.{EndsIn, GivesBack, IsBorneOut, IsGivenUpFor, IsGone, IsUnheard, IsWithout, IsWithoutOrGiven};
 
 use crate::claim::{Claim, Goal, Standing, Step, Then};
-use crate::evidence::{Seen, find, first_of, is_spared, releases};
+use crate::evidence::{Seen, find, first_of, is_spared, releases_at};
 use crate::learned::Learned;
 use crate::numbers::client_of;
 use crate::outcome::{Outcome, Why};
@@ -27,9 +27,29 @@ impl Claim {
         ensures keeps { Keeps self.old self.new }
         ensures release { KeepsReleaseUntilOut learned.now self.old self.new }
     {
+        let may_be_there = self.release.is_some() && self.set == learned.set;
+        if !may_be_there && self.is_gone(learned) {
+            self.drop_sign(learned, self.then_gone());
+        } else {
+            self.put_release(learned);
+        }
+    }
+
+    /// Releases the lock: by the command that may be in the log, where there is one, else by a new one.
+    pub(crate) fn put_release(&mut self, learned: &Learned<'_>)
+        requires newest { learned.now.set ≡ self.old.newest }
+        requires leaving { self.old.standing ≡ Standing.Leaving }
+        ensures unheard { IsUnheard self.new }
+        ensures soon { orders_left self.new ≤ 2 + self.old.tries }
+        ensures no_pause { IsPause self.new.step → ⊥ }
+        ensures moves { MovesOn learned.now self.old self.new }
+        ensures goal { KeepsGoal self.old self.new }
+        ensures value { KeepsValue self.old self.new }
+        ensures keeps { Keeps self.old self.new }
+        ensures release { KeepsReleaseUntilOut learned.now self.old self.new }
+    {
         match self.release {
             Some(request) if self.set == learned.set => self.submit_release(request),
-            _ if self.is_gone(learned) => self.drop_sign(learned, self.then_gone()),
             _ => self.release_anew(learned),
         }
     }
@@ -60,7 +80,7 @@ impl Claim {
         match self.next_request(learned) {
             Some(request) => {
                 self.slot = self.slot_in(learned.set);
-                self.since = passed(self.slot, learned.log.len());
+                self.since = passed(self.slot, learned.upto());
                 self.set = learned.set;
                 self.request = request.get();
                 self.pace.outrun = 0;
@@ -78,7 +98,7 @@ impl Claim {
     }
 
     /// Where the command stands that asked for the lock, if that is known and is in the log of these images.
-    fn slot_in(&self, set: u64) -> Option<u16>
+    fn slot_in(&self, set: u64) -> Option<u64>
         ensures { result ≡ slot_in set self.now }
     {
         if set == self.set { self.slot } else { None }
@@ -111,6 +131,7 @@ impl Claim {
         ensures borne_out { IsBorneOut learned.now self.new }
         ensures soon { orders_left self.new ≤ 1 + self.old.tries }
         ensures no_pause { IsPause self.new.step → ⊥ }
+        ensures given_up { (why : Why) → EndsIn self.new (Outcome.NotHeld why) → IsGivenUpFor self.old.goal why }
         ensures moves { MovesOn learned.now self.old self.new }
         ensures goal { KeepsGoal self.old self.new }
         ensures value { KeepsValue self.old self.new }
@@ -135,22 +156,23 @@ impl Claim {
     }
 
     /// Where the release stands that took the lock out of the table, if it was this claim's own.
-    fn given_at(&self, learned: &Learned<'_>) -> Option<u16>
+    fn given_at(&self, learned: &Learned<'_>) -> Option<u64>
         ensures { IfSome result (λ slot. GivesBack learned.now self.now slot) }
     {
-        let slot = first_of(learned.log, self.since, client_of(self.host), self.release?)?;
-        if releases(&learned.log[slot], self.lock, self.value)
-            && is_spared(learned.log, self.since, slot, self.host)
+        let slot = first_of(learned, self.since, client_of(self.host), self.release?)?;
+        if releases_at(learned, slot, self.lock, self.value)
+            && is_spared(learned, self.since, slot, self.host)
             && find(learned.table, self) == Seen::Absent
         {
-            u16::try_from(slot).ok()
+            Some(slot)
         } else {
             None
         }
     }
 
-    fn then_given(&self, slot: u16) -> Then
-        ensures { IsWithoutOrGiven slot result }
+    fn then_given(&self, slot: u64) -> Then
+        ensures without { IsWithoutOrGiven slot result }
+        ensures given_up { (why : Why) → result ≡ Then.End (Outcome.NotHeld why) → IsGivenUpFor self.now.goal why }
     {
         match self.goal {
             Goal::Give => Then::End(Outcome::Given { slot }),
@@ -160,7 +182,8 @@ impl Claim {
     }
 
     fn then_gone(&self) -> Then
-        ensures { IsWithout result }
+        ensures without { IsWithout result }
+        ensures given_up { (why : Why) → result ≡ Then.End (Outcome.NotHeld why) → IsGivenUpFor self.now.goal why }
     {
         match self.goal {
             Goal::Give => Then::End(Outcome::NotHeld(Why::Gone)),
@@ -190,13 +213,13 @@ impl Claim {
     }
 }
 
-/// How many slots come before whatever is submitted next: those that were learned, and those up to the command that asked for the lock. A host that only
+/// How many places come before whatever is submitted next: those that were learned, and those up to the command that asked for the lock. A host that only
 /// looked has learned fewer.
-fn passed(slot: Option<u16>, learned: usize) -> usize
+fn passed(slot: Option<u64>, learned: u64) -> u64
     ensures { result ≡ passed slot learned }
 {
     match slot {
-        Some(slot) => learned.max(usize::from(slot) + 1),
+        Some(slot) => learned.max(slot.saturating_add(1)),
         None => learned,
     }
 }
