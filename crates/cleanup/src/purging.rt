@@ -1,8 +1,5 @@
-ghost use Rattle.std.specs.Prelude.{◌≡◌, ◌+◌, ◌↔◌, IsTrue, IfSome, None, [], false};
-ghost use Rattle.lock_command.specs.declared.record.LockRecord.{LockRecord};
-ghost use Rattle.cleanup.specs.Left.{AllPassed, IsFirstFrom};
-ghost use Rattle.cleanup.specs.Purges.{HasLock, HasNoLocks, IsTried, HasNoRequest, PurgesHost};
-ghost use Rattle.cleanup.specs.declared.whose.Kind.{Kind};
+ghost use Rattle.std.specs.Prelude.{◌≡◌, ◌+◌, IsTrue, IfSome, None, false};
+ghost use Rattle.cleanup.specs.Purges.{HasLock, HasNoLocks, IsTried, HasNoRequest, IsLastRequest, IsPurgeDue, PurgesHost};
 
 use crate::whose::{Kind, first_from};
 use lock_command::{Action, Command, HostNumber, LockNumber, RequestNumber};
@@ -61,18 +58,24 @@ impl Purging {
 
     /// The command, by the next request.
     fn purge(&self, table: &Picture) -> Option<Command>
-        requires passed { AllPassed table.now self.now.victim Kind.All [] self.now.from }
-        requires needed { HasLock table.now self.now.victim }
+        requires { IsPurgeDue self.now table.now }
         ensures command { IfSome result (PurgesHost self.now table.now) }
         ensures none { result ≡ None → HasNoRequest self.now table.now }
     {
-        let last = last_request(table, client_of(self.host)).max(self.request);
+        let last = self.last_request(table);
         Some(Command {
             host: self.host,
             client: client_of(self.host),
             request: RequestNumber::new(last.saturating_add(1))?,
             action: Action::Purge(self.victim),
         })
+    }
+
+    /// The last request of the session's client that is known.
+    fn last_request(&self, table: &Picture) -> u64
+        ensures { IsLastRequest self.now table.now result }
+    {
+        last_request(table, client_of(self.host)).max(self.request)
     }
 }
 
