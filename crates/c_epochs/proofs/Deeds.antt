@@ -15,7 +15,7 @@ use Rattle.epoch_host.specs.Leading.{GoesOn, LeadsTo, MakesAndGoesOn, MakesCall,
 use Rattle.epoch_host.specs.Walking.{call_due}
 use Rattle.dlm_images.specs.Operations.{Made}
 use Rattle.epoch_images.specs.Working.{DidMore, calls_of, made_on}
-use Rattle.c_epochs.specs.Steps.{AreHeard, Begins, CallsWork, IsHeard, Stands}
+use Rattle.c_epochs.specs.Steps.{AreHeard, CallsWork, Stands}
 
 -- THE CALLS AMONG DEEDS
 

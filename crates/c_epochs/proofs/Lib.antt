@@ -2,6 +2,6 @@ mod Asked
 mod Deeds
 mod Ended
 mod Found
-mod Going
+mod Knowing
 mod Standing
 mod Values

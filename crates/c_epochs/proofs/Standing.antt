@@ -1,6 +1,6 @@
 -- How a task stands, by what the host that began it or heard an answer returned.
 use Rattle.std.specs.Prelude.{IfErr, IfOk, IsSome, OnErr, OnOk, Result, Ok, Err, is_none}
-use Rattle.std.proofs.Common.{◌≡◌, ◌⊎◌, ℤ, Option, Some, None, true, false, true≢false, inl, inr, refl, sym}
+use Rattle.std.proofs.Common.{◌≡◌, ◌⊎◌, ℤ, Option, Some, None, false, true≢false, inl, inr, refl}
 use Rattle.epoch_host.specs.declared.task.EpochTask.{EpochTask}
 use Rattle.epoch_host.specs.declared.walk.Walk.{Walk}
 use Rattle.epoch_host.specs.Ending.{Ends, IsDone, IsGivenUp, TableIsThere}
@@ -22,8 +22,3 @@ module _ {T E : Type 0} (w : Walk) where
 pub is_busy : (o : Option EpochTask) → is_none o ≡ false → IsSome o
 is_busy None is = absurd (true≢false is)
 is_busy (Some task) is = refl
-
--- and an idle one has none
-pub is_idle : (o : Option EpochTask) → is_none o ≡ true → o ≡ None
-is_idle None is = refl
-is_idle (Some task) is = absurd (true≢false (sym is))

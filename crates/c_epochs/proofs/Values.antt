@@ -1,6 +1,6 @@
 -- The value beside a lock.
 use Rattle.std.specs.Option.{option_map}
-use Rattle.std.proofs.Common.{◌≡◌, ◌∙◌, ℕ, List, Option, Some, None, slice_get, sym, ap}
+use Rattle.std.proofs.Common.{◌≡◌, ◌∙◌, ℕ, List, Some, None, slice_get, sym, ap}
 use Rattle.std.proofs.lemmas.Option.{slice_get-map}
 use Rattle.lock_command.specs.declared.record.LockRecord.{LockRecord}
 use Rattle.lock_command.specs.declared.reply.LockValue.{LockValue}

@@ -1,7 +1,7 @@
 -- A folder of images of a log without an end as C found it, and the host that is opened over it.
-use Rattle.std.specs.Prelude.{◌≡◌, ◌≢◌, ◌==◌, ◌<◌, ℕ, List, [], min, slice_get, slice_index, Some, Result, Ok, Err, if◌then◌else◌}
+use Rattle.std.specs.Prelude.{◌≡◌, ◌≢◌, ◌==◌, ◌<◌, ℕ, List, [], min, slice_get, slice_index, Some, None, Result, Ok, Err, if◌then◌else◌}
 use Rattle.disk.specs.declared.fault.ImageFault.{ImageFault}
-use Rattle.disk.specs.declared.fault.ImageFault.TheVariants.{NotFormatted, WrongHeader, Unreadable, OldLayout}
+use Rattle.disk.specs.declared.fault.ImageFault.TheVariants.{Unreadable}
 use Rattle.paxos_block.specs.Headers.{short_at}
 use Rattle.paxos_block.specs.Shape.{Shape}
 use Rattle.lock_command.specs.declared.number.TheConstants.{HOSTS}
@@ -81,12 +81,13 @@ pub record TellsImages (found : AnyFound) (config : Shape) (told : Opened) : Typ
 
 -- WHAT IS OPENED
 
--- The host has this number and did nothing yet, and the folder the numbers of the set that was found; C is told of its images.
+-- The host has this number, did nothing yet, and has no task. The folder has the numbers of the set that was found; C is told of its images.
 pub record IsOpened (images : Images) (number : ℕ) (host : OpenEpochs) (told : Opened) : Type 0 where
   pub found : AnyFound
   pub set : AreSet images found Endless host.config host.cluster
   pub tells : TellsImages found host.config told
   pub fresh : LeadsTo host.config number [] host.host
+  pub idle : host.host.task ≡ None
 
 -- The images are a set of a log that ends.
 pub record IsOfEndingLog (images : Images) : Type 0 where
@@ -102,8 +103,8 @@ pub record IsNoSet (images : Images) (why : SetFault) : Type 0 where
   pub are : AreFound images.all found
   pub fault : HasAnySetFault found why
 
--- why no host is opened over these images under this number
+-- why no host is opened over these images under this number: the first cause that there is
 abbrev pub MayRefuse : Images → ℕ → Fault → Type 0
 MayRefuse images number cause.BadArgument = number < HOSTS → ⊥
-MayRefuse images number (cause.Images why) = IsNoSet images why
+MayRefuse images number (cause.Images why) = (number < HOSTS) × IsNoSet images why
 MayRefuse images number other = ⊥

@@ -1,5 +1,5 @@
 -- What a call does with a host over all epochs, and what C is told of that.
-use Rattle.std.specs.Prelude.{◌≡◌, ◌≤◌, ◌<◌, ◌^◌, ◌⊎◌, ℕ, ℤ, List, [], ◌∷◌, Option, Some, None, IsSome}
+use Rattle.std.specs.Prelude.{◌≡◌, ◌⊎◌, ℕ, ℤ, List, [], ◌∷◌, Option, Some, None, IsSome}
 use Rattle.disk.specs.Disk.{Call, Answer, Attach, Booted}
 use Rattle.lock_command.specs.Command.{Fits}
 use Rattle.epoch_host.specs.declared.task.EpochTask.{EpochTask}
@@ -53,10 +53,12 @@ pub record HasBegun (Asks : (host : ℕ) → EpochTask → Type 0) (old new : Op
   pub told : TellsStand new.host status
   pub same : IsSameFolder old new
 
--- Nothing was begun, since a task is under way, or since nothing was asked that may be; the host is as it was.
+-- Nothing was begun, and the host is as it was: a task is under way; or none is, and nothing was asked that may be.
 pub record IsRefused (Asks : (host : ℕ) → EpochTask → Type 0) (old new : OpenEpochs) (status : ℤ) : Type 0 where
   pub same : new ≡ old
-  pub told : ((status ≡ busy) × IsSome old.host.task) ⊎ ((status ≡ bad_argument) × ((task : EpochTask) → Asks old.host.host task → ⊥))
+  pub told :
+      ((status ≡ busy) × IsSome old.host.task)
+      ⊎ ((status ≡ bad_argument) × (old.host.task ≡ None) × ((task : EpochTask) → Asks old.host.host task → ⊥))
 
 abbrev pub BeginsOr : ((host : ℕ) → EpochTask → Type 0) → OpenEpochs → OpenEpochs → ℤ → Type 0
 BeginsOr Asks old new status = HasBegun Asks old new status ⊎ IsRefused Asks old new status
@@ -146,7 +148,7 @@ pub record HasHeardTold (told : ToldAnswer) (row : List ℕ) (old new : OpenEpoc
   pub stands : TellsStand new.host status
   pub same : IsSameFolder old new
 
--- The host heard nothing, since no call is due, or since C told no answer; it is as it was.
+-- The host heard nothing, and is as it was: no call is due; or one is, and C told no answer to it.
 pub record HearsNothing (told : ToldAnswer) (row : List ℕ) (old new : OpenEpochs) (status : ℤ) : Type 0 where
   pub same : new ≡ old
   pub why :

@@ -51,14 +51,14 @@ pub record ShowsHost (view : EpochsView) (kept : OpenEpochs) : Type 0 where
 abbrev pub KnowsTable : Walk → (List Command → Type 0) → Type 0
 KnowsTable w IsSo = (c : Shape) (h : ℕ) (deeds : Deeds) → LeadsTo c h deeds w → (upto : ℕ) × (learned : List Command) × HasLearnedUpto c h deeds upto learned × IsSo learned
 
--- why nothing of the table is shown: it is not there, or memory was refused
+-- why nothing of the table is shown: it is not there; or it is, and memory was refused
 abbrev pub LacksTable : Walk → ShowFault → Type 0
 LacksTable w NoTable = IsThere w → ⊥
 LacksTable w NoSuchLock = ⊥
-LacksTable w NoMemory = Unit {0}
+LacksTable w NoMemory = KnowsTable w (λ learned. Unit {0})
 
 -- or the lock of this number is not in it
 abbrev pub MayLack : Walk → (lock : ℕ) → ShowFault → Type 0
 MayLack w lock NoTable = IsThere w → ⊥
 MayLack w lock NoSuchLock = KnowsTable w (λ learned. LacksLock learned lock)
-MayLack w lock NoMemory = Unit {0}
+MayLack w lock NoMemory = KnowsTable w (λ learned. Unit {0})

@@ -2,8 +2,7 @@ ghost use Rattle.std.specs.Prelude.{◌≡◌};
 ghost use Rattle.c_host.specs.Numbers.{status_of};
 ghost use Rattle.c_epochs.specs.Told.{answer_told, learned_upto, marked_on, nothing_told, placed, status_told};
 
-use crate::fault::NOTHING_SAID;
-use c_host::{Answer, operation_number, table_number};
+use c_host::{Answer, NOTHING_SAID, operation_number, table_number};
 use epoch_host::EpochAnswer;
 use lock_table::{Answer as TableAnswer, Reply};
 

@@ -7,9 +7,8 @@ ghost use Rattle.c_host.specs.Calls.{TellsDue, plain_call};
 ghost use Rattle.c_host.specs.Numbers.{done};
 ghost use Rattle.c_epochs.specs.Calls.{IsTooLong, TellsCallDue};
 
-use crate::fault::NO_ROOM;
 use attempt::{DeviceCall, Need};
-use c_host::DueCall;
+use c_host::{DueCall, NO_ROOM};
 use disk::Boot;
 use torn_block::{BLOCK_LENGTH, ROW_LENGTH};
 

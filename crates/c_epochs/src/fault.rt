@@ -7,12 +7,6 @@ use c_host::{Fault, table_number};
 /// The lock table is not known: a recovery or a look learns it.
 pub const NO_TABLE: i32 = -10;
 
-/// The device call that is due writes more bytes than there is room for.
-pub(crate) const NO_ROOM: i32 = -6;
-
-/// The last task ended without a word, or there was none.
-pub(crate) const NOTHING_SAID: i32 = -7;
-
 /// Why nothing of the lock table is shown.
 #[derive(Clone, Copy, Debug, PartialEq, Eq)]
 pub enum ShowFault {

@@ -1,6 +1,7 @@
-ghost use Rattle.std.specs.Prelude.{◌≡◌, ◌≤◌, ◌<◌, ◌^◌, ◌↔◌, None, IfOk, IfErr, IfSome, IsSome, IsTrue};
+ghost use Rattle.std.specs.Prelude.{◌≡◌, ◌≤◌, ◌<◌, ◌^◌, ◌↔◌, None, IfOk, IfErr, IfSome, IsSome, IsTrue, OnOk};
 ghost use Rattle.std.specs.Option.{SomeIff};
 ghost use Rattle.disk.specs.Disk.{Attach};
+ghost use Rattle.lock_command.specs.declared.number.TheConstants.{HOSTS};
 ghost use Rattle.epoch_host.specs.Walking.{MayBegin, call_due};
 ghost use Rattle.c_host.specs.Numbers.{done, no_memory};
 ghost use Rattle.c_epochs.specs.Calls.{LiesWithin};
@@ -41,6 +42,7 @@ impl OpenEpochs {
     ) -> Result<Option<(OpenEpochs, Opened)>, Fault>
         ensures opened { IfOk result (λ opened. IfSome opened (λ made. IsOpened images.now number made.0 made.1)) }
         ensures ending { IfOk result (λ opened. opened ≡ None → IsOfEndingLog images.now) }
+        ensures numbered { OnOk result (number < HOSTS) }
         ensures refused { IfErr result (MayRefuse images.now number) }
     {
         let Some(number) = host_of(number) else {

@@ -60,14 +60,25 @@ pub record TellsImages (found : Found) (config : Shape) (told : Opened) : Type 0
   pub disks : told.disks ≡ config.disks
   pub used : (k : ℕ) (said : Result Header ImageFault) (flag : ℕ) → slice_get found k ≡ Some said → slice_get told.used k ≡ Some flag → flag ≡ used_of said
 
+-- This was found of the images, and they are a set with these numbers.
+pub record AreSet (images : Images) (found : Found) (config : Shape) (cluster : ℕ) : Type 0 where
+  pub all : length found ≡ DISKS
+  pub are : AreFound images.all found
+  pub numbers : HasNumbers found config cluster
+
 -- The host has this number and has learned nothing, and the folder the numbers of the set that was found; C is told of its images.
 pub record IsOpened (images : Images) (number : ℕ) (host : OpenHost) (told : Opened) : Type 0 where
   pub found : Found
-  pub all : length found ≡ DISKS
-  pub are : AreFound images.all found
-  pub set : HasNumbers found host.config host.cluster
+  pub set : AreSet images found host.config host.cluster
   pub tells : TellsImages found host.config told
   pub leads : LeadsTo host.config number fresh host.core
+
+-- The images are a set.
+pub record IsSet (images : Images) : Type 0 where
+  pub found : Found
+  pub config : Shape
+  pub cluster : ℕ
+  pub set : AreSet images found config cluster
 
 -- The images are no set, and this is told of one of them.
 pub record IsNoSet (images : Images) (why : SetFault) : Type 0 where
@@ -76,11 +87,11 @@ pub record IsNoSet (images : Images) (why : SetFault) : Type 0 where
   pub are : AreFound images.all found
   pub fault : HasSetFault found why
 
--- why no host is opened over these images under this number, in a handle that keeps this
+-- why no host is opened over these images under this number, in a handle that keeps this: the first cause that there is
 abbrev pub MayRefuse : Images → ℕ → Option OpenHost → Fault → Type 0
-MayRefuse images number old cause.BadArgument = number < HOSTS → ⊥
-MayRefuse images number old cause.Closed = ⊥
 MayRefuse images number old cause.Open = old ≡ None → ⊥
+MayRefuse images number old cause.BadArgument = (old ≡ None) × (number < HOSTS → ⊥)
+MayRefuse images number old (cause.Images why) = (old ≡ None) × (number < HOSTS) × IsNoSet images why
+MayRefuse images number old cause.NoMemory = (old ≡ None) × (number < HOSTS) × IsSet images
+MayRefuse images number old cause.Closed = ⊥
 MayRefuse images number old cause.NoSuchLock = ⊥
-MayRefuse images number old cause.NoMemory = Unit {0}
-MayRefuse images number old (cause.Images why) = IsNoSet images why

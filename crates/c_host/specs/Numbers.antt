@@ -1,4 +1,4 @@
--- The numbers that C is told: those of the printed text, where it has one.
+-- The numbers that C is told: those of the printed text, where it has one. What only a log without an end has is not here: -10 is in `c_epochs`, -11 in `dlm_c`.
 use Rattle.std.specs.Prelude.{ℕ, ℤ, pos, negsuc, if◌then◌else◌}
 use Rattle.lock_command.specs.declared.mode.Mode.{Mode}
 use Rattle.lock_command.specs.declared.mode.Mode.TheVariants.{Null, ConcurrentRead, ConcurrentWrite, ProtectedRead, ProtectedWrite, Exclusive}

@@ -35,10 +35,10 @@ pub record HasBegun (Asked : Kept → Kept → Type 0) (old new : OpenHost) (sta
   pub begins : Asked old.core new.core
   pub same : IsSameFolder old new
 
--- Nothing was begun, since something is under way, or since nothing was asked that may be; the host is as it was.
+-- Nothing was begun, and the host is as it was: something is under way; or nothing is, and nothing was asked that may be.
 pub record IsRefused (Wrong : Kept → Type 0) (old new : OpenHost) (status : ℤ) : Type 0 where
   pub same : new ≡ old
-  pub told : ((status ≡ busy) × (is_idle old.core ≡ false)) ⊎ ((status ≡ bad_argument) × Wrong old.core)
+  pub told : ((status ≡ busy) × (is_idle old.core ≡ false)) ⊎ ((status ≡ bad_argument) × (is_idle old.core ≡ true) × Wrong old.core)
 
 abbrev pub BeginsOr : (Kept → Kept → Type 0) → (Kept → Type 0) → OpenHost → OpenHost → ℤ → Type 0
 BeginsOr Asked Wrong old new status = HasBegun Asked old new status ⊎ IsRefused Wrong old new status
@@ -124,11 +124,12 @@ pub record HasHeardTold (told : ToldAnswer) (row : List ℕ) (old new : OpenHost
   pub heard : IsHeard old.core (made_of old.core answer) new.core
   pub same : IsSameFolder old new
 
--- The host heard nothing, since no call is due, or since C told no answer; it is as it was.
+-- The host heard nothing, and is as it was: no call is due; or one is, and C told no answer to it.
 pub record HearsNothing (told : ToldAnswer) (row : List ℕ) (old new : OpenHost) (status : ℤ) : Type 0 where
   pub same : new ≡ old
   pub why :
-      ((status ≡ nothing_due) × (is_idle old.core ≡ true)) ⊎ ((status ≡ bad_argument) × (answer_in (due_call old.core).1 told row ≡ None))
+      ((status ≡ nothing_due) × (is_idle old.core ≡ true))
+      ⊎ ((status ≡ bad_argument) × (is_idle old.core ≡ false) × (answer_in (due_call old.core).1 told row ≡ None))
 
 -- It heard the answer, and C is told the next call.
 pub record HeardGoesOn (told : ToldAnswer) (row : List ℕ) (old new : OpenHost) (call : DueCall) (before after : List ℕ) (status : ℤ) : Type 0 where

@@ -16,8 +16,8 @@ mod view;
 pub use answer::Answer;
 pub use call::{DueCall, Row, ToldAnswer, Written};
 pub use fault::{
-    BAD_ARGUMENT, BUSY, CLOSED, DIFFERENT, Fault, HOST_IN_USE, NOTHING_DUE, STAMP_SPENT,
-    operation_number, table_number,
+    BAD_ARGUMENT, BUSY, CLOSED, DIFFERENT, Fault, HOST_IN_USE, NO_ROOM, NOTHING_DUE, NOTHING_SAID,
+    STAMP_SPENT, operation_number, table_number,
 };
 pub use header::{HeaderBytes, lay_out};
 pub use images::{Image, Images, Opened};

@@ -1,8 +1,9 @@
-ghost use Rattle.std.specs.Prelude.{◌≡◌, ◌≤◌, ◌<◌, ◌^◌, ◌↔◌, None, false, IsTrue, IfOk, IfErr, IfSome};
+ghost use Rattle.std.specs.Prelude.{◌≡◌, ◌≤◌, ◌<◌, ◌^◌, ◌↔◌, None, false, IsTrue, IfOk, IfErr, IfSome, OnOk};
 ghost use Rattle.std.specs.Option.{SomeIff};
 ghost use Rattle.disk.specs.Disk.{Attach};
 ghost use Rattle.torn_block.specs.Layout.{cluster_version};
 ghost use Rattle.attempt.specs.DeviceCalls.{call_of_need};
+ghost use Rattle.lock_command.specs.declared.number.TheConstants.{HOSTS};
 ghost use Rattle.host.specs.Kept.{due_call, is_idle};
 ghost use Rattle.c_host.specs.Images.{IsOpened, MayRefuse};
 ghost use Rattle.c_host.specs.Steps.{Submits, Recovers, Looks, Marks, IsAttachDue, HasAttached, TellsCallDue, TellsNext, CallsNext, HasHeardTold, HearsNothing, GoesOn};
@@ -31,6 +32,7 @@ impl OpenHost {
     /// A host over these images, which has learned nothing yet, and what C is to know of the images.
     pub fn open(alloc: Global, images: &Images, number: u32) -> Result<(OpenHost, Opened), Fault>
         ensures opened { IfOk result (λ made. IsOpened images.now number made.0 made.1) }
+        ensures numbered { OnOk result (number < HOSTS) }
         ensures refused { IfErr result (MayRefuse images.now number None) }
     {
         let Some(number) = host_of(number) else {

@@ -1,4 +1,4 @@
-use Rattle.std.proofs.Common.{◌∙◌, ◌≤◌, ℕ, inr, refl, sym, subst}
+use Rattle.std.proofs.Common.{rules, ◌∙◌, ◌≤◌, ℕ, inr, refl, sym, subst}
 use Rattle.c_host.specs.Requests.{IsAsked}
 use Rattle.c_epochs.proofs.Asked.{may_be_asked, none_of, nothing_asked}
 use Rattle.c_epochs.proofs.open_epochs.OpenEpochs.submit.Goals as goal
@@ -15,6 +15,7 @@ returns-in_default-command c = inr (record {
   same = refl;
   told = inr (
     refl,
+    search rules,
     nothing_asked c.args.request.now c.args.name.now c.args.tries c.args.self.now.host.host
         (λ command fits asked.
         c.command.ensures.none (none_of c.command.result c.in_default-command.not-Some) command fits
