@@ -1,3 +1,2 @@
-mod Heard
-mod Nothing
+mod Kept
 mod Values

@@ -1,13 +1,8 @@
-pub mod Asking
 pub mod Claims
-pub mod Cleanups
 pub mod Devices
 pub mod Epochs
 pub mod Handles
-pub mod Hearing
 pub mod Held
-pub mod Marking
 pub mod Opening
 pub mod Owners
 pub mod Showing
-pub mod Signs

@@ -39,11 +39,15 @@ PutsName name old new status =
     ⊎ ((status ≡ stamp_spent) × (NAMED_LENGTH ≤ length old) × (stamp_of old ≡ 2 ^ 64 - 1) × (new ≡ old))
     ⊎ ((status ≡ bad_argument) × (length old < NAMED_LENGTH) × (new ≡ old))
 
--- C is told whose the host number is, and the other's name where it is another machine's; or that too few disks were heard; or that there are no
--- so many disks.
-abbrev pub TellsOwner : AllHeard → NameBytes → (old new : NameBytes) → ℤ → Type 0
-TellsOwner heard machine old new status =
+-- C is told whose the host number is, by what the disks of the set say, and the other's name where it is another machine's; or that too few were heard.
+abbrev pub TellsWhose : AllHeard → NameBytes → (old new : NameBytes) → ℤ → Type 0
+TellsWhose heard machine old new status =
     ((status ≡ done) × IsOwner (name_of machine) (said_to heard) Ours × (new ≡ old))
     ⊎ ((status ≡ host_in_use) × IsOwner (name_of machine) (said_to heard) (Others (name_of new)))
     ⊎ ((status ≡ operation_number NoMajority) × IsOwner (name_of machine) (said_to heard) Unheard × (new ≡ old))
+
+-- It is; or it is told that a set has no so many disks.
+abbrev pub TellsOwner : AllHeard → NameBytes → (old new : NameBytes) → ℤ → Type 0
+TellsOwner heard machine old new status =
+    ((heard.disks ≤ DISKS) × TellsWhose heard machine old new status)
     ⊎ ((status ≡ bad_argument) × (DISKS < heard.disks) × (new ≡ old))

@@ -15,13 +15,12 @@ ghost use Rattle.dlm_c.specs.Handles.{InHandle};
 ghost use Rattle.dlm_c.specs.Opening.{IsOpenedIn, OpensIn};
 ghost use Rattle.dlm_c.specs.Showing.{ShowsNothing, TellsLock, TellsValue, Tells};
 
-mod asker;
 mod claim_handle;
 mod claims;
 mod cleanups;
 mod device;
 mod devices;
-mod due_order;
+mod epoch_claims;
 mod epoch_handle;
 mod epochs;
 mod handle;

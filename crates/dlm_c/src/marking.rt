@@ -1,11 +1,10 @@
 //! Which commands are marked at once.
 ghost use Rattle.std.specs.Prelude.{◌≡◌, ◌↔◌, ℕ, List, true, IsTrue};
 ghost use Rattle.lock_command.specs.declared.command.Command.{Command};
-ghost use Rattle.dlm_c.specs.Marking.{is_waited_for};
 ghost use Rattle.c_host.specs.Requests.{IsAsked};
+ghost use Rattle.c_claims.specs.Marking.{is_waited_for};
 
 use c_host::Request;
-use lock_command::Action;
 
 /// Tells whether the command that is asked is marked at once, since somebody may wait for what it does. Else a host that marks later may do so with its
 /// next call.
@@ -15,11 +14,4 @@ pub extern "C" fn dlm_c_is_waited_for(request: &Request) -> bool
         (IsTrue result ↔ (is_waited_for command.action ≡ true)) }
 {
     !matches!(request.action, 1 | 5)
-}
-
-/// The same of an action.
-pub fn is_waited_for(action: &Action) -> bool
-    ensures { result ≡ is_waited_for action.now }
-{
-    !matches!(action, Action::Enqueue { .. } | Action::Status(_))
 }

@@ -1,8 +1,8 @@
 -- The host that is heard by is the one that is kept.
 use Rattle.std.proofs.Common.{rules, ◌≡◌, ℤ, w32, refl, subst}
 use Rattle.std.proofs.lemmas.Int.{to_z-of_z}
-use Rattle.dlm_c.specs.Hearing.{Hears, Moves}
 use Rattle.c_host.specs.declared.open_host.OpenHost.{OpenHost}
+use Rattle.c_claims.specs.Ending.{Hears}
 use Rattle.dlm_c.proofs.claims.hear_in.Goals as goal
 
 pub returns-clause-heard : goal.returns-clause-heard
@@ -10,9 +10,7 @@ returns-clause-heard c = λ opened is.
     let heard_by = c.deref.result.now in
     let same : heard_by ≡ opened = search rules in
     let old = c.args.claim.now in
-    let new = c.hear_by.new.claim in
-    let moves : Moves c.args.event c.args.status c.args.left_over heard_by old new
-    = subst (λ (status : ℤ). Moves c.args.event status c.args.left_over heard_by old new) (to_z-of_z w32 c.args.status c.ranges.status) c.hear_by.ensures.moves in
+    let new = c.hear.new.claim in
     let hears : Hears c.args.event c.args.status c.args.left_over heard_by old new
-    = record { right = c.hear_by.ensures.heard; signs = c.hear_by.ensures.signs; on = c.hear_by.ensures.on; moves = moves } in
+    = subst (λ (status : ℤ). Hears c.args.event status c.args.left_over heard_by old new) (to_z-of_z w32 c.args.status c.ranges.status) c.hear.ensures in
     (refl, subst (λ (host : OpenHost). Hears c.args.event c.args.status c.args.left_over host old new) same hears)

@@ -1,4 +1,5 @@
-use Rattle.std.proofs.Common.{refl, inl, inr, subst, take}
+use Rattle.std.proofs.Common.{◌≤◌, refl, inl, inr, subst, take, arith}
+use Rattle.torn_block.specs.declared.layout.TheConstants.{DISKS}
 use Rattle.sectors.specs.declared.name.MachineName.{MachineName}
 use Rattle.sectors.specs.declared.owner.Owner.TheVariants.{Ours, Others}
 use Rattle.sectors.specs.Owners.{Said, IsOwner}
@@ -9,10 +10,12 @@ pub returns-in-Ours : goal.returns-in-Ours
 returns-in-Ours c =
     let n = c.args.heard.now.disks in
     let of_all = subst (λ (said : Said). IsOwner c.machine.result (take n said) Ours) c.said-said.ensures c.in-Ours.ensures in
-    inl (refl, subst (λ (name : MachineName). IsOwner name (said_to c.args.heard.now) Ours) c.machine.ensures of_all, refl)
+    let within : n ≤ DISKS = omega arith in
+    inl (within, inl (refl, subst (λ (name : MachineName). IsOwner name (said_to c.args.heard.now) Ours) c.machine.ensures of_all, refl))
 
 pub returns-in-Others : goal.returns-in-Others
 returns-in-Others c =
     let n = c.args.heard.now.disks in
     let of_all = subst (λ (said : Said). IsOwner c.machine.result (take n said) (Others c.in-Others.name)) c.said-said.ensures c.in-Others.ensures in
-    inr (inl (refl, subst (λ (name : MachineName). IsOwner name (said_to c.args.heard.now) (Others c.in-Others.name)) c.machine.ensures of_all))
+    let within : n ≤ DISKS = omega arith in
+    inl (within, inr (inl (refl, subst (λ (name : MachineName). IsOwner name (said_to c.args.heard.now) (Others c.in-Others.name)) c.machine.ensures of_all)))

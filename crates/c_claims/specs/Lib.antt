@@ -1,0 +1,10 @@
+pub mod Asking
+pub mod Claims
+pub mod Cleanups
+pub mod Ending
+pub mod Epochs
+pub mod Events
+pub mod Failures
+pub mod Hearing
+pub mod Marking
+pub mod Signs
