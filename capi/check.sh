@@ -95,21 +95,22 @@ tried "full log, built" cc -std=c99 $common "$here/tests/full_log.c" $flags -o "
 folder
 tried "full log" "$work/full_log" "$work/images" "$dlm"
 
-# A log without an end: hosts go through epochs, in memory where there is room, since that takes thousands of commands; mg-lock and dlm-shared refuse it.
+# A log without an end: hosts go through epochs, in memory where there is room, since that takes thousands of commands; dlm-shared refuses it.
 tried "endless, built" cc -std=c99 $common "$here/tests/endless.c" $flags -o "$work/endless"
 folder
 memory=$(mktemp -d -p /dev/shm 2> /dev/null) && trap 'rm -rf -- "$work" "$memory"' EXIT || memory=$work/images
 tried "endless" "$work/endless" "$memory" "$dlm"
 says_endless() { { "$@" 2>&1 || true; } | grep -q ' 25 WrongHeader (the log of this folder has no end: '; }
-for words in "mg-lock -n $memory/epochs 0 db -- true" "mg-lock --status $memory/epochs" "mg-lock --recover $memory/epochs 0" "dlm-shared table $memory/epochs 0"; do
-    # shellcheck disable=SC2086
-    tried "refused: $words" says_endless "$PREFIX"/bin/$words
-done
+tried "refused: dlm-shared" says_endless "$PREFIX/bin/dlm-shared" table "$memory/epochs" 0
 rm -rf -- "$memory"
-for program in values contend failover; do
-    source=$here/tests/$program.c
-    [[ $program != failover ]] || source=$here/examples/c/failover.c
-    tried "$program over a log without an end, built" cc -std=c99 $common -include "$here/tests/over_endless.h" "$source" $flags -o "$work/endless_$program"
+endless_test() { # PROGRAM [WORD..]: builds it so that the logs of its folders have no end
+    local source=$here/tests/$1.c
+    [[ $1 != failover ]] || source=$here/examples/c/failover.c
+    tried "$1 over a log without an end, built" cc -std=c99 $common -include "$here/tests/over_endless.h" "$source" "${@:2}" -o "$work/endless_$1"
+}
+for program in values contend failover sessions late; do
+    # shellcheck disable=SC2086
+    endless_test "$program" $flags
     folder
     given=("$work/images")
     [[ $program != contend ]] || given+=(4 40)
@@ -367,12 +368,16 @@ done
 
 # The program mg-lock. MG_LOCK: turns of each of eight processes.
 if command -v python3 > /dev/null && [[ -x $dlm ]]; then
-    mkdir -- "$work/mg-lock"
+    mkdir -- "$work/mg-lock" "$work/mg-lock-endless"
     tried "answers, built" cc -std=c99 $common -Wl,--wrap=mg_take,--wrap=mg_give,--wrap=fdatasync,--wrap=clock_gettime "$here/src/"{mg-lock,status}.c "$here/tests/answers.c" "$PREFIX/lib/libmidgegalena.a" -o "$work/answers"
     tried "mg-lock" env PYTHONDONTWRITEBYTECODE=1 python3 "$here/tests/mg_lock.py" "$PREFIX/bin/mg-lock" "$dlm" "$work/mg-lock" "${MG_LOCK:-3}" \
         "$PREFIX/lib/libmidgegalena.so" "$work/answers"
     tail -n 1 "$work/out.txt" >> "$work/restarted.txt"
-    mkdir -- "$work/signals"
+    tried "mg-lock over a log without an end" env PYTHONDONTWRITEBYTECODE=1 python3 "$here/tests/mg_lock.py" --endless "$PREFIX/bin/mg-lock" "$dlm" "$work/mg-lock-endless" "${MG_LOCK:-3}" \
+        "$PREFIX/lib/libmidgegalena.so" "$work/answers"
+    tail -n 1 "$work/out.txt" >> "$work/restarted.txt"
+    mkdir -- "$work/signals" "$work/signals-endless"
+    tried "signals over a log without an end" env PYTHONDONTWRITEBYTECODE=1 python3 "$here/tests/signals.py" --endless "$PREFIX/bin/mg-lock" "$dlm" "$work/signals-endless" "$work/answers"
     tried "signals" env PYTHONDONTWRITEBYTECODE=1 python3 "$here/tests/signals.py" "$PREFIX/bin/mg-lock" "$dlm" "$work/signals" "$work/answers"
     tail -n 1 "$work/out.txt" >> "$work/restarted.txt"
 else
@@ -381,7 +386,8 @@ fi
 
 # mg-lock --status.
 if command -v python3 > /dev/null && [[ -x $dlm ]]; then
-    mkdir -- "$work/status"
+    mkdir -- "$work/status" "$work/status-endless"
+    tried "status over a log without an end" env PYTHONDONTWRITEBYTECODE=1 python3 "$here/tests/status.py" --endless "$PREFIX/bin/mg-lock" "$dlm" "$work/status-endless"
     tried "status" env PYTHONDONTWRITEBYTECODE=1 python3 "$here/tests/status.py" "$PREFIX/bin/mg-lock" "$dlm" "$work/status"
     tail -n 1 "$work/out.txt" >> "$work/restarted.txt"
 fi
@@ -394,6 +400,9 @@ if command -v python3 > /dev/null; then
         trap 'rm -rf -- "$work" "$memory"' EXIT
         works+=("$memory")
     fi
+    # Over a log without an end each look needs the number, so on a slow disk not each has its turn in this time.
+    mkdir -- "${works[-1]}/endless"
+    tried "turns over a log without an end" env PYTHONDONTWRITEBYTECODE=1 python3 "$here/tests/turns.py" --endless "$PREFIX/bin/mg-lock" "$PREFIX/lib/libmidgegalena.so" "${works[-1]}/endless"
     tried "turns" env PYTHONDONTWRITEBYTECODE=1 python3 "$here/tests/turns.py" "$PREFIX/bin/mg-lock" "$PREFIX/lib/libmidgegalena.so" "${works[@]}"
     tail -n 1 "$work/out.txt" >> "$work/restarted.txt"
 fi
@@ -405,11 +414,22 @@ tried "signs" "$work/signs" "$work/images"
 
 # Device calls that fail, and processes that die, in the midst of a take or a give; how long calls last, and how late a take comes back.
 faults=(-Wl,--wrap=open,--wrap=pread,--wrap=pwrite,--wrap=fdatasync,--wrap=nanosleep,--wrap=clock_gettime)
+fails_by=("${faults[@]}" "$here/tests/device_faults.c" "$PREFIX/lib/libmidgegalena.a")
 for program in doubt in_time over; do
-    tried "$program, built" cc -std=c99 $common "${faults[@]}" "$here/tests/$program.c" "$here/tests/device_faults.c" "$PREFIX/lib/libmidgegalena.a" -o "$work/$program"
+    tried "$program, built" cc -std=c99 $common "$here/tests/$program.c" "${fails_by[@]}" -o "$work/$program"
     folder
     tried "$program" "$work/$program" "$work/images"
+    endless_test "$program" "${fails_by[@]}"
+    folder
+    tried "$program over a log without an end" "$work/endless_$program" "$work/images"
 done
+
+# Sessions go through ends of epochs. THROUGH_EPOCHS: takes of each of six processes.
+tried "through_epochs, built" cc -std=c99 $common "$here/tests/through_epochs.c" "${fails_by[@]}" -o "$work/through_epochs"
+folder
+memory=$(mktemp -d -p /dev/shm 2> /dev/null) && trap 'rm -rf -- "$work" "$memory"' EXIT || memory=$work/images
+tried "through_epochs" "$work/through_epochs" "$memory" "${THROUGH_EPOCHS:-60}"
+rm -rf -- "$memory"
 
 # A session follows a renewal, and what is left of a wait or a program that gives up is said, and released.
 tried "followed, built" cc -std=c99 $common "$here/tests/followed.c" $flags -o "$work/followed"
@@ -654,6 +674,8 @@ if command -v valgrind > /dev/null; then
     folder
     tried "valgrind late" "${checks_memory[@]}" "$work/late" "$work/images"
     folder
+    tried "valgrind sessions over a log without an end" "${checks_memory[@]}" "$work/endless_sessions" "$work/images"
+    folder
     tried "valgrind signs" "${checks_memory[@]}" --child-silent-after-fork=yes "$work/signs" "$work/images"
     folder
     in_folder ./format images 64
@@ -677,6 +699,11 @@ if [[ -f $work/sanitizer ]] && command -v rt > /dev/null; then
     tried "sanitized late" "$work/sanitized_late" "$work/images"
     folder
     tried "sanitized sessions" "$work/sanitized_sessions" "$work/images"
+    tried "sanitized sessions over a log without an end, compiled" cc -std=c99 $common -fsanitize=address,undefined -fno-sanitize-recover=all \
+        -include "$here/tests/over_endless.h" -c "$here/tests/sessions.c" -o "$work/sanitized_endless_sessions.o"
+    tried "sanitized sessions over a log without an end, built" cc "${sanitized[@]}" "$work/sanitized_endless_sessions.o" "${proved[@]}" -o "$work/sanitized_endless_sessions"
+    folder
+    tried "sanitized sessions over a log without an end" "$work/sanitized_endless_sessions" "$work/images"
     tried "sanitized mg-lock, built" cc "${sanitized[@]}" "$here/src/"{mg-lock,status}.c "${proved[@]}" -o "$work/sanitized_mg-lock"
     folder
     in_folder ./format images 64

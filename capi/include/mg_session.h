@@ -34,7 +34,8 @@ struct mg_session;
 #define MG_KEEP 1u
 
 /* The session has the host number only while a call works on the images, so any number of processes share it. Who takes a lock, or gives
- * one back, releases what processes with MG_SHARE left that are gone. A call learns the whole log anew, so this is for short programs. */
+ * one back, releases what processes with MG_SHARE left that are gone. A call learns the whole log anew, so this is for short programs. A wait looks without
+ * the number; where the log has no end a look writes, so there it takes the number for a moment, once an image was written, and once a second. */
 #define MG_SHARE 2u
 
 /* With any of these: mg_take returns as soon as its command is acknowledged, and before that is marked, a third of its syncs earlier. Call mg_mark_taken
@@ -54,7 +55,7 @@ struct mg_session;
  * not remove signs.
  *
  * Where the folder is a link, each call works in the folder to which that leads. A folder whose cluster number is lower than that of one
- * before it is refused, MG_WRONG_HEADER, and so is one whose log has no end: mg_cause says that. */
+ * before it is refused, MG_WRONG_HEADER. */
 int mg_begin(const char *folder, unsigned host, unsigned flags, struct mg_session **out, int *disk);
 
 /* Ends a session. NULL is nothing. Locks that were not given stay in the log. The next mg_begin of this host number without MG_SHARE
@@ -67,9 +68,9 @@ void mg_end(struct mg_session *session);
 struct mg_held {
     uint32_t lock;         /* its number, for mg_give */
     uint32_t released;     /* locks of processes that are gone, which this call released */
-    int64_t slot;          /* where the command that asked for it stands in the log; -1 of a lock that a former run took */
+    int64_t slot;          /* where the command that asked for it stands in the log, through all epochs; -1 of a lock that a former run took */
     uint64_t cluster;      /* of the folder that this slot is of */
-    uint64_t slots_left;   /* in the log, once it was asked for */
+    uint64_t slots_left;   /* in the log, once it was asked for; UINT64_MAX where that has no end */
     struct mg_value value; /* of its name, when it was granted */
 };
 
@@ -83,7 +84,8 @@ struct mg_held {
  *
  * MG_TIMED_OUT: it was not granted in time, as where others have it. MG_NO_SUCH_LOCK: it was purged while it waited. MG_STOPPED: mg_set_rest.
  * MG_HOST_IN_USE: somebody has the host number for so long, a minute or little more at most; at once where it is another machine's, and errno is
- * EREMOTE. MG_NO_LOCK: see errno, of its sign of life; EBUSY where that is removed as often as it is made. MG_LOG_FULL, MG_NO_MAJORITY,
+ * EREMOTE. Over a log without an end a wait with MG_SHARE needs the number for each look: where it does not get that for so long it ends, in doubt.
+ * MG_NO_LOCK: see errno, of its sign of life; EBUSY where that is removed as often as it is made. MG_LOG_FULL, MG_NO_MAJORITY,
  * MG_TABLE_FULL and others as of mg_enqueue. If the log gets full while it waits it goes on waiting, and once that is renewed it waits in the new folder.
  *
  * First it releases what processes that are gone have left: on this name all, on others as much as it can in 200 milliseconds, or in
@@ -95,7 +97,8 @@ int mg_take(struct mg_session *session, const char *name, int mode, int timeout,
 
 /* Gives a lock back. Where `value` is not NULL its MG_VALUE_LENGTH bytes are kept with the name, if the lock holds MG_PW or MG_EX.
  * MG_NO_SUCH_LOCK: the lock had been taken away, by a purge, or is none of this session's. MG_IN_DOUBT: its release may stand in
- * the log; call again with the same value, for another one is MG_BAD_ARGUMENT by then. After any other number the lock is still
+ * the log; call again with the same value, for another one is MG_BAD_ARGUMENT by then. Where the log has no end that second call may say
+ * MG_NO_SUCH_LOCK though nobody purged the lock: its release stood in an epoch that has ended. After any other number the lock is still
  * the session's, and nothing is stored: call again. It waits up to a minute for disks, for a full log to be renewed, and with
  * MG_SHARE for the number.
  *
@@ -151,7 +154,8 @@ int mg_has_number(const struct mg_session *session);
 
 /* ---- what a session stands on ---- */
 
-/* To look (mg_look) and to show the table. Submit nothing by it. It is the session's, and may be another one after each call. */
+/* To look (mg_look) and to show the table. Submit nothing by it. It is the session's, and may be another one after each call. With MG_SHARE, over a log without
+ * an end, each mg_look takes the host number for a moment: MG_HOST_IN_USE where somebody has that for five seconds. Before it there may be no table. */
 int mg_host_of(struct mg_session *session, struct mg_host **host);
 
 /* The descriptor of a lock's sign of life, -1 where the session has no such lock. A child that inherits it keeps the lock from being released

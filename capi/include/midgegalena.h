@@ -265,9 +265,9 @@ int mg_wait(struct mg_host *host, unsigned lock, int interval, int timeout, int 
 
 /* ---- a log without an end ----
  *
- * All calls of a host that mg_open has opened work on it as on a log that ends, and see by the header what it is. It is a row of epochs, each with so many slots.
- * When one is full the next one begins, with commands that carry the table over. Slots are counted through all epochs, and some of them hold such
- * commands. So a command's slot grows for ever, and is a token as good as in a log that ends.
+ * All calls of a host that mg_open has opened work on it as on a log that ends, and see by the header what it is. So do sessions. mg_open_to_look is refused. The
+ * log is a row of epochs, each with so many slots. When one is full the next one begins, with commands that carry the table over. Slots are counted through
+ * all epochs, and some of them hold such commands. So a command's slot grows for ever, and is a token as good as in a log that ends.
  *
  * - It is never full, so no command is refused for that, and mg_wait waits on.
  * - A look, too, comes to the newest epoch, and writes the host's own blocks for that. If it finds an epoch full it carries the table over into the next one,

@@ -31,7 +31,8 @@ struct due_order {
     uint32_t amount;
     uint32_t outcome;
     int32_t status;
-    int32_t slot;
+    uint32_t unused;
+    int64_t slot;
 };
 
 /* ValueNumbers and ClaimView of claims.rt */
@@ -43,9 +44,8 @@ struct claim_view {
     uint64_t set;
     uint64_t request;
     uint32_t lock;
-    int32_t slot;
     uint32_t standing;
-    uint32_t unused;
+    int64_t slot;
 };
 
 /* CleanupNumbers of cleanups.rt: locks of a host's sessions that are gone over, and the purge of a host */
@@ -61,7 +61,7 @@ struct cleanup {
     uint32_t unused;
 };
 
-typedef char claims_are_as_there[sizeof(struct claim) == 16 && sizeof(struct asker) == 24 && sizeof(struct due_order) == 24 &&
+typedef char claims_are_as_there[sizeof(struct claim) == 16 && sizeof(struct asker) == 24 && sizeof(struct due_order) == 32 &&
                                          sizeof(struct claim_value) == 16 && sizeof(struct claim_view) == 32 && sizeof(struct cleanup) == 40
                                      ? 1
                                      : -1];
@@ -87,12 +87,17 @@ int32_t dlm_c_settle_left(struct claim *claim, struct cleanup *cleanup);
 
 /* By a host: of midgegalena.c. Commands of others are marked for so many milliseconds, once they are learned. The host's own is marked at once where
  * somebody may wait for it, else perhaps later. A lock 0 is none: all are passed, or the purge is to be submitted. `ours` has MG_LOCKS numbers. */
-int refuse_endless(void); /* the number, and its cause is told */
 int64_t microseconds(void);
 void sleep_for(int64_t length);
 int64_t pause_after(const struct mg_host *host, unsigned outrun);
 int learn_all(struct mg_host *host, int64_t length);
 bool has_images_of(const struct mg_host *host, const char *folder);
+/* Opens a folder to look. Where the log has no end each look of the handle takes this host number for a moment. */
+int open_to_visit(const char *folder, unsigned number, struct mg_host **out, int *disk);
+/* As mg_look, but it does not wait where somebody else has the number of such a handle: MG_HOST_IN_USE. */
+int look_once(struct mg_host *host);
+/* A number that each write to the images changes, as far as this machine sees it. 0: it is not known, or they were written just now. */
+uint64_t last_write(const struct mg_host *host);
 int sign_name(struct mg_host *host, unsigned number, uint32_t lock, char *into, size_t room);
 int claim_submits(struct claim *claim, struct mg_host *host, bool is_waited_for);
 bool is_unmarked(const struct mg_host *host);

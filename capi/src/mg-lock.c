@@ -392,7 +392,7 @@ static void usage(FILE *where) {
 static void help_for_dlm(void) {
     fputs("\n"
           "The words of dlm, which makes the images and prints no help:\n"
-          "  dlm format FOLDER DISKS SLOTS CLUSTER\n"
+          "  dlm format FOLDER DISKS [SLOTS] CLUSTER\n"
           "  dlm submit FOLDER HOST COMMAND, one of:\n"
           "      enqueue CLIENT REQUEST LOCK MODE NAME [noqueue]\n"
           "      convert CLIENT REQUEST LOCK MODE [noqueue] [value VALUE]\n"
@@ -410,9 +410,9 @@ static void help_for_dlm(void) {
           "  dlm run SCRIPT\n"
           "  dlm sweep SCRIPT\n"
           "  dlm race HOSTS\n"
-          "Disks 1 to 7, slots 1 to 4096, cluster any number. Host 0 to 15; client 0 to 239, and from 240 on of mg-lock;\n"
-          "request 1 to 2^62, each above the client's last, as $(date +%s%N); lock 1 to 1535, and from 1536 on of mg-lock;\n"
-          "name 1 to 15 bytes; value 32 digits, 0 to 9 and a to f.\n",
+          "Disks 1 to 7; slots 1 to 4096, or none for a log without an end; cluster any number. Host 0 to 15; client 0 to 239,\n"
+          "and from 240 on of mg-lock; request 1 to 2^62, each above the client's last, as $(date +%s%N); lock 1 to 1535, and\n"
+          "from 1536 on of mg-lock; name 1 to 15 bytes; value 32 digits, 0 to 9 and a to f.\n",
           stdout);
 }
 
@@ -616,6 +616,8 @@ static int decline(struct mg_session *session, int status) {
 static void warn_of_end(struct mg_session *session) {
     struct mg_host *host;
     struct mg_host_view facts;
+    if (db.slots_left == UINT64_MAX)
+        return; /* the log has no end */
     if (mg_host_of(session, &host) == MG_OK && mg_host_facts(host, &facts) == MG_OK && db.slots_left < facts.slots / FEW_OF_SLOTS)
         say("%u of %u slots of the log of %s are left, and a run takes two", (unsigned)db.slots_left, (unsigned)facts.slots, asked.folder);
 }

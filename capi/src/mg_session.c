@@ -3,7 +3,7 @@
  *
  * - A *talk* is what a session does while it has the host number. Talks of a number do not overlap. Without MG_SHARE a session is one
  *   talk, but for the moment in which it opens the folder anew after a failure. With it each call opens the folder for a talk, and a
- *   wait looks by a handle that has no number.
+ *   wait looks by a handle that has no number. Where the log has no end a look writes, so there that handle takes the number for each look.
  * - What a session does for a lock is decided by a proved claim (claim.h, crates/session), and which locks of processes that are gone it releases or purges
  *   by a proved cleanup (crates/cleanup). Here is done what these order, and they are told what came of it.
  * - As long as a lock is somebody's, its sign of life is locked by flock: the file mg-lock.SET.HOST.LOCK in the folder, SET being the
@@ -41,6 +41,8 @@
 
 enum { FIRST_CLIENT = 240, FIRST_LOCK = 1536, LOCKS_OF_A_HOST = 4000, NO_SIGN = -1, LEAST_FILE = 3, MOST_REMOVALS = 9 };
 enum { PATIENCE = 60000, LITTLE_PATIENCE = 5000, GRACE = 100, FIRST_INTERVAL = 5, SHORT_PAUSE = 20, LONGEST_PAUSE = 200, TIDY_TIME = 200 }; /* milliseconds */
+enum { BETWEEN_TALKS = 1000, WITHOUT_NEWS = 2000 }; /* the same */
+enum { OF_A_WAIT = 8 }; /* whoever waited for its turn to look pauses so many times as long, so that others have theirs */
 
 static const struct claim_value NO_VALUE = {{0}};
 
@@ -70,6 +72,7 @@ struct mg_session {
     uint64_t set;         /* the greatest cluster number of a folder that it led to */
     struct mg_host *host; /* of a talk */
     struct mg_host *eye;  /* with MG_SHARE, to look */
+    bool is_endless;      /* the log of the folder that was opened last */
     bool is_worn;         /* the host is to be opened anew */
     bool has_unwanted;    /* an entry is UNWANTED, or was */
     bool has_unmarked;    /* a mark was refused, and was not made up for */
@@ -172,11 +175,15 @@ static int accept_set(struct mg_session *session, struct mg_host *host) {
     int status = mg_host_facts(host, &facts);
     if (status != MG_OK)
         return status;
-    if (facts.endless)
-        return refuse_endless();
     if (facts.cluster < session->set)
         return MG_WRONG_HEADER;
+    /* The log was made endless in place. */
+    if (session->eye && session->eye != host && session->is_endless != (facts.endless == 1)) {
+        mg_close(session->eye);
+        session->eye = NULL;
+    }
     session->set = facts.cluster;
+    session->is_endless = facts.endless == 1;
     return MG_OK;
 }
 
@@ -197,6 +204,9 @@ static int open_once(struct mg_session *session, int *disk) {
         (void)mg_set_late_marks(session->host, (session->flags & MG_LATE) != 0);
     if (status == MG_OK)
         status = is_shared(session) ? mg_look(session->host, NULL) : learn_all(session->host, LONGEST_PAUSE);
+    /* As an epoch began. The host does not know the table then, and what is done next finds it. */
+    if (status == MG_OUTRUN && is_shared(session))
+        status = MG_OK;
     if (status != MG_OK) {
         mg_close(session->host);
         session->host = NULL;
@@ -249,7 +259,7 @@ static int begin_talk(struct mg_session *session, int64_t until, int *disk) {
 }
 
 static int open_eye(struct mg_session *session, int *disk) {
-    int status = mg_open_to_look(session->at, &session->eye, disk);
+    int status = open_to_visit(session->at, session->number, &session->eye, disk);
     if (status == MG_OK)
         status = accept_set(session, session->eye);
     if (status != MG_OK) {
@@ -267,6 +277,9 @@ static int open_to_look(struct mg_session *session, struct mg_host **looks) {
     *looks = status != MG_OK ? NULL : is_shared(session) ? session->eye : session->host;
     return status;
 }
+
+/* Whether a look by that takes the number for a moment. */
+static bool looks_in_talks(const struct mg_session *session) { return is_shared(session) && session->is_endless; }
 
 /* ---- the table ---- */
 
@@ -484,6 +497,10 @@ struct work {
     bool is_over; /* it was told to end soon */
     bool is_vain; /* the host number is another machine's, or was somebody else's for too long */
     int64_t in_use_since; /* the host number is somebody else's, and nothing goes on without it; 0: it is not */
+    uint64_t seen;        /* the last write to the images before a look that took the number; 0: it took none, or that is not known */
+    int64_t waited;       /* how long it waited for its turn to look, in milliseconds */
+    uint64_t learned;     /* how many commands such a look had learned when there was news last */
+    int64_t recovers;     /* when it recovers, unless there is news before; 0: nothing was learned yet */
     int cause;            /* errno, where the folder could not be opened */
     struct due_order end;
     unsigned released;
@@ -552,14 +569,24 @@ static void stop_in_time(struct mg_session *session, struct entry *entry, struct
     work->is_over = true;
 }
 
-/* A pause that is cut short is told by stop_in_time. */
-static void rest(struct mg_session *session, struct entry *entry, const struct work *work, int64_t length) {
-    if (pause_for(session, length, end_of(entry, work), work->stops) == MG_OK)
+/* A pause that is cut short is told by stop_in_time. Between two looks that take the number it lasts until an image is written, but no longer than a second; and
+ * in any case some times as long as the wait for the number. */
+static void rest(struct mg_session *session, struct entry *entry, struct work *work, int64_t length) {
+    int64_t last = milliseconds() + BETWEEN_TALKS, least = OF_A_WAIT * work->waited;
+    int status;
+    if (least > BETWEEN_TALKS)
+        least = BETWEEN_TALKS;
+    status = pause_for(session, length < least ? least : length, end_of(entry, work), work->stops);
+    while (status == MG_OK && work->seen != 0 && milliseconds() < last && session->eye && last_write(session->eye) == work->seen)
+        status = pause_for(session, session->interval < BETWEEN_TALKS ? session->interval : BETWEEN_TALKS, end_of(entry, work), work->stops);
+    work->seen = 0;
+    work->waited = 0;
+    if (status == MG_OK)
         (void)dlm_c_hear_alone(&entry->claim, HAS_RESTED, 0);
 }
 
 /* Waits after being outrun so often in a row. Callers pause by whole milliseconds, so what is left of one is slept here. */
-static void yield(struct mg_session *session, struct entry *entry, struct mg_host *host, const struct work *work, unsigned outrun) {
+static void yield(struct mg_session *session, struct entry *entry, struct mg_host *host, struct work *work, unsigned outrun) {
     int64_t length = pause_after(host, outrun > 0 ? outrun - 1 : 0);
     sleep_for(length % 1000);
     rest(session, entry, work, length / 1000);
@@ -591,10 +618,9 @@ static int open_in_turn(struct mg_session *session, struct work *work) {
 static struct mg_host *open_for(struct mg_session *session, struct entry *entry, struct work *work, bool to_look) {
     struct mg_host *host = NULL;
     int status = to_look ? open_to_look(session, &host) : open_in_turn(session, work);
+    work->seen = 0;
     if (!to_look)
         host = session->host;
-    else
-        work->in_use_since = 0; /* it waits on by looks */
     if (status != MG_OK) {
         if (to_look)
             close_all(session); /* an image that failed is given up by its handle */
@@ -605,12 +631,51 @@ static struct mg_host *open_for(struct mg_session *session, struct entry *entry,
     return host;
 }
 
+/* Looks. Where that takes the number it waits for its turn, but shortly. */
+static int look_in_turn(struct mg_session *session, struct mg_host *host, struct work *work) {
+    bool takes_number = looks_in_talks(session) && host == session->eye;
+    int64_t began = milliseconds(), until = began + LONGEST_PAUSE, turn;
+    int status;
+    work->seen = takes_number ? last_write(host) : 0;
+    for (;;) {
+        turn = milliseconds();
+        status = look_once(host);
+        if (status == MG_OK) {
+            work->in_use_since = 0;
+            break;
+        }
+        work->seen = 0;
+        work->cause = errno;
+        if (!is_in_use(work, status, work->cause == EREMOTE) || pause_for(session, 1 + any_below(16), until, work->stops) != MG_OK)
+            break;
+    }
+    work->waited = takes_number ? turn - began : 0;
+    return status;
+}
+
+/* Whether looks that take the number have learned nothing for so long that a command without a mark may stop them. A claim knows its own pauses alone, and
+ * there they last longer. */
+static bool lacks_news(struct mg_session *session, struct mg_host *host, struct work *work) {
+    struct mg_host_view facts = {0, 0, 0, 0, 0, 0};
+    int64_t now = milliseconds();
+    bool is_same;
+    if (!looks_in_talks(session) || mg_host_facts(host, &facts) != MG_OK)
+        return false;
+    is_same = work->recovers != 0 && facts.learned == work->learned;
+    if (is_same && now < work->recovers)
+        return false;
+    work->learned = facts.learned;
+    work->recovers = now + WITHOUT_NEWS + any_below(WITHOUT_NEWS);
+    return is_same;
+}
+
 /* NULL: an image failed, and is given up by its handle. */
-static struct mg_host *tell_learned(struct mg_session *session, struct entry *entry, struct mg_host *host, int status) {
+static struct mg_host *tell_learned(struct mg_session *session, struct entry *entry, struct mg_host *host, struct work *work, int status) {
     wear(session, status);
     if (status == MG_OK) {
-        /* Of interest while it waits. */
-        claim_hears(&entry->claim, host, HAS_LEARNED, 0, entry->lock != 0 && holds_nobodys(session, host, entry->name));
+        /* Of interest while it waits: it is to learn all, and to tidy. */
+        bool is_to_learn = entry->lock != 0 && (holds_nobodys(session, host, entry->name) || lacks_news(session, host, work));
+        claim_hears(&entry->claim, host, HAS_LEARNED, 0, is_to_learn);
         return host;
     }
     claim_hears(&entry->claim, host, IS_REFUSED, status, false);
@@ -646,13 +711,13 @@ static void release_others(struct mg_session *session) {
 
 /* What the operation has come to, by the host that was heard last. */
 static void conclude(struct mg_session *session, struct entry *entry, struct mg_host *host, struct work *work) {
-    struct mg_host_view facts = {0, 0, 0, 0, 0, 0};
-    struct claim_view view = {0, 0, 0, -1, 0, 0};
+    struct claim_view view = {0, 0, 0, 0, -1};
+    uint64_t slots, used;
     (void)dlm_c_show(&entry->claim, &view);
     if (view.request > session->request)
         session->request = view.request;
-    if (host && mg_host_facts(host, &facts) == MG_OK)
-        work->slots_left = facts.slots - facts.learned;
+    if (host && mg_log(host, &slots, &used) == MG_OK)
+        work->slots_left = slots == UINT64_MAX ? slots : slots - used;
     if (host && work->end.outcome == IS_HELD)
         (void)mg_value(host, entry->lock, &work->value);
     if (work->is_part || (work->is_take && work->end.outcome == IS_HELD && session->host && is_unmarked(session->host)))
@@ -676,8 +741,8 @@ static void operate(struct mg_session *session, struct entry *entry, struct work
         switch (order->kind) {
         case TO_OPEN: host = open_for(session, entry, work, false); break;
         case TO_OPEN_TO_LOOK: host = open_for(session, entry, work, true); break;
-        case TO_LEARN: host = tell_learned(session, entry, host, learn_all(host, LONGEST_PAUSE)); break;
-        case TO_LOOK: host = tell_learned(session, entry, host, mg_look(host, NULL)); break;
+        case TO_LEARN: host = tell_learned(session, entry, host, work, learn_all(host, LONGEST_PAUSE)); break;
+        case TO_LOOK: host = tell_learned(session, entry, host, work, look_in_turn(session, host, work)); break;
         case TO_TIDY: host = tidy(session, entry, work); break;
         case TO_TAKE_SIGN: take_sign_for(session, entry, work, host, order->lock); break;
         case TO_DROP_SIGN: drop_sign(session, entry, host, order); break;
@@ -937,7 +1002,7 @@ static int end_in_doubt(struct mg_session *session, struct entry *entry, const s
 }
 
 static int take(struct mg_session *session, struct entry *entry, struct work *work, struct mg_held *held) {
-    struct claim_view view = {0, 0, 0, -1, 0, 0};
+    struct claim_view view = {0, 0, 0, 0, -1};
     int status;
     entry->state = OURS;
     operate(session, entry, work);
@@ -1232,12 +1297,17 @@ int mg_set_rest(struct mg_session *session, int (*rest)(void *with, int millisec
 
 int mg_has_number(const struct mg_session *session) { return session && session->host; }
 
+/* A look by it may need the number, which is kept after a take with MG_LATE. */
 int mg_host_of(struct mg_session *session, struct mg_host **host) {
     if (host)
         *host = NULL;
     if (!session || !host)
         return MG_BAD_ARGUMENT;
-    return session->is_resting ? MG_BUSY : open_to_look(session, host);
+    if (session->is_resting)
+        return MG_BUSY;
+    if (looks_in_talks(session))
+        (void)mark_taken(session);
+    return open_to_look(session, host);
 }
 
 int mg_sign_of(struct mg_session *session, unsigned lock) {

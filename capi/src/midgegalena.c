@@ -184,12 +184,19 @@ int32_t dlm_c_epochs_value(struct epoch_handle *handle, uint32_t lock, struct mg
 int32_t dlm_c_epochs_locks(struct epoch_handle *handle, struct mg_lock_view *into, size_t room, size_t *count);
 int32_t dlm_c_epochs_clients(struct epoch_handle *handle, struct mg_client_view *into, size_t room, size_t *count);
 int32_t dlm_c_epochs_text(struct epoch_handle *handle, uint8_t *into, size_t room, size_t *length);
+int32_t dlm_c_epochs_sign_name(struct epoch_handle *handle, uint32_t number, uint32_t lock, uint8_t *into, size_t room);
 
 int32_t dlm_c_submit_order(struct claim *claim, struct handle *handle);
 int32_t dlm_c_hear(struct claim *claim, struct handle *handle, uint32_t event, int32_t status, bool left_over);
 int32_t dlm_c_next_left(struct handle *handle, const struct cleanup *cleanup, const uint32_t *ours, size_t length, struct mg_lock_view *into);
 int32_t dlm_c_next_purge(struct handle *handle, const struct cleanup *cleanup, uint32_t *lock);
 int32_t dlm_c_submit_purge(struct handle *handle, const struct cleanup *cleanup);
+
+int32_t dlm_c_epochs_submit_order(struct claim *claim, struct epoch_handle *handle);
+int32_t dlm_c_epochs_hear(struct claim *claim, struct epoch_handle *handle, uint32_t event, int32_t status, bool left_over);
+int32_t dlm_c_epochs_next_left(struct epoch_handle *handle, const struct cleanup *cleanup, const uint32_t *ours, size_t length, struct mg_lock_view *into);
+int32_t dlm_c_epochs_next_purge(struct epoch_handle *handle, const struct cleanup *cleanup, uint32_t *lock);
+int32_t dlm_c_epochs_submit_purge(struct epoch_handle *handle, const struct cleanup *cleanup);
 
 /* What it says below 0, but for a bad argument and a table that is not known, is of calls that this file does not make. */
 int status_of(int32_t told) {
@@ -286,10 +293,9 @@ void because(const char *format, ...) {
     errno = error;
 }
 
-/* A look comes to the epoch, and that is written under the host's number. What claims keep is of slots of one log. */
-int refuse_endless(void) {
-    because("the log of this folder has no end: here calls of a host that was opened by its number (mg_open) work, and dlm; a look without a number, sessions and mg-lock "
-            "do not work here yet");
+/* A look comes to the epoch, and that is written under the host's number. */
+static int refuse_endless(void) {
+    because("the log of this folder has no end: there a look writes, so none is made without a host number");
     return MG_WRONG_HEADER;
 }
 
@@ -366,8 +372,9 @@ char *path_of(const char *folder, const char *name, int number, const char *end)
 
 enum { FIRST_TRIES = 8, FIRST_BYTES = 64 };
 
-/* LOOKS: without a number, so no call of it writes. TAKES: only to make the number this machine's. ASKS: only to tell whose it is. */
-enum way { WORKS, LOOKS, TAKES, ASKS };
+/* LOOKS: without a number, so no call of it writes. VISITS: the same, but where a look writes it takes a number for that. TAKES: only to make the number this
+ * machine's. ASKS: only to tell whose it is. */
+enum way { WORKS, LOOKS, VISITS, TAKES, ASKS };
 
 struct mg_host {
     struct handle handle;       /* one of these two is open */
@@ -375,6 +382,8 @@ struct mg_host {
     bool is_endless;            /* that one */
     unsigned tries, disks;
     bool only_looks;
+    char *visited;                /* the folder where each look takes the number `visitor` for a moment; NULL where none does */
+    unsigned visitor;
     int lock;
     int files[MG_DISKS];          /* NO_FILE: every call fails */
     struct device how[MG_DISKS];  /* of a device that several machines use; of other images the sector size is 0 */
@@ -634,6 +643,7 @@ static void let_go(struct mg_host *host) {
     if (host->lock != NO_FILE)
         close(host->lock);
     close_handle(host);
+    free(host->visited);
     free(host->room);
     free(host);
 }
@@ -809,7 +819,7 @@ static int open_host(struct mg_host *host, struct images *images, const char *fo
     if (!host->room)
         return MG_NO_MEMORY;
     for (unsigned k = 0; k < MG_DISKS; k++)
-        if (!find_image(host, folder, k, way == LOOKS || way == ASKS ? O_RDONLY : O_RDWR, &images->all[k]))
+        if (!find_image(host, folder, k, way == WORKS || way == TAKES ? O_RDWR : O_RDONLY, &images->all[k]))
             return MG_NO_MEMORY;
     status = open_handle(host, images, number, &told, disk);
     if (status != 0 && *disk >= 0 && *disk < MG_DISKS && (status == MG_UNREADABLE || host->images[*disk].other >= 0))
@@ -831,7 +841,7 @@ static int open_host(struct mg_host *host, struct images *images, const char *fo
     }
     if (way == LOOKS && host->is_endless)
         return refuse_endless();
-    if (way == LOOKS || way == ASKS)
+    if (way != WORKS && way != TAKES)
         return MG_OK;
     status = lock_number(folder, number, &host->lock);
     return status == MG_OK ? own_number(host, folder, number, way == TAKES) : status;
@@ -854,7 +864,7 @@ static int open_folder(const char *folder, unsigned number, enum way way, struct
     if (!host)
         return MG_NO_MEMORY;
     host->tries = FIRST_TRIES;
-    host->only_looks = way == LOOKS;
+    host->only_looks = way == LOOKS || way == VISITS;
     host->lock = NO_FILE;
     for (unsigned k = 0; k < MG_DISKS; k++) {
         host->files[k] = NO_FILE;
@@ -911,8 +921,40 @@ bool has_images_of(const struct mg_host *host, const char *folder) {
     return true;
 }
 
+static int64_t nanoseconds(const struct timespec *time) { return (int64_t)time->tv_sec * 1000000000 + time->tv_nsec; }
+
+enum { JUST_NOW = 20000000 }; /* nanoseconds: two writes within so long may be told as of one time */
+
+uint64_t last_write(const struct mg_host *host) {
+    struct timespec now = {0, 0};
+    uint64_t sum = 0;
+    (void)clock_gettime(CLOCK_REALTIME, &now);
+    for (unsigned k = 0; k < MG_DISKS; k++) {
+        struct stat facts;
+        if (host->files[k] == NO_FILE)
+            continue;
+        if (fstat(host->files[k], &facts) != 0 || !S_ISREG(facts.st_mode) || nanoseconds(&facts.st_mtim) > nanoseconds(&now) - JUST_NOW)
+            return 0;
+        sum = 31 * sum + (uint64_t)nanoseconds(&facts.st_mtim);
+    }
+    return sum;
+}
+
 /* A look learns what marks say, whoever set them, so it does not matter under which number. */
 int mg_open_to_look(const char *folder, struct mg_host **out, int *disk) { return open_folder(folder, 0, LOOKS, out, disk); }
+
+int open_to_visit(const char *folder, unsigned number, struct mg_host **out, int *disk) {
+    int status = open_folder(folder, 0, VISITS, out, disk);
+    if (status != MG_OK || !(*out)->is_endless)
+        return status;
+    (*out)->visited = strdup(folder);
+    (*out)->visitor = number;
+    if ((*out)->visited)
+        return MG_OK;
+    let_go(*out);
+    *out = NULL;
+    return MG_NO_MEMORY;
+}
 
 void mg_close(struct mg_host *host) {
     if (!host)
@@ -986,6 +1028,12 @@ void sleep_for(int64_t length) {
         ;
 }
 
+/* Where the system has no random numbers it is the greatest there is. */
+static uint32_t any_number(void) {
+    uint32_t part;
+    return getrandom(&part, sizeof part, 0) == (ssize_t)sizeof part ? part : UINT32_MAX;
+}
+
 enum { SHORTEST_BOUND = 20, LONGEST_BOUND = 2048000 }; /* microseconds */
 
 /* How long to wait after being outrun, in microseconds: for a random time. Its bound is as long as the attempt took, so it fits memory and slow
@@ -994,12 +1042,9 @@ enum { SHORTEST_BOUND = 20, LONGEST_BOUND = 2048000 }; /* microseconds */
 int64_t pause_after(const struct mg_host *host, unsigned outrun) {
     uint64_t took = (uint64_t)(host->took < LONGEST_BOUND ? host->took : LONGEST_BOUND);
     uint64_t bound = took << (outrun < 7 ? outrun : 7);
-    uint32_t part;
-    if (getrandom(&part, sizeof part, 0) != (ssize_t)sizeof part)
-        part = UINT32_MAX;
     if (bound < SHORTEST_BOUND)
         bound = SHORTEST_BOUND;
-    return (int64_t)(((bound < LONGEST_BOUND ? bound : LONGEST_BOUND) * part) >> 32);
+    return (int64_t)(((bound < LONGEST_BOUND ? bound : LONGEST_BOUND) * any_number()) >> 32);
 }
 
 /* ---- commands ---- */
@@ -1156,7 +1201,14 @@ int mg_purge(struct mg_host *host, unsigned client, uint64_t request, unsigned p
 /* ---- claims ---- */
 
 void claim_hears(struct claim *claim, struct mg_host *host, enum event event, int status, bool left_over) {
-    (void)dlm_c_hear(claim, &host->handle, event, status, left_over);
+    if (host->is_endless)
+        (void)dlm_c_epochs_hear(claim, &host->epochs, event, status, left_over);
+    else
+        (void)dlm_c_hear(claim, &host->handle, event, status, left_over);
+}
+
+static int32_t begin_to_submit_order(struct mg_host *host, struct claim *claim) {
+    return host->is_endless ? dlm_c_epochs_submit_order(claim, &host->epochs) : dlm_c_submit_order(claim, &host->handle);
 }
 
 /* Puts the claim's command into the log, tells the claim what came of that, and then marks it. The status is of the command, or of the mark: an image
@@ -1165,36 +1217,67 @@ int claim_submits(struct claim *claim, struct mg_host *host, bool is_waited_for)
     struct outcome outcome;
     int status;
     (void)mark_due(host);
-    status = carry_out_once(host, dlm_c_submit_order(claim, &host->handle), &outcome);
-    claim_hears(claim, host, HAS_REPLIED, 0, false);
+    status = carry_out_once(host, begin_to_submit_order(host, claim), &outcome);
+    if (status == MG_NO_MEMORY)
+        claim_hears(claim, host, IS_REFUSED, status, false); /* a host of a log without an end has given up, and says nothing */
+    else
+        claim_hears(claim, host, HAS_REPLIED, 0, false);
     return outcome.slot < 0 ? status : mark_in_time(host, outcome.slot, is_waited_for);
 }
 
 /* The name of a lock's sign of life, by the set that is open. */
 int sign_name(struct mg_host *host, unsigned number, uint32_t lock, char *into, size_t room) {
-    return status_of(dlm_c_sign_name(&host->handle, number, lock, (uint8_t *)into, room));
+    uint8_t *bytes = (uint8_t *)into;
+    if (host->is_endless)
+        return status_of(dlm_c_epochs_sign_name(&host->epochs, number, lock, bytes, room));
+    return status_of(dlm_c_sign_name(&host->handle, number, lock, bytes, room));
 }
 
 /* ---- locks of processes that are gone ---- */
 
-int next_left(struct mg_host *host, const struct cleanup *cleanup, const uint32_t *ours, struct mg_lock_view *into) {
-    int32_t told;
+static int look(struct mg_host *host, struct outcome *outcome);
+
+/* Whether the table is not known, since a call failed as an epoch began, and a look has learned it. */
+static bool has_found_table(struct mg_host *host, int32_t told) {
+    struct outcome outcome;
+    return told == NO_TABLE && look(host, &outcome) == MG_OK;
+}
+
+static int32_t tell_next_left(struct mg_host *host, const struct cleanup *cleanup, const uint32_t *ours, struct mg_lock_view *into) {
     memset(into, 0, sizeof *into);
-    told = dlm_c_next_left(&host->handle, cleanup, ours, MG_LOCKS, into);
+    if (host->is_endless)
+        return dlm_c_epochs_next_left(&host->epochs, cleanup, ours, MG_LOCKS, into);
+    return dlm_c_next_left(&host->handle, cleanup, ours, MG_LOCKS, into);
+}
+
+int next_left(struct mg_host *host, const struct cleanup *cleanup, const uint32_t *ours, struct mg_lock_view *into) {
+    int32_t told = tell_next_left(host, cleanup, ours, into);
+    if (has_found_table(host, told))
+        told = tell_next_left(host, cleanup, ours, into);
     return told == NOTHING_DUE ? MG_OK : status_of(told);
 }
 
+static int32_t tell_next_purge(struct mg_host *host, const struct cleanup *cleanup, uint32_t *lock) {
+    return host->is_endless ? dlm_c_epochs_next_purge(&host->epochs, cleanup, lock) : dlm_c_next_purge(&host->handle, cleanup, lock);
+}
+
 int next_purge(struct mg_host *host, const struct cleanup *cleanup, uint32_t *lock, bool *is_purged) {
-    int32_t told = dlm_c_next_purge(&host->handle, cleanup, lock);
+    int32_t told = tell_next_purge(host, cleanup, lock);
+    if (has_found_table(host, told))
+        told = tell_next_purge(host, cleanup, lock);
     *is_purged = told == NOTHING_DUE;
     return *is_purged ? MG_OK : status_of(told);
+}
+
+static int32_t begin_to_purge(struct mg_host *host, const struct cleanup *cleanup) {
+    return host->is_endless ? dlm_c_epochs_submit_purge(&host->epochs, cleanup) : dlm_c_submit_purge(&host->handle, cleanup);
 }
 
 int submit_purge(struct mg_host *host, const struct cleanup *cleanup, unsigned *purged) {
     struct outcome outcome;
     int status;
     (void)mark_due(host);
-    status = carry_out_once(host, dlm_c_submit_purge(&host->handle, cleanup), &outcome);
+    status = carry_out_once(host, begin_to_purge(host, cleanup), &outcome);
     *purged += outcome.purged;
     if (outcome.slot >= 0)
         (void)mark_in_time(host, outcome.slot, true);
@@ -1214,6 +1297,47 @@ static int look(struct mg_host *host, struct outcome *outcome) {
     return status;
 }
 
+/* Looks by another handle, which has the number meanwhile. What that has learned is shown from then on. */
+static int visit(struct mg_host *host, struct outcome *outcome) {
+    struct mg_host *other, seen;
+    int status = open_folder(host->visited, host->visitor, WORKS, &other, NULL);
+    *outcome = NO_OUTCOME;
+    if (status != MG_OK)
+        return status;
+    status = look(other, outcome);
+    close(other->lock);
+    other->lock = NO_FILE;
+    if (status == MG_OK) {
+        other->only_looks = true;
+        other->visited = host->visited;
+        other->visitor = host->visitor;
+        host->visited = NULL;
+        seen = *other;
+        *other = *host;
+        *host = seen;
+    }
+    let_go(other);
+    return status;
+}
+
+int look_once(struct mg_host *host) {
+    struct outcome outcome;
+    return host->visited ? visit(host, &outcome) : look(host, &outcome);
+}
+
+enum { FOR_A_TURN = 5000, LONGEST_TURN = 16 }; /* milliseconds */
+
+/* Waits while somebody else on this machine has the number. */
+static int visit_in_turn(struct mg_host *host, struct outcome *outcome) {
+    int64_t until = milliseconds() + FOR_A_TURN;
+    for (;;) {
+        int status = visit(host, outcome);
+        if (status != MG_HOST_IN_USE || errno == EREMOTE || milliseconds() >= until)
+            return status;
+        sleep_for(1000 * (1 + any_number() % LONGEST_TURN));
+    }
+}
+
 static int refresh(struct mg_host *host, struct outcome *outcome) {
     int status = look(host, outcome);
     if (status != MG_OK)
@@ -1228,7 +1352,7 @@ int mg_look(struct mg_host *host, uint64_t *learned) {
         *learned = 0;
     if (!host)
         return MG_BAD_ARGUMENT;
-    status = look(host, &outcome);
+    status = host->visited ? visit_in_turn(host, &outcome) : look(host, &outcome);
     if (learned)
         *learned = outcome.learned;
     return status;
@@ -1294,12 +1418,7 @@ int mg_mark(struct mg_host *host, uint64_t *learned) {
 /* Without news for so long a wait recovers, for a command may be in the log without a mark, which stops every look. */
 enum { BEFORE_A_RECOVERY = 2000 }; /* milliseconds, and by chance up to as many more: hosts wait at the same time */
 
-static int64_t time_of_recovery(void) {
-    uint32_t part;
-    if (getrandom(&part, sizeof part, 0) != (ssize_t)sizeof part)
-        part = 0;
-    return milliseconds() + BEFORE_A_RECOVERY + part % BEFORE_A_RECOVERY;
-}
+static int64_t time_of_recovery(void) { return milliseconds() + BEFORE_A_RECOVERY + any_number() % BEFORE_A_RECOVERY; }
 
 /* A look, or where no look has learned anything for long, a recovery that is marked for all. */
 static int look_further(struct mg_host *host, int64_t *recovers) {

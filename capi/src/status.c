@@ -1,6 +1,6 @@
 /*
  * mg-lock --status: looks at the images by a handle that has no host number (mg_open_to_look), and reads from Linux which files of the folder
- * somebody has locked. man man/mg-lock.1 says what it prints.
+ * somebody has locked. Where the log has no end a look takes a number for a moment. man man/mg-lock.1 says what it prints.
  *
  * Who has a file locked by flock(2) stands in /proc/locks, by the device and inode of the file. A lock of the file's own would tell it, too, but
  * would keep others from the file for that moment. So no file of the folder is even opened, but for its place (O_PATH).
@@ -41,6 +41,8 @@ struct locked {
 struct status {
     int refusal; /* of the look */
     struct mg_host_view facts;
+    bool is_in_epoch;
+    uint64_t epoch, taken; /* of a log without an end: which one, and how many of its slots are used */
     struct mg_disk_view disks[MG_DISKS];
     struct mg_image_view images[MG_DISKS];
     size_t answering;
@@ -159,6 +161,7 @@ static int look_at(struct status *status, struct mg_host *host) {
     if (status->count > MG_LOCKS)
         status->count = MG_LOCKS;
     (void)mg_host_facts(host, &status->facts);
+    status->is_in_epoch = mg_epoch(host, &status->epoch, NULL, &status->taken) == MG_OK;
     (void)mg_disks(host, status->disks, MG_DISKS, &disks);
     (void)mg_images(host, status->images, MG_DISKS, NULL);
     for (size_t i = 0; i < disks; i++) {
@@ -246,13 +249,22 @@ static void print_hosts(FILE *out, const struct status *status) {
     fprintf(out, "%s\n", status->knows_hosts ? some : " not known, /proc/locks cannot be read");
 }
 
-static void print_status(FILE *out, const struct status *status) {
+static void print_slots(FILE *out, const struct status *status) {
     unsigned slots = (unsigned)status->facts.slots, used = (unsigned)status->facts.learned;
-    fprintf(out, "cluster: %" PRIu64 "\n", status->facts.cluster);
     if (status->refusal != MG_OK)
-        fprintf(out, "slots: %u\n", slots);
+        fprintf(out, "slots: %u%s\n", slots, status->facts.endless ? " in each epoch" : "");
     else
         fprintf(out, "slots: %u of %u are used, %u are left%s\n", used, slots, slots - used, used == slots ? ": the log is full" : "");
+}
+
+static void print_epoch(FILE *out, const struct status *status) {
+    fprintf(out, "epoch: %" PRIu64 ", of a log without an end\n", status->epoch);
+    fprintf(out, "slots: %" PRIu64 " are used, %" PRIu64 " of %u in this epoch\n", status->facts.learned, status->taken, (unsigned)status->facts.slots);
+}
+
+static void print_status(FILE *out, const struct status *status) {
+    fprintf(out, "cluster: %" PRIu64 "\n", status->facts.cluster);
+    (status->refusal == MG_OK && status->facts.endless ? print_epoch : print_slots)(out, status);
     print_disks(out, status);
     print_kinds(out, status);
     print_hosts(out, status);
@@ -331,22 +343,43 @@ static void put_locks(FILE *out, const struct status *status) {
     fputs(status->count == 0 ? "]\n" : "\n  ]\n", out);
 }
 
+/* A number, or null where there is none. */
+static void put_number(FILE *out, const char *key, bool is_there, uint64_t number) {
+    if (is_there)
+        fprintf(out, "  \"%s\": %" PRIu64 ",\n", key, number);
+    else
+        fprintf(out, "  \"%s\": null,\n", key);
+}
+
 static void put_status(FILE *out, const struct status *status) {
-    unsigned slots = (unsigned)status->facts.slots, used = (unsigned)status->facts.learned;
+    bool is_known = status->refusal == MG_OK, ends = !status->facts.endless;
     fprintf(out, "{\n  \"cluster\": \"%" PRIu64 "\",\n  \"refusal\": ", status->facts.cluster);
     put_refusal(out, status->refusal);
-    fprintf(out, ",\n  \"slots\": %u,\n", slots);
-    if (status->refusal == MG_OK)
-        fprintf(out, "  \"used\": %u,\n  \"left\": %u,\n", used, slots - used);
-    else
-        fputs("  \"used\": null,\n  \"left\": null,\n", out);
+    fprintf(out, ",\n  \"endless\": %s,\n", ends ? "false" : "true");
+    put_number(out, "epoch", is_known && !ends && status->is_in_epoch, status->epoch);
+    put_number(out, "slots", true, status->facts.slots);
+    put_number(out, "used", is_known, status->facts.learned);
+    put_number(out, "left", is_known && ends, status->facts.slots - status->facts.learned);
     put_disks(out, status);
     put_hosts(out, status);
-    if (status->refusal == MG_OK)
+    if (is_known)
         put_locks(out, status);
     else
         fputs("  \"locks\": null\n", out);
     fputs("}\n", out);
+}
+
+/* Without a host number; or where a look writes, by the greatest one that nobody has. */
+static int open_to_look(const char *folder, struct mg_host **host, int *disk) {
+    int status = mg_open_to_look(folder, host, disk);
+    if (status != MG_WRONG_HEADER || *disk >= 0)
+        return status;
+    for (unsigned number = MG_HOSTS; number-- > 0;) {
+        status = mg_open(folder, number, host, disk);
+        if (status != MG_HOST_IN_USE)
+            break;
+    }
+    return status;
 }
 
 int show_status(const char *folder, bool as_json, FILE *out, int *disk) {
@@ -361,13 +394,13 @@ int show_status(const char *folder, bool as_json, FILE *out, int *disk) {
     /* A link is followed once, so that all is of one folder. */
     followed = realpath(folder, NULL);
     folder = followed ? followed : folder;
-    result = mg_open_to_look(folder, &host, disk);
+    result = open_to_look(folder, &host, disk);
     if (result == MG_OK) {
         result = look_at(status, host);
+        mg_close(host);
         read_locked(status);
         find_hosts(status, folder);
         find_signs(status, folder);
-        mg_close(host);
         if (result == MG_OK || status->refusal != MG_OK)
             (as_json ? put_status : print_status)(out, status);
     }

@@ -8,7 +8,7 @@
 #include <stdio.h>
 
 /* Prints what a folder's images tell, and what this machine knows of it: for people, or as JSON. It takes no host number, locks nothing and
- * writes nothing. The status is MG_OK, or says why the images were refused, and `*disk` which one; -1 is none. Where no majority of them
+ * writes nothing. But where the log has no end it takes the greatest number that is free for a moment, and looks by that. The status is MG_OK, or says why the images were refused, and `*disk` which one; -1 is none. Where no majority of them
  * answers, the rest is printed all the same. */
 int show_status(const char *folder, bool as_json, FILE *out, int *disk);
 

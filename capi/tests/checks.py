@@ -1,8 +1,21 @@
-"""What tests of mg-lock share: how many checks there were, a line for each that failed, and a wait for what is to come true."""
+"""What tests of mg-lock share: how many checks there were, a line for each that failed, a wait for what is to come true, and images of a log without an end,
+over which a test goes by the word --endless."""
+import os
 import sys
 import time
 
 checks = failed = 0
+endless = "--endless" in sys.argv
+if endless:
+    sys.argv.remove("--endless")
+
+
+def lay_out(folder, disks=3, cluster=7, slots=320):
+    """Images of a log without an end, with fewer slots an epoch than those of `dlm format`, by docs/FORMAT.md."""
+    for disk in range(disks):
+        with open(os.path.join(folder, f"disk{disk}.img"), "xb") as file:
+            file.truncate(2 * (8192 + 4096 * slots) + 4096)
+            file.write(bytes([0xA5, 4, disk, disks, 0, 0]) + slots.to_bytes(2, "big") + cluster.to_bytes(8, "big"))
 
 
 def expect(well, what):

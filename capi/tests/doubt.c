@@ -20,7 +20,7 @@
 #include "expect.h"
 #include "tried.h"
 
-enum { IN_DOUBT = -6, TRIES_OF_A_FOLDER = 8, SLOTS = 128, LEAST_CALLS = 10 };
+enum { IN_DOUBT = -6, TRIES_OF_A_FOLDER = 8, LOG_SLOTS = 128, LEAST_CALLS = 10 };
 
 static const char *work;
 static const unsigned char ONE[MG_VALUE_LENGTH] = "the first value";
@@ -45,7 +45,7 @@ static const char *folder(void) {
             remove_images(path);
         snprintf(path, sizeof path, "%s/%d", work, count++);
         IS(mkdir(path, 0777), 0);
-        IS(mg_format(path, 3, SLOTS, 7, NULL), MG_OK);
+        IS(mg_format(path, 3, LOG_SLOTS, 7, NULL), MG_OK);
         tries_left = TRIES_OF_A_FOLDER;
     }
     tries_left--;
@@ -411,7 +411,7 @@ int main(int argc, char **argv) {
         for (int next = 0; next < NEXT_CALLS; next++)
             takes += tried_throughout(takes_while_disks_fail, flags, next);
         takes += tried_throughout(gives_what_was_refused, flags, 0);
-        for (int stops = 0; stops < 2; stops++)
+        for (int stops = 0; stops < 2 && !HAS_NO_END; stops++)
             gives_up_in_a_full_log(flags, stops);
         marks_while_disks_fail(flags);
     }

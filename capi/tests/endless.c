@@ -198,21 +198,25 @@ static void is_refused(int line, int status, int disk) {
     is_at(line, strncmp(mg_cause(), "the log of this folder has no end: ", 35), 0);
 }
 
-/* A look without a number, and sessions; nothing is written. */
+/* A look without a number; nothing is written. A session that shares its number takes it for a look, and writes nothing as it begins. */
 static void refuses(const char *folder) {
-    struct mg_host *eye = (struct mg_host *)&failures;
+    struct mg_host *eye = (struct mg_host *)&failures, *has_number;
     struct mg_session *session = (struct mg_session *)&failures;
     char machine[33] = "?";
+    size_t count = 99;
     int64_t before = changed(folder, 0);
     int disk = 5, status = mg_open_to_look(folder, &eye, &disk);
     is_refused(__LINE__, status, disk);
     IS(eye == NULL, 1);
-    for (unsigned flags = 0; flags <= MG_SHARE; flags++) {
-        disk = 5;
-        status = mg_begin(folder, 0, flags, &session, &disk);
-        is_refused(__LINE__, status, disk);
-        IS(session == NULL, 1);
-    }
+    IS(mg_begin(folder, 0, MG_SHARE, &session, NULL), MG_OK);
+    IS(mg_host_of(session, &eye), MG_OK);
+    IS(mg_locks(eye, NULL, 0, &count), MG_NO_TABLE);
+    IS(mg_mark(eye, NULL), MG_ONLY_LOOKS);
+    IS(mg_open(folder, 0, &has_number, NULL), MG_OK);
+    IS(mg_look(eye, NULL), MG_HOST_IN_USE);
+    IS(mg_locks(eye, NULL, 0, &count), MG_NO_TABLE);
+    mg_close(has_number);
+    mg_end(session);
     IS(mg_machine_of(folder, 0, machine, sizeof machine), MG_OK);
     IS_TEXT(machine, "");
     IS(mg_take_number(folder, 0, NULL), MG_BAD_ARGUMENT);
@@ -268,6 +272,31 @@ static void wrong_images(const char *folder) {
     make_ending(folder, 2);
     IS(mg_open_to_look(folder, &host, &disk), MG_OK);
     mg_close(host);
+}
+
+/* The handle of a session that shares its number shows what its last look saw. */
+static void looks_by_turns(const char *folder) {
+    struct mg_session *session;
+    struct mg_host *host = opened(folder, 1), *eye;
+    uint64_t before = 0, learned = 0;
+    size_t locks = 0, count = 99;
+    IS(mg_begin(folder, 0, MG_SHARE, &session, NULL), MG_OK);
+    IS(mg_host_of(session, &eye), MG_OK);
+    IS(mg_look(eye, &before), MG_OK);
+    IS(mg_locks(eye, NULL, 0, &locks), MG_OK);
+    IS(mg_enqueue(host, 9, 1, 900, MG_EX, "turn", 0, NULL), MG_OK);
+    IS(mg_locks(eye, NULL, 0, &count), MG_OK);
+    IS(count, locks);
+    IS(mg_look(eye, &learned), MG_OK);
+    IS(learned, before + 1);
+    IS(mg_locks(eye, NULL, 0, &count), MG_OK);
+    IS(count, locks + 1);
+    IS(mg_has_number(session), 0);
+    IS(mg_release(host, 9, 2, 900, NULL), MG_OK);
+    mg_close(host);
+    IS(mg_look(eye, &learned), MG_OK);
+    IS(learned, before + 2);
+    mg_end(session);
 }
 
 /* It knows no table before its first operation. */
@@ -671,6 +700,7 @@ int main(int argc, char **argv) {
     refuses(folder);
     arguments(folder);
     wrong_images(laid_out("wrong"));
+    looks_by_turns(laid_out("turns"));
     through_epochs(folder);
     refuses(folder);
     loses_disks(folder);

@@ -11,11 +11,11 @@ enum { SLOTS = 320, CLUSTER = 7, IMAGE = 2 * (8192 + 4096 * SLOTS) + 4096 };
 
 static inline void path_of(char *into, size_t size, const char *folder, int disk, const char *end) { snprintf(into, size, "%s/disk%d.img%s", folder, disk, end); }
 
-/* Whether the images were made in a folder that has none. */
-static inline int lay_out(const char *folder, int disks) {
+/* Whether the images of a set of this cluster number below 256 were made in a folder that has none. */
+static inline int lay_out_as(const char *folder, int disks, int cluster) {
     int is_made = 1;
     for (int k = 0; k < disks && is_made; k++) {
-        const uint8_t header[16] = {0xA5, 4, (uint8_t)k, (uint8_t)disks, 0, 0, SLOTS / 256, SLOTS % 256, 0, 0, 0, 0, 0, 0, 0, CLUSTER};
+        const uint8_t header[16] = {0xA5, 4, (uint8_t)k, (uint8_t)disks, 0, 0, SLOTS / 256, SLOTS % 256, 0, 0, 0, 0, 0, 0, 0, (uint8_t)cluster};
         char path[500];
         int file;
         path_of(path, sizeof path, folder, k, "");
@@ -26,5 +26,7 @@ static inline int lay_out(const char *folder, int disks) {
     }
     return is_made;
 }
+
+static inline int lay_out(const char *folder, int disks) { return lay_out_as(folder, disks, CLUSTER); }
 
 #endif

@@ -1,9 +1,15 @@
-/* What the tests of the library share: a count of what is not as it should be, and a line for each. */
+/* What the tests of the library share: a count of what is not as it should be, a line for each, and over which kind of log they go. */
 #ifndef EXPECT_H
 #define EXPECT_H
 
 #include <stdio.h>
 #include <string.h>
+
+#ifdef OVER_ENDLESS_H
+enum { HAS_NO_END = 1 };
+#else
+enum { HAS_NO_END = 0 };
+#endif
 
 static int failures = 0;
 

@@ -276,7 +276,8 @@ int main(int argc, char **argv) {
     left_locks();
     killed_holder();
     number_in_use();
-    waits_on();
+    if (!HAS_NO_END)
+        waits_on(); /* by looks, which take no number here */
     another_machines();
     slow_disks();
     purged_before();

@@ -1,11 +1,11 @@
 #!/usr/bin/env python3
 """Tries mg-lock: statuses, waits, signals, processes that are killed, several at once.
 
-    mg_lock.py MG_LOCK DLM WORK [ROUNDS [LIBRARY [ANSWERS]]]
+    mg_lock.py [--endless] MG_LOCK DLM WORK [ROUNDS [LIBRARY [ANSWERS]]]
 
 MG_LOCK and DLM are the programs, WORK an empty folder. ROUNDS: turns of each of eight processes that count, 4 if left out. With LIBRARY,
 libmidgegalena.so, half of those that count are in Python. ANSWERS is the mg-lock of answers.c. Prints what was wrong, and how many checks
-there were."""
+there were. --endless: over logs without an end, but for renewals."""
 import contextlib
 import os
 import pty
@@ -20,7 +20,7 @@ import sys
 import time
 
 import heard  # noqa: F401
-from checks import expect, finish, until
+from checks import endless, expect, finish, lay_out, until
 
 mg_lock, dlm, work = map(os.path.abspath, sys.argv[1:4])
 rounds = int(sys.argv[4]) if len(sys.argv) > 4 else 4
@@ -37,7 +37,10 @@ from midgegalena import Session  # noqa: E402
 def folder(slots=512, disks=3):
     shutil.rmtree(images, ignore_errors=True)
     os.mkdir(images)
-    subprocess.run([dlm, "format", images, str(disks), str(slots), "7"], check=True, stdout=subprocess.DEVNULL)
+    if endless:
+        lay_out(images, disks)
+    else:
+        subprocess.run([dlm, "format", images, str(disks), str(slots), "7"], check=True, stdout=subprocess.DEVNULL)
 
 
 def run(*words, **more):
@@ -657,8 +660,8 @@ def counted(hosts, kills=0):
     print(f"{hosts} hosts: counted {total}, {done} ended well, {commands()} commands", flush=True)
 
 
-for test in (statuses, pages, environment, waits, modes, signals, before_the_command, in_use, answers, killed, taken_away, ends_of_logs, renewed,
-             of_another_machine, numbers, lost_disks, unmarked,
+for test in (statuses, pages, environment, waits, modes, signals, before_the_command, in_use, answers, killed, taken_away,
+             *(() if endless else (ends_of_logs, renewed, of_another_machine, numbers)), lost_disks, unmarked,
              lambda: counted(1), lambda: counted(8), lambda: counted(2, kills=4 * rounds)):
     test()
 finish("mg_lock")

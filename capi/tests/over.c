@@ -29,7 +29,7 @@
 #define MOSTLY 1000 /* when nine of ten takes have ended, also where the machine has other work */
 #define ALWAYS 8000 /* when each has ended */
 
-enum { HOSTS = 5, FIRST_HOST = 2, TAKES = 20, SECONDS = 6, SLOTS = 2048, FEW_SLOTS = 500, MILLION = 1000000, LEFT = 20, PAUSES = 4 };
+enum { HOSTS = 5, FIRST_HOST = 2, TAKES = 20, SECONDS = 6, LOG_SLOTS = 2048, FEW_SLOTS = 500, MILLION = 1000000, LEFT = 20, PAUSES = 4 };
 
 /* Slots that are left in the log, as the busy hosts know it. */
 static volatile uint64_t *slots_left;
@@ -76,18 +76,18 @@ static void begin(struct scene *scene, int left) {
     struct mg_held held;
     snprintf(scene->folder, sizeof scene->folder, "%s/%d", work, count++);
     IS(mkdir(scene->folder, 0777), 0);
-    IS(mg_format(scene->folder, 3, SLOTS, 7, NULL), MG_OK);
+    IS(mg_format(scene->folder, 3, LOG_SLOTS, 7, NULL), MG_OK);
     if (left > 0)
         leave(scene->folder, left);
     IS(mg_begin(scene->folder, 0, 0, &scene->holder, NULL), MG_OK);
     IS(mg_take(scene->holder, "db", MG_EX, 0, &held), MG_OK);
-    *slots_left = SLOTS;
+    *slots_left = LOG_SLOTS;
     for (unsigned i = 0; i < HOSTS; i++) {
         scene->workers[i] = fork();
         if (scene->workers[i] == 0)
             works(scene->folder, FIRST_HOST + i);
     }
-    for (int i = 0; *slots_left == SLOTS && i < 10000; i++)
+    for (int i = 0; *slots_left == LOG_SLOTS && i < 10000; i++)
         usleep(1000);
 }
 

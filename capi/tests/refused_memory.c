@@ -137,18 +137,33 @@ static int use_session(const char *folder, unsigned flags) {
     return status != MG_OK ? status : given;
 }
 
-/* 0 where each allocation of a session was refused in turn. A new folder after each few of them: a log that is short is learned soon. */
-static int refuse_session(const char *work, unsigned flags) {
+/* How many locks are left in a folder, or -1. */
+static int locks_of(const char *folder) {
+    struct mg_host *host;
+    size_t count = 0;
+    if (mg_open(folder, 3, &host, NULL) != MG_OK)
+        return -1;
+    if (mg_mark(host, NULL) != MG_OK || mg_locks(host, NULL, 0, &count) != MG_OK)
+        return -1;
+    mg_close(host);
+    return (int)count;
+}
+
+/* 0 where each allocation of a session was refused in turn. A new folder after each few of them: a log that is short is learned soon. Or, with one image, each time an
+ * epoch that is almost full. */
+static int refuse_session(const char *work, unsigned flags, int is_endless) {
     char folder[400];
     for (long allocations = 0;; allocations++) {
-        struct mg_host *eye;
-        size_t count = 9;
-        int status;
-        if (allocations % 8 == 0) {
+        int status, left;
+        if (is_endless)
+            snprintf(folder, sizeof folder, "%s", work);
+        else if (allocations % 8 == 0) {
             snprintf(folder, sizeof folder, "%s/%u.%ld", work, flags, allocations);
             if (mkdir(folder, 0777) != 0 || mg_format(folder, 3, 64, 7, NULL) != MG_OK)
                 return 1;
         }
+        if (is_endless && !is_almost_full(folder))
+            return 1;
         until_refused = allocations;
         status = use_session(folder, flags);
         if (until_refused >= 0) {
@@ -162,13 +177,13 @@ static int refuse_session(const char *work, unsigned flags) {
             return 1;
         }
         /* What it left, as one that was killed does, the next one releases. */
-        if (use_session(folder, flags) != MG_OK || mg_open_to_look(folder, &eye, NULL) != MG_OK)
+        if (use_session(folder, flags) != MG_OK)
             return 1;
-        if (mg_look(eye, NULL) != MG_OK || mg_locks(eye, NULL, 0, &count) != MG_OK || count != 0) {
-            printf("session, allocation %ld: %zu locks left\n", allocations, count);
+        left = locks_of(folder);
+        if (left != 0) {
+            printf("session, allocation %ld: %d locks left\n", allocations, left);
             return 1;
         }
-        mg_close(eye);
     }
 }
 
@@ -181,7 +196,7 @@ int main(int argc, char **argv) {
         return 1;
     for (unsigned flags = 0; flags <= MG_SHARE; flags += MG_SHARE) {
         until_refused = -1;
-        if (refuse_session(argv[1], flags) != 0)
+        if (refuse_session(argv[1], flags, 0) != 0 || refuse_session(endless, flags, 1) != 0)
             return 1;
     }
     return 0;

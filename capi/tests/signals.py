@@ -2,9 +2,10 @@
 """mg-lock and signals: of a process group, of job control, while it looks whether its lock was taken away. And what the shell runs, why a
 number cannot be locked, and a lock that comes too late.
 
-    signals.py MG_LOCK DLM WORK ANSWERS
+    signals.py [--endless] MG_LOCK DLM WORK ANSWERS
 
-MG_LOCK and DLM are the programs, WORK an empty folder, ANSWERS the mg-lock of answers.c. Prints what was wrong, and how many checks there were."""
+MG_LOCK and DLM are the programs, WORK an empty folder, ANSWERS the mg-lock of answers.c. --endless: over a log without an end. Prints
+what was wrong, and how many checks there were."""
 import errno
 import fcntl
 import os
@@ -15,7 +16,7 @@ import time
 from concurrent.futures import ThreadPoolExecutor
 
 import heard  # noqa: F401
-from checks import expect, finish, until
+from checks import endless, expect, finish, lay_out, until
 
 mg_lock, dlm, work, with_answers = map(os.path.abspath, sys.argv[1:])
 images, held = os.path.join(work, "images"), os.path.join(work, "held")
@@ -212,7 +213,10 @@ def late():
 
 
 os.mkdir(images)
-subprocess.run([dlm, "format", images, "3", "2048", "7"], check=True, stdout=subprocess.DEVNULL)
+if endless:
+    lay_out(images)
+else:
+    subprocess.run([dlm, "format", images, "3", "2048", "7"], check=True, stdout=subprocess.DEVNULL)
 for test in (of_the_group, witnesses, job_control, looks_on, by_the_shell, causes, late):
     test()
 finish("signals")

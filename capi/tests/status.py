@@ -1,9 +1,9 @@
 #!/usr/bin/env python3
 """Tries mg-lock --status: what it prints for people and for programs, and that it only looks.
 
-    status.py MG_LOCK DLM WORK
+    status.py [--endless] MG_LOCK DLM WORK
 
-MG_LOCK and DLM are the programs, WORK an empty folder. Prints what was wrong, and how many checks there were."""
+MG_LOCK and DLM are the programs, WORK an empty folder. --endless: over logs without an end, where it takes a host number for a moment. Prints what was wrong, and how many checks there were."""
 import fcntl
 import json
 import os
@@ -14,7 +14,7 @@ import subprocess
 import sys
 
 import heard  # noqa: F401
-from checks import expect, finish, until
+from checks import endless, expect, finish, lay_out, until
 
 mg_lock, dlm, work = map(os.path.abspath, sys.argv[1:])
 images = os.path.join(work, "images")
@@ -23,7 +23,14 @@ images = os.path.join(work, "images")
 def folder(slots=64, disks=3):
     shutil.rmtree(images, ignore_errors=True)
     os.mkdir(images)
-    do("format", images, disks, slots, 7)
+    form(disks, slots, 7)
+
+
+def form(disks, slots, cluster):
+    if endless:
+        lay_out(images, disks, cluster)
+    else:
+        do("format", images, disks, slots, cluster)
 
 
 def do(*words):
@@ -43,7 +50,7 @@ def told(status=0):
     said = run("--status", "--json", images)
     expect(said.returncode == status, f"status {said.returncode}, not {status}: {said}")
     told = json.loads(said.stdout)
-    keys = ["cluster", "refusal", "slots", "used", "left", "disks", "answering", "may_fail", "hosts", "locks"]
+    keys = ["cluster", "refusal", "endless", "epoch", "slots", "used", "left", "disks", "answering", "may_fail", "hosts", "locks"]
     expect(list(told) == keys, f"keys {list(told)}")
     for lock in told["locks"] or []:
         expect(list(lock) == ["name", "lock", "client", "host", "held", "wanted", "sign"], f"keys {list(lock)}")
@@ -62,17 +69,19 @@ def lock(name, number, client, host, held, wanted, sign="none"):
 def empty():
     folder()
     used = [{"disk": disk, "refusal": None, "kind": "file", "read_only": False} for disk in range(3)]
-    expect(told() == {"cluster": "7", "refusal": None, "slots": 64, "used": 0, "left": 64, "disks": used, "answering": 3, "may_fail": 1,
-                      "hosts": [], "locks": []}, f"empty: {told()}")
-    text = "cluster: 7\nslots: 0 of 64 are used, 64 are left\ndisks: 3 of 3 answer, 1 more may fail\nhost numbers in use on this machine: none\nlocks: 0\n"
+    log = {"epoch": 0, "slots": 320, "used": 0, "left": None} if endless else {"epoch": None, "slots": 64, "used": 0, "left": 64}
+    expect(told() == {"cluster": "7", "refusal": None, "endless": endless, **log, "disks": used, "answering": 3, "may_fail": 1, "hosts": [], "locks": []},
+           f"empty: {told()}")
+    slots = "epoch: 0, of a log without an end\nslots: 0 are used, 0 of 320 in this epoch\n" if endless else "slots: 0 of 64 are used, 64 are left\n"
+    text = f"cluster: 7\n{slots}disks: 3 of 3 answer, 1 more may fail\nhost numbers in use on this machine: none\nlocks: 0\n"
     expect(run("--status", images).stdout == text, f"empty: {run('--status', images).stdout}")
     os.symlink(images, images + "-link")
     expect(run("--status", images + "-link").stdout == text, "by a link")
     os.unlink(images + "-link")
     shutil.rmtree(images)
     os.mkdir(images)
-    do("format", images, 1, 4096, 2**64 - 1)
-    expect((told()["cluster"], told()["slots"], told()["may_fail"]) == (str(2**64 - 1), 4096, 0), "one disk")
+    form(1, 4096, 2**64 - 1)
+    expect((told()["cluster"], told()["slots"], told()["may_fail"]) == (str(2**64 - 1), 320 if endless else 4096, 0), "one disk")
 
 
 def names():
@@ -92,8 +101,8 @@ def queues():
     for host, line in ((0, "enqueue 1 1 1 PR db"), (1, "enqueue 2 1 2 PR db"), (0, "convert 1 2 1 EX"), (2, "enqueue 3 1 3 CW db"), (2, "enqueue 3 2 4 EX a")):
         submit(host, line)
     wanted = [lock("a", 4, 3, 2, "EX", None), lock("db", 2, 2, 1, "PR", None), lock("db", 1, 1, 0, "PR", "EX"), lock("db", 3, 3, 2, None, "CW")]
-    expect(told()["locks"] == wanted and (told()["used"], told()["left"]) == (5, 59), f"queues: {told()}")
-    expect(run("--status", images).stdout.split("\n")[4:-1] == [
+    expect(told()["locks"] == wanted and (told()["used"], told()["left"]) == (5, None if endless else 59), f"queues: {told()}")
+    expect(run("--status", images).stdout.split("\n")[5 if endless else 4 : -1] == [
         "locks: 4", "a", "  lock 4 of client 3, host 2: has EX", "db", "  lock 2 of client 2, host 1: has PR",
         "  lock 1 of client 1, host 0: has PR, waits for EX", "  lock 3 of client 3, host 2: waits for CW"], "queues, for people")
 
@@ -215,6 +224,20 @@ def only_looks():
     holder.wait(20)
 
 
+def greatest_number():
+    """It takes the greatest host number that is free, and lets go of it."""
+    folder()
+    files = [take(os.path.join(images, f"host{host}.lock")) for host in (15, 14)]
+    expect((told()["hosts"], told()["used"]) == ([14, 15], 0), f"13 is free: {told()}")
+    expect(os.path.exists(os.path.join(images, "host13.lock")) and not os.path.exists(os.path.join(images, "host12.lock")), "13 was taken")
+    files += [take(os.path.join(images, f"host{host}.lock")) for host in range(14)]
+    said = run("--status", images)
+    expect((said.returncode, said.stdout) == (125, "") and said.stderr.startswith("mg-lock: 36 HostInUse "), f"none is free: {said}")
+    for file in files:
+        os.close(file)
+    expect(told()["hosts"] == [], f"all are free: {told()}")
+
+
 def named(disk):
     """The number and name that `dlm check` has for a disk, and that --status has."""
     lines = subprocess.run([dlm, "check", images], capture_output=True, text=True).stdout.split("\n")
@@ -251,10 +274,11 @@ def damaged():
     status = told(125)
     expect(status["refusal"] == {"number": 7, "name": "NoMajority"}, f"no majority: {status}")
     expect((status["used"], status["left"], status["locks"]) == (None, None, None), f"no majority: {status}")
-    expect((status["answering"], status["may_fail"], status["slots"]) == (1, 0, 64), f"no majority: {status}")
+    expect((status["answering"], status["may_fail"], status["slots"]) == (1, 0, 320 if endless else 64), f"no majority: {status}")
     said = run("--status", images)
     expect(said.returncode == 125 and said.stderr.startswith("mg-lock: 7 NoMajority "), f"no majority: {said}")
-    expect("\nslots: 64\ndisks: 1 of 3 answer, which is no majority\n  disk0 26 Unreadable\n" in said.stdout, f"no majority: {said}")
+    slots = "320 in each epoch" if endless else "64"
+    expect(f"\nslots: {slots}\ndisks: 1 of 3 answer, which is no majority\n  disk0 26 Unreadable\n" in said.stdout, f"no majority: {said}")
     expect("locks" not in said.stdout, f"no majority: {said}")
     # No image at all.
     for name in os.listdir(images):
@@ -302,6 +326,7 @@ def wrong_use():
         expect(said.returncode == 125 and "could not be printed" in said.stderr, f"nowhere to print: {said}")
 
 
-for test in (empty, names, queues, hosts, killed, without_proc, only_looks, damaged, read_only, full, wrong_use):
+only = [greatest_number] if endless else [only_looks, read_only, full]
+for test in (empty, names, queues, hosts, killed, without_proc, damaged, wrong_use, *only):
     test()
 finish("status.py")

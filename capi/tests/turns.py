@@ -2,10 +2,10 @@
 """Many that wait under one host number end at once, by a signal or as their time is up. Each needs the number to leave the queue, and all leave it: who
 comes next gets the lock. Where somebody has the number for longer than a wait's end may take, mg-lock tries once more.
 
-    turns.py MG_LOCK LIBRARY WORK..
+    turns.py [--endless] MG_LOCK LIBRARY WORK..
 
-MG_LOCK and LIBRARY, libmidgegalena.so, are files, each WORK an empty folder: as of a file system in memory, and of one on a disk. Prints what was
-wrong, and how late the latest was."""
+MG_LOCK and LIBRARY, libmidgegalena.so, are files, each WORK an empty folder: as of a file system in memory, and of one on a disk. --endless: over logs without
+an end. Prints what was wrong, and how late the latest was."""
 import json
 import os
 import signal
@@ -13,7 +13,7 @@ import subprocess
 import sys
 import time
 
-from checks import expect, finish, until
+from checks import endless, expect, finish, lay_out, until
 
 mg_lock, library, *works = map(os.path.abspath, sys.argv[1:])
 sys.path.insert(0, os.path.join(os.path.dirname(os.path.dirname(os.path.realpath(__file__))), "python"))
@@ -43,7 +43,10 @@ def waiting(folder):
 def new_folder(work, name):
     folder = os.path.join(work, name)
     os.mkdir(folder)
-    format_images(folder, 3, 1024, 7, library=library)
+    if endless:
+        lay_out(folder)
+    else:
+        format_images(folder, 3, 1024, 7, library=library)
     return folder
 
 

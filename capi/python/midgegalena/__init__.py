@@ -325,7 +325,7 @@ class Session:
         return host
 
     def log(self) -> tuple[int, int]:
-        """How many slots the log has, and how many of them hold commands."""
+        """How many slots the log has, 2**64 - 1 where it has no end, and how many of them hold commands."""
         slots, used = c_uint64(), c_uint64()
         self._check(self.lib.mg_log(self._look(), byref(slots), byref(used)))
         return slots.value, used.value
