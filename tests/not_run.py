@@ -12,7 +12,7 @@ PAGES = ("README.md", "docs/TUTORIAL.md", "docs/OPERATIONS.md")
 KNOWN = {
     ("README.md", "(cd crates/dlm && rt try -- run"): "tests/readme.sh, in .ci/run",
     ("README.md", "F=$(mktemp -d) && ./dlm format"): "tests/all.sh, twice",
-    ("README.md", "mkdir images && dlm format"): "tests/release.sh, with fewer slots",
+    ("README.md", "mkdir images && dlm format"): "tests/release.sh, with a number of slots",
     ("README.md", "mg-lock "): "capi/tests/mg_lock.py, over a folder of its own",
     ("docs/OPERATIONS.md", "ln -s /dev/disk/"): "tests/devices.sh, with loop devices",
     ("docs/OPERATIONS.md", "dlm format images 3 64 7"): "tests/devices.sh, with loop devices",
