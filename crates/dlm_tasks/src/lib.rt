@@ -1,6 +1,7 @@
 //! What `dlm` does: it runs and sweeps scripts, and works over the images of a folder, and prints what that comes to. Races stand above it.
 #![tactic(auto)]
 
+mod any_run;
 mod command_failure;
 mod ending;
 mod endless;
@@ -11,6 +12,7 @@ pub mod made_endless;
 mod run;
 mod sweeping;
 
+pub use any_run::run_any_script;
 pub use command_failure::CommandFailure;
 pub use fault::Fault;
 pub use run::run_script;
