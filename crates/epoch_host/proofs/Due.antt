@@ -64,7 +64,7 @@ module _ (c : Shape) (h e : ℕ) (deeds : Deeds) where
 
   due_carried : (over : Over) (slot : ℕ) (command : Command) → CarriesOver c h e deeds over → IsDueIn over slot (Submitting command) → decoded (spelling command) ≡ Some command → IsCarried slot command
   due_carried Unknown slot command is due spelled = absurd due
-  due_carried (Known values) slot command (over, carries, spells, same) due spelled =
+  due_carried (Known values before) slot command (over, carries, spells, same, all) due spelled =
       let at : option_map spelling (slice_get over slot) ≡ Some (spelling command) = sym (slice_get-map spelling over slot) ∙ ap (λ (l : List (List ℕ)). slice_get l slot) (sym same) ∙ due in
       let found = mapped (slice_get over slot) (spelling command) at in
       let reads : decoded (spelling found.0) ≡ Some found.0 = spells found.0 (there over slot found.0 found.1) in
@@ -75,7 +75,7 @@ module _ (c : Shape) (h e : ℕ) (deeds : Deeds) where
   -- a client's command is due behind all of it
   clients_due : (over : Over) (learned : List Command) (command : Command) → CarriesOver c h e deeds over → Stands over learned → is_submittable command ≡ true → MaySubmit c h e deeds learned command
   clients_due Unknown learned command is stands asked = inr (stands, asked)
-  clients_due (Known values) learned command (over, carries, spells, same) stands asked =
+  clients_due (Known values before) learned command (over, carries, spells, same, all) stands asked =
       let long : length values.items ≡ length over = ap (λ (l : List (List ℕ)). length l) same ∙ length-map over spelling in
       let past : slice_get over (length learned) ≡ None = slice_get_past over (length learned) (omega (arith, long, stands)) in
       inl (over, carries, subst (λ (o : Option Command). IsDue o command) (sym past) asked)

@@ -1,6 +1,6 @@
 -- How a task ends by what the host did: what its core says, in places of all epochs.
 use Rattle.std.specs.Prelude.{IsSome, is_none, is_some}
-use Rattle.std.proofs.Common.{ℕ, ◌≡◌, ◌⊎◌, ◌≤◌, ◌<◌, ◌+◌, ◌*◌, List, length, map, Option, Some, None, Result, Ok, Err, OnOk, OnErr, refl, sym, ◌∙◌, ap, subst, inl, inr, arith, true, false, is_err, true≢false}
+use Rattle.std.proofs.Common.{ℕ, ◌≡◌, ◌⊎◌, ◌≤◌, ◌<◌, ◌+◌, ◌*◌, List, length, Option, Some, None, Result, Ok, Err, OnOk, OnErr, refl, sym, ◌∙◌, ap, subst, inl, inr, arith, true, false, is_err, true≢false}
 use Rattle.std.proofs.lemmas.Bool.{cases_eq, cases_lt}
 use Rattle.std.proofs.lemmas.List.{length-map}
 use Rattle.paxos_block.specs.Shape.{Shape}
@@ -13,10 +13,9 @@ use Rattle.host.specs.declared.answer.HostAnswer.{HostAnswer}
 use Rattle.host.specs.declared.answer.HostAnswer.TheVariants as core
 use Rattle.host.specs.declared.task.Task.{Task}
 use Rattle.host.specs.declared.task.Task.TheVariants as task
-use Rattle.host.specs.Host.{Doing, Host, Memory, Stopped, Running}
+use Rattle.host.specs.Host.{Doing, Memory, Stopped, Running}
 use Rattle.host.proofs.Hosts.{idle_is}
 use Rattle.epoch_deeds.specs.Deeds.{Deeds, core_in}
-use Rattle.epoch_deeds.specs.Knowing.{Carries}
 use Rattle.epoch_host.specs.declared.answer.EpochAnswer.{EpochAnswer}
 use Rattle.epoch_host.specs.declared.answer.EpochAnswer.TheVariants.{Refused}
 use Rattle.epoch_host.specs.declared.over.Over.{Over}
@@ -30,8 +29,8 @@ use Rattle.epoch_host.specs.declared.task.EpochTask.TheVariants.{Submit, Recover
 use Rattle.epoch_host.specs.declared.walk.Walk.{Walk}
 use Rattle.epoch_host.specs.declared.walk.Whereabouts.{Whereabouts}
 use Rattle.epoch_host.specs.declared.walk.Whereabouts.TheVariants.{Nowhere, Finds, In}
-use Rattle.epoch_host.specs.Answering.{AreRead, EndsTask, IsPlaced}
-use Rattle.epoch_host.specs.Ending.{Acknowledges, AreIdle, AreSilent, Ends, EndsSo, HasEnded, HasLearnedUpto, HasMarked, HasTable, IsDone, IsElsewhere, IsGivenUp, IsTableOf, IsUnlearned, IsWhereItIs, Learns, Refuses, Says, TableIsThere, TaskGoesOn, in_epochs, in_places, place_in}
+use Rattle.epoch_host.specs.Answering.{AreRead, EndsTask}
+use Rattle.epoch_host.specs.Ending.{AreIdle, AreSilent, Ends, EndsSo, HasEnded, HasLearnedUpto, HasTable, IsDone, IsElsewhere, IsGivenUp, IsTableOf, IsUnlearned, Learns, Refuses, Says, TableIsThere, TaskGoesOn, in_epochs, in_places, place_in}
 use Rattle.epoch_host.specs.Leading.{AllStopped, CarriesOver, LeadsTo, LeadsToPlace, LeadsToStay}
 use Rattle.epoch_host.specs.Staying.{IsAhead, IsAnswered, WorksFor}
 use Rattle.epoch_host.specs.Submitting.{Stands}
@@ -46,7 +45,7 @@ running_same one other is = cc
 -- the table is there, where all that carries it over stands
 has_table : (c : Shape) (h e : ℕ) (deeds : Deeds) (over : Over) (learned : List Command) → CarriesOver c h e deeds over → Stands over learned → HasTable c h e deeds learned
 has_table c h e deeds Unknown learned is stands = inr stands
-has_table c h e deeds (Known values) learned (over, carries, spells, same) stands =
+has_table c h e deeds (Known values before) learned (over, carries, spells, same, all) stands =
     let long : length values.items ≡ length over = ap (λ (l : List (List ℕ)). length l) same ∙ length-map over spelling in
     inl (over, carries, omega (arith, long, stands))
 
@@ -137,7 +136,7 @@ module _ (c : Shape) (h : ℕ) (deeds : Deeds) (s : Stay) (led : LeadsToStay c h
     | inr apart ↦ absurd (let none : Stopped ≡ Running memory = sym (led.alone e apart) ∙ runs in cc)
   ]
 
-  learned_here : (e : ℕ) (memory : Memory) → core_in c h e deeds ≡ Running memory → s.core.prefix ≡ memory.learned
+  pub learned_here : (e : ℕ) (memory : Memory) → core_in c h e deeds ≡ Running memory → s.core.prefix ≡ memory.learned
   learned_here e memory runs = led.leads.prefix ∙ ap (λ (m : Memory). m.learned) (runs_here e memory runs).1
 
   learned_upto : Stands s.over s.core.prefix → (upto : ℕ) → upto ≡ place_in s.config s.epoch (length s.core.prefix) → HasLearnedUpto c h deeds upto s.core.prefix
@@ -408,24 +407,3 @@ module _ (w : Walk) (s : Stay) (at : IsAtWork w s) where
   knows_table shown pictured c h deeds led =
       let upto : ℕ = place_in s.config s.epoch (length s.core.prefix) in
       (upto, (s.core.prefix, learned_upto c h deeds s (stay_of c h deeds led) at.whole upto refl, pictured))
-
--- where it is
-pub epoch_here : (w : Walk) (s : Stay) → w.is ≡ In s → (c : Shape) (h : ℕ) (deeds : Deeds) → LeadsTo c h deeds w → IsWhereItIs c h deeds (Some s.epoch)
-epoch_here w s is c h deeds led = let there : LeadsToStay c h deeds s = subst (LeadsToPlace c h deeds) is led.place in ((there.memory, there.runs), there.alone)
-
-stopped_at : (c : Shape) (h : ℕ) (deeds : Deeds) (place : Whereabouts) → ((s : Stay) → place ≡ In s → ⊥) → LeadsToPlace c h deeds place → AllStopped c h deeds
-stopped_at c h deeds Nowhere none led = led
-stopped_at c h deeds (Finds search) none led = led.0
-stopped_at c h deeds (In s) none led = absurd (none s refl)
-
-pub epoch_nowhere : (w : Walk) → ((s : Stay) → w.is ≡ In s → ⊥) → (c : Shape) (h : ℕ) (deeds : Deeds) → LeadsTo c h deeds w → IsWhereItIs c h deeds None
-epoch_nowhere w none c h deeds led = stopped_at c h deeds w.is none led.place
-
--- what is learned there
-pub prefix_here : (w : Walk) (s : Stay) (prefix : List Command) → w.is ≡ In s → prefix ≡ s.core.prefix → (c : Shape) (h : ℕ) (deeds : Deeds) → LeadsTo c h deeds w → (e : ℕ) (memory : Memory) → core_in c h e deeds ≡ Running memory → prefix ≡ memory.learned
-prefix_here w s prefix is same c h deeds led e memory runs =
-    let there : LeadsToStay c h deeds s = subst (LeadsToPlace c h deeds) is led.place in
-    same ∙ learned_here c h deeds s there e memory runs
-
-pub prefix_nowhere : (w : Walk) (prefix : List Command) → ((s : Stay) → w.is ≡ In s → ⊥) → (c : Shape) (h : ℕ) (deeds : Deeds) → LeadsTo c h deeds w → (e : ℕ) (memory : Memory) → core_in c h e deeds ≡ Running memory → prefix ≡ memory.learned
-prefix_nowhere w prefix none c h deeds led e memory runs = absurd (let stopped : Stopped ≡ Running memory = sym (stopped_at c h deeds w.is none led.place e) ∙ runs in cc)

@@ -1,13 +1,15 @@
 -- A host that goes on, and then goes on once more, does both. What it knows of epochs stays so.
-use Rattle.std.proofs.Common.{ℕ, ◌≡◌, [], ◌∷◌, ◌++◌, refl, sym, ◌∙◌, ap, subst}
+use Rattle.std.proofs.Common.{ℕ, zero, suc, ◌≡◌, List, [], ◌∷◌, ◌++◌, refl, sym, ◌∙◌, ap, subst}
 use Rattle.std.proofs.lemmas.List.{append_assoc, append-nil}
 use Rattle.paxos_block.specs.Shape.{Shape}
 use Rattle.standings.specs.Past.{Made, Past}
+use Rattle.lock_command.specs.declared.command.Command.{Command}
 use Rattle.epoch_deeds.specs.Deeds.{Deeds, Calls, CallsIn, Starts, Begins, Stops, past_on}
 use Rattle.epoch_deeds.proofs.Lists.{past_both, does_both}
-use Rattle.epoch_deeds.proofs.Later.{open_later, carries_later}
+use Rattle.epoch_deeds.proofs.Later.{open_later, carries_later, learned_later}
 use Rattle.epoch_host.specs.declared.over.Over.{Over}
 use Rattle.epoch_host.specs.declared.over.Over.TheVariants.{Unknown, Known}
+use Rattle.epoch_host.specs.Knowing.{AreOfEpochBefore}
 use Rattle.epoch_host.specs.Leading.{pasts_of, AreOpen, CarriesOver, MakeNone, GoesOn, MakesAndGoesOn}
 
 -- ONE AFTER THE OTHER
@@ -72,6 +74,11 @@ pasts_still deeds more none = λ i. λ d. (past_still d deeds more none) i
 pub are_open_later : (c : Shape) (h e : ℕ) (deeds more : Deeds) → AreOpen c h e deeds → AreOpen c h e (deeds ++ more)
 are_open_later c h e deeds more are order below = open_later c h order deeds more (are order below)
 
+all_before_later : (c : Shape) (h e : ℕ) (deeds more : Deeds) (before : List Command) → AreOfEpochBefore c h e deeds before → AreOfEpochBefore c h e (deeds ++ more) before
+all_before_later c h zero deeds more before is = is
+all_before_later c h (suc e) deeds more before is = learned_later c h e deeds more before is
+
 pub carries_over_later : (c : Shape) (h e : ℕ) (deeds more : Deeds) (over : Over) → CarriesOver c h e deeds over → CarriesOver c h e (deeds ++ more) over
 carries_over_later c h e deeds more Unknown is = tt
-carries_over_later c h e deeds more (Known values) is = (is.0, carries_later c h e deeds more is.0 is.1, is.2, is.3)
+carries_over_later c h e deeds more (Known values before) (over, carries, spells, same, all) =
+    (over, carries_later c h e deeds more over carries, spells, same, all_before_later c h e deeds more before.items all)

@@ -5,6 +5,7 @@ mod Due
 mod Ending
 mod Going
 mod Hearing
+pub mod Knowing
 mod Leading
 mod Moving
 mod OneDeed

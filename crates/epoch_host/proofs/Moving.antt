@@ -37,6 +37,7 @@ use Rattle.epoch_host.specs.declared.stay.Arrival.{Arrival}
 use Rattle.epoch_host.specs.declared.walk.Walk.{Walk}
 use Rattle.epoch_host.specs.declared.walk.Whereabouts.{Whereabouts}
 use Rattle.epoch_host.specs.declared.walk.Whereabouts.TheVariants.{Nowhere, Finds, In}
+use Rattle.epoch_host.specs.Knowing.{AreOfEpochBefore}
 use Rattle.epoch_host.specs.Leading.{pasts_of, AreOpen, AreSpelled, CarriesOver, AllStopped, LeadsToStay, LeadsToPlace, LeadsTo, GoesOn, GoesOnIn, MakesIn, StartsIn, WalksOn, WalksBy, Enters}
 use Rattle.epoch_host.specs.Walking.{HasEnded}
 use Rattle.epoch_host.proofs.Going.{goes_none, goes_then, goes_as, goes_keeping, makes_then, makes_as, are_open_later, carries_over_later}
@@ -270,10 +271,10 @@ one_more_open c h e deeds are next order below =
     elim (cases_eq order (suc e)) [ inl same ↦ subst (λ (n : ℕ). IsOpen c h n deeds) (sym same) next | inr differ ↦ are order (omega (arith, below, differ)) ]
 
 -- to the one behind it, once it is learned whole
-module _ (old new : Walk) (s : Stay) (arrival : Arrival) (shown : Shown) (values : Vec (List ℕ) Global) where
+module _ (old new : Walk) (s : Stay) (arrival : Arrival) (shown : Shown) (values : Vec (List ℕ) Global) (before : Vec Command Global) where
   pub goes_next : old.is ≡ In s → s.config.slots ≤ length s.core.prefix → length s.core.prefix ≤ s.config.slots → IsPictureOf shown (table_after s.core.prefix) → values.items ≡ map spelling (carried_over shown)
-      → AreSpelled (carried_over shown) → arrival.epoch ≡ s.epoch + 1 → arrival.over ≡ Known values → Enters arrival old new → WalksOn old new
-  goes_next was full few pictured bytes spelled epoch over enter c h deeds is =
+      → AreSpelled (carried_over shown) → before.items ≡ s.core.prefix → arrival.epoch ≡ s.epoch + 1 → arrival.over ≡ Known values before → Enters arrival old new → WalksOn old new
+  goes_next was full few pictured bytes spelled kept epoch over enter c h deeds is =
       let leads : LeadsToStay c h deeds s = subst (LeadsToPlace c h deeds) was is.place in
       let learned : s.core.prefix ≡ leads.memory.learned = leads.leads.prefix in
       let slots : s.config.slots ≡ c.slots = ap (λ (k : Shape). k.slots) leads.config in
@@ -283,7 +284,8 @@ module _ (old new : Walk) (s : Stay) (arrival : Arrival) (shown : Shown) (values
       let picture : IsPictureOf shown (table_after leads.memory.learned) = subst (λ (l : List Command). IsPictureOf shown (table_after l)) learned pictured in
       let next : arrival.epoch ≡ suc s.epoch = epoch ∙ add-one s.epoch in
       let opened : AreOpen c h (suc s.epoch) deeds = one_more_open c h s.epoch deeds leads.opened (inl (leads.memory.learned, has)) in
-      let carries : CarriesOver c h (suc s.epoch) deeds (Known values) = (carried_over shown, (leads.memory.learned, shown, has, picture, refl), spelled, bytes) in
+      let all : HasLearned c h s.epoch deeds before.items = subst (HasLearned c h s.epoch deeds) (sym (kept ∙ learned)) has in
+      let carries : CarriesOver c h (suc s.epoch) deeds (Known values before) = (carried_over shown, (leads.memory.learned, shown, has, picture, refl), spelled, bytes, all) in
       enter c h deeds is (subst (λ (e : ℕ). AreOpen c h e deeds) (sym next) opened)
       (subst (λ (e : ℕ). CarriesOver c h e deeds arrival.over) (sym next) (subst (CarriesOver c h (suc s.epoch) deeds) (sym over) carries))
 
@@ -308,5 +310,11 @@ pub asks_within : (search : Search) (need : ℕ × Call) (disks : ℕ) → need 
 asks_within search need disks same few of = let disk : need.0 ≡ search.disk = ap (λ (due : ℕ × Call). due.0) same in omega (arith, few, of, disk)
 
 -- nothing carries a table over into the first epoch
-pub first_carries : (e : ℕ) (values : Vec (List ℕ) Global) → e ≡ 0 → values.items ≡ [] → (c : Shape) (h : ℕ) (deeds : Deeds) → CarriesOver c h e deeds (Known values)
-first_carries e values first none c h deeds = ([], subst (λ (n : ℕ). Carries c h n deeds []) (sym first) refl, λ command has. absurd (let within : has.0 < 0 = has.1 in omega (arith, within)), none)
+pub first_carries : (e : ℕ) (values : Vec (List ℕ) Global) (before : Vec Command Global) → e ≡ 0 → values.items ≡ [] → before.items ≡ [] → (c : Shape) (h : ℕ) (deeds : Deeds) → CarriesOver c h e deeds (Known values before)
+first_carries e values before first none none_before c h deeds = (
+  [],
+  subst (λ (n : ℕ). Carries c h n deeds []) (sym first) refl,
+  λ command has. absurd (let within : has.0 < 0 = has.1 in omega (arith, within)),
+  none,
+  subst (λ (n : ℕ). AreOfEpochBefore c h n deeds before.items) (sym first) none_before,
+)

@@ -92,7 +92,7 @@ module _ (c : Shape) (over : Over) where
     where
       further : (o : Over) → Stands o learned → Stands o (learned ++ command ∷ [])
       further Unknown (earlier, among, asked) = (earlier, Contains-append_left learned (command ∷ []) earlier among, asked)
-      further (Known values) long = let more : length (learned ++ command ∷ []) ≡ length learned + 1 = length-append learned (command ∷ []) in omega (arith, long, more)
+      further (Known values before) long = let more : length (learned ++ command ∷ []) ≡ length learned + 1 = length-append learned (command ∷ []) in omega (arith, long, more)
 
   pub client_heard : (h : ℕ) (m : Memory) (o : Option Doing) (d : ℕ) (answer : Answer) → is_none o ≡ false → SubmitsFor over Goes m.learned o → So (hears_from c h m o d answer)
   client_heard h m None d answer busy is = absurd (true≢false busy)

@@ -162,13 +162,20 @@ IsDone None = ⊥
 IsDone (Some (Refused refusal)) = ⊥
 IsDone (Some other) = Unit {0}
 
--- by whatever deeds lead to this host, no core that runs has said anything since it was given something to do
-abbrev pub AreSilent : Walk → Type 0
-AreSilent w = (c : Shape) (h : ℕ) (deeds : Deeds) → LeadsTo c h deeds w → (e : ℕ) (memory : Memory) → core_in c h e deeds ≡ Running memory → memory.said ≡ None
+-- by these deeds, no core that runs has said anything since it was given something to do
+abbrev pub AreSilentBy : Shape → (h : ℕ) → Deeds → Type 0
+AreSilentBy c h deeds = (e : ℕ) (memory : Memory) → core_in c h e deeds ≡ Running memory → memory.said ≡ None
 
 -- nor has any of them anything under way
+abbrev pub AreIdleBy : Shape → (h : ℕ) → Deeds → Type 0
+AreIdleBy c h deeds = (e : ℕ) (memory : Memory) → core_in c h e deeds ≡ Running memory → memory.doing ≡ None
+
+-- both by whatever deeds lead to a host
+abbrev pub AreSilent : Walk → Type 0
+AreSilent w = (c : Shape) (h : ℕ) (deeds : Deeds) → LeadsTo c h deeds w → AreSilentBy c h deeds
+
 abbrev pub AreIdle : Walk → Type 0
-AreIdle w = (c : Shape) (h : ℕ) (deeds : Deeds) → LeadsTo c h deeds w → (e : ℕ) (memory : Memory) → core_in c h e deeds ≡ Running memory → memory.doing ≡ None
+AreIdle w = (c : Shape) (h : ℕ) (deeds : Deeds) → LeadsTo c h deeds w → AreIdleBy c h deeds
 
 -- The task goes on, or it has ended with an answer. It was done only where this is so.
 pub record TaskGoesOn (WhereDone : Type 0) (task : Option EpochTask) (w : Walk) : Type 0 where

@@ -29,6 +29,7 @@ use Rattle.epoch_host.specs.declared.stay.Arrival.{Arrival}
 use Rattle.epoch_host.specs.declared.walk.Walk.{Walk}
 use Rattle.epoch_host.specs.declared.walk.Whereabouts.{Whereabouts}
 use Rattle.epoch_host.specs.declared.walk.Whereabouts.TheVariants.{Nowhere, Finds, In}
+use Rattle.epoch_host.specs.Knowing.{AreOfEpochBefore}
 use Rattle.epoch_host.specs.Submitting.{SubmitsFor}
 
 -- what it did on each disk
@@ -45,10 +46,11 @@ AreOpen c h e deeds = (order : ℕ) → order ≤ e → IsOpen c h order deeds
 abbrev pub AreSpelled : List Command → Type 0
 AreSpelled commands = (command : Command) → Contains commands command → decoded (spelling command) ≡ Some command
 
--- What is kept as known carries the table over, by what the host learned of the epoch before.
+-- What is kept as known carries the table over, by what the host learned of the epoch before, and has all commands of that one.
 abbrev pub CarriesOver : Shape → (h e : ℕ) → Deeds → Over → Type 0
 CarriesOver c h e deeds Unknown = Unit {0}
-CarriesOver c h e deeds (Known values) = (over : List Command) × Carries c h e deeds over × AreSpelled over × (values.items ≡ map spelling over)
+CarriesOver c h e deeds (Known values before) =
+    (over : List Command) × Carries c h e deeds over × AreSpelled over × (values.items ≡ map spelling over) × AreOfEpochBefore c h e deeds before.items
 
 -- IN AN EPOCH
 

@@ -1,5 +1,6 @@
 pub mod Answering
 pub mod Ending
+pub mod Knowing
 pub mod Leading
 pub mod Staying
 pub mod Submitting

@@ -17,7 +17,7 @@ HasClients learned = (earlier : Command) × Contains learned earlier × (is_subm
 -- all that carries the table over is among these
 abbrev pub Stands : Over → List Command → Type 0
 Stands Unknown learned = HasClients learned
-Stands (Known values) learned = length values.items ≤ length learned
+Stands (Known values before) learned = length values.items ≤ length learned
 
 -- so a client's command may be submitted
 abbrev pub IsClients : Over → List Command → Operation → Type 0
@@ -26,7 +26,7 @@ IsClients over learned (Submitting command) = Stands over learned × (is_submitt
 
 -- or it is the command that is due in this slot
 abbrev pub IsDueIn : Over → ℕ → Operation → Type 0
-IsDueIn (Known values) slot (Submitting command) = slice_get values.items slot ≡ Some (spelling command)
+IsDueIn (Known values before) slot (Submitting command) = slice_get values.items slot ≡ Some (spelling command)
 IsDueIn over slot operation = ⊥
 
 -- The core that carries a part of the table over submits it in its slot; the one that marks it submits nothing; and any other submits what clients ask for, if it submits anything.

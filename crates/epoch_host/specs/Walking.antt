@@ -11,6 +11,7 @@ use Rattle.coming.specs.declared.search.Search.{Search}
 use Rattle.coming.specs.Finding as finding
 use Rattle.epoch_host.specs.declared.task.EpochTask.{EpochTask}
 use Rattle.epoch_host.specs.declared.task.EpochTask.TheVariants.{Submit, Recover}
+use Rattle.epoch_host.specs.declared.stay.Errand.TheVariants.{Works}
 use Rattle.epoch_host.specs.declared.stay.Leave.{Leave}
 use Rattle.epoch_host.specs.declared.stay.Leave.TheVariants as leave
 use Rattle.epoch_host.specs.declared.stay.Stay.{Stay}
@@ -39,10 +40,11 @@ pub record IsStaying (w : Walk) (s : Stay) : Type 0 where
   pub host : s.host ≡ w.host
   pub config : s.config ≡ w.config
 
--- the table of that epoch is there
+-- it carries out its tasks there, and the table of that epoch is there
 pub record IsAtWork (w : Walk) (s : Stay) : Type 0 where
   pub is : w.is ≡ In s
   pub stays : IsStaying w s
+  pub works : s.errand ≡ Works
   pub whole : Stands s.over s.core.prefix
 
 -- It has so left its epoch, with the task that is this one of all epochs.

@@ -4,9 +4,12 @@ ghost use Rattle.attempt.specs.Heard.{Fits};
 ghost use Rattle.attempt.specs.DeviceCalls.{IsWithin, call_of_need, device_answer, heard_of};
 ghost use Rattle.standings.specs.Epochs.{whole_length};
 ghost use Rattle.paxos_block.specs.Shape.{Shape};
+ghost use Rattle.lock_table.specs.Apply.{table_after};
+ghost use Rattle.lock_table.specs.Picture.{IsPictureOf};
 ghost use Rattle.host.specs.Host.{Memory, Running};
 ghost use Rattle.epoch_deeds.specs.Deeds.{Deeds, core_in};
 ghost use Rattle.epoch_host.specs.Ending.{AreIdle, AreSilent, Ends, HasLearnedUpto, IsDone, IsGivenUp, IsTableOf, IsThere, IsWhereItIs, TableIsThere};
+ghost use Rattle.epoch_host.specs.Knowing.{KnowsBefore, before_of, length_of, prefix_of, where_is};
 ghost use Rattle.epoch_host.specs.Leading.{LeadsTo, WalksBy, WalksOn};
 ghost use Rattle.epoch_host.specs.Walking.{IsSame, MayBegin, call_due, image_of};
 
@@ -76,6 +79,7 @@ impl EpochHost {
 
     /// The epoch where the host is.
     pub fn epoch(&self) -> Option<u64>
+        ensures is { result ≡ where_is self.now }
         ensures known { (c : Shape) (h : _) (deeds : Deeds) → LeadsTo c h deeds self.now →
             IsWhereItIs c h deeds result }
     {
@@ -84,14 +88,25 @@ impl EpochHost {
 
     /// The commands learned of that epoch: the first of it, none left out.
     pub fn prefix(&self) -> &[Command]
+        ensures is { result.now ≡ prefix_of self.now }
         ensures known { (c : Shape) (h : _) (deeds : Deeds) → LeadsTo c h deeds self.now →
             (e : _) (memory : Memory) → core_in c h e deeds ≡ Running memory → result.now ≡ memory.learned }
     {
         self.walk.prefix()
     }
 
+    /// All commands of the epoch before, where the host came from there. Else none.
+    pub fn before(&self) -> &[Command]
+        ensures is { result.now ≡ before_of self.now }
+        ensures known { (c : Shape) (h : _) (deeds : Deeds) → LeadsTo c h deeds self.now → KnowsBefore c h deeds result.now }
+    {
+        self.walk.before()
+    }
+
     /// All places below this one are learned. None where the table is not there.
     pub fn length(&self) -> Option<u64>
+        ensures is { IfSome result (λ upto. upto ≡ length_of self.now) }
+        ensures only { IsSome result → IsThere self.now }
         ensures known { IfSome result (λ upto. (c : Shape) (h : _) (deeds : Deeds) → LeadsTo c h deeds self.now →
             (learned : _) × HasLearnedUpto c h deeds upto learned) }
         ensures there { IsThere self.now → IsSome result }
@@ -101,6 +116,8 @@ impl EpochHost {
 
     /// The lock table after all commands below `length`.
     pub fn table(&self) -> Option<&Table>
+        ensures is { IfSome result (λ shown. IsPictureOf shown.now (table_after (prefix_of self.now))) }
+        ensures only { IsSome result → IsThere self.now }
         ensures known { IfSome result (λ shown. (c : Shape) (h : _) (deeds : Deeds) → LeadsTo c h deeds self.now →
             (upto : _) × IsTableOf c h deeds upto shown.now) }
         ensures there { IsThere self.now → IsSome result }

@@ -11,15 +11,30 @@ use lock_command::{Command, Value, decode};
 pub enum Over {
     /// The host has not learned the epoch before.
     Unknown,
-    /// The bytes of these commands.
-    Known(Vec<Value>),
+    Known {
+        /// The bytes of the commands of the first slots.
+        values: Vec<Value>,
+        /// All commands of the epoch before. None before the first one.
+        before: Vec<Command>,
+    },
 }
 
 impl Over {
+    ghost use Rattle.epoch_host.specs.Knowing.{before_over};
     ghost use Rattle.epoch_host.specs.Submitting.{IsDueIn, Stands};
 
     pub fn is_known(&self) -> bool {
-        matches!(self, Over::Known(_))
+        matches!(self, Over::Known { .. })
+    }
+
+    /// All commands of the epoch before. None where it is not learned, and before the first epoch.
+    pub fn epoch_before(&self) -> &[Command]
+        ensures { result.now ≡ before_over self.now }
+    {
+        match self {
+            Over::Unknown => &[],
+            Over::Known { before, .. } => before,
+        }
     }
 
     /// The command that is due in a slot, if it is one of the first slots.
@@ -29,7 +44,7 @@ impl Over {
     {
         match self {
             Over::Unknown => None,
-            Over::Known(values) => decode(values.get(usize::from(slot))?),
+            Over::Known { values, .. } => decode(values.get(usize::from(slot))?),
         }
     }
 
@@ -39,7 +54,7 @@ impl Over {
     {
         match self {
             Over::Unknown => learned.iter().any(|command| command.is_submittable()),
-            Over::Known(values) => values.len() <= learned.len(),
+            Over::Known { values, .. } => values.len() <= learned.len(),
         }
     }
 }

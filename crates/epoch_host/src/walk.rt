@@ -7,8 +7,11 @@ ghost use Rattle.standings.specs.Epochs.{whole_length};
 ghost use Rattle.epoch_host.specs.declared.place.TheConstants.{EPOCHS};
 ghost use Rattle.epoch_host.specs.Ending.{AreIdle, AreSilent, Ends, HasLearnedUpto, IsDone, IsElsewhere, IsGivenUp, IsMark, IsTableOf, IsThere, IsWhereItIs, Refuses, TableIsThere, TaskGoesOn, in_epochs, in_places};
 ghost use Rattle.paxos_block.specs.Shape.{Shape};
+ghost use Rattle.lock_table.specs.Apply.{table_after};
+ghost use Rattle.lock_table.specs.Picture.{IsPictureOf};
 ghost use Rattle.host.specs.Host.{Memory, Running};
 ghost use Rattle.epoch_deeds.specs.Deeds.{Deeds, core_in};
+ghost use Rattle.epoch_host.specs.Knowing.{KnowsBefore, before_of, length_of, prefix_of, where_is};
 ghost use Rattle.epoch_host.specs.Leading.{CarriesOver, Enters, LeadsTo, WalksBy, WalksOn};
 ghost use Rattle.epoch_host.specs.Staying.{learned_of};
 ghost use Rattle.epoch_host.specs.Submitting.{IsAsked};
@@ -94,6 +97,7 @@ impl Walk {
 
     /// The epoch where the host is.
     pub fn epoch(&self) -> Option<u64>
+        ensures is { result ≡ where_is self.now }
         ensures known { (c : Shape) (h : _) (deeds : Deeds) → LeadsTo c h deeds self.now → IsWhereItIs c h deeds result }
     {
         match &self.is {
@@ -104,6 +108,7 @@ impl Walk {
 
     /// The commands learned of that epoch: the first of it, none left out.
     pub fn prefix(&self) -> &[Command]
+        ensures is { result.now ≡ prefix_of self.now }
         ensures known { (c : Shape) (h : _) (deeds : Deeds) → LeadsTo c h deeds self.now →
             (e : _) (memory : Memory) → core_in c h e deeds ≡ Running memory → result.now ≡ memory.learned }
     {
@@ -113,9 +118,22 @@ impl Walk {
         }
     }
 
+    /// All commands of the epoch before, where the host came from there. Else none.
+    pub fn before(&self) -> &[Command]
+        ensures is { result.now ≡ before_of self.now }
+        ensures known { (c : Shape) (h : _) (deeds : Deeds) → LeadsTo c h deeds self.now → KnowsBefore c h deeds result.now }
+    {
+        match &self.is {
+            Whereabouts::In(stay) => stay.over.epoch_before(),
+            _ => &[],
+        }
+    }
+
     /// All places below this one are learned. None where the table is not there.
     pub fn length(&self) -> Option<u64>
         requires { IsSound self.now }
+        ensures is { IfSome result (λ upto. upto ≡ length_of self.now) }
+        ensures only { IsSome result → IsThere self.now }
         ensures known { IfSome result (λ upto. (c : Shape) (h : _) (deeds : Deeds) → LeadsTo c h deeds self.now →
             (learned : _) × HasLearnedUpto c h deeds upto learned) }
         ensures there { IsThere self.now → IsSome result }
@@ -127,6 +145,8 @@ impl Walk {
     /// The lock table after all commands below `length`.
     pub fn table(&self) -> Option<&Table>
         requires { IsSound self.now }
+        ensures is { IfSome result (λ shown. IsPictureOf shown.now (table_after (prefix_of self.now))) }
+        ensures only { IsSome result → IsThere self.now }
         ensures known { IfSome result (λ shown. (c : Shape) (h : _) (deeds : Deeds) → LeadsTo c h deeds self.now →
             (upto : _) × IsTableOf c h deeds upto shown.now) }
         ensures there { IsThere self.now → IsSome result }
@@ -404,8 +424,10 @@ impl Walk {
             unreachable!()
         };
         let epoch = stay.epoch + 1;
-        let over = carried_over(self.alloc, stay.core.table())?;
-        if usize::from(self.config.slots()) <= over.len() {
+        let values = carried_over(self.alloc, stay.core.table())?;
+        let mut before = Vec::new(self.alloc);
+        before.extend_from_slice(stay.core.prefix())?;
+        if usize::from(self.config.slots()) <= values.len() {
             // There would be no slot for anything else.
             self.refuse(Refusal::LogFull);
             return Ok(());
@@ -413,7 +435,7 @@ impl Walk {
         self.enter(Arrival {
             epoch,
             errand: Errand::Works,
-            over: Over::Known(over),
+            over: Over::Known { values, before },
         })
     }
 
@@ -489,7 +511,10 @@ fn over_at_first(alloc: Global, epoch: u64) -> Over
     ensures { (c : _) (h : _) (deeds : _) → CarriesOver c h epoch deeds result }
 {
     if epoch == 0 {
-        Over::Known(Vec::new(alloc))
+        Over::Known {
+            values: Vec::new(alloc),
+            before: Vec::new(alloc),
+        }
     } else {
         Over::Unknown
     }

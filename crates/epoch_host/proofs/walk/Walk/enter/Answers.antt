@@ -3,7 +3,6 @@ use Rattle.std.proofs.Common.{◌≡◌, ℕ, Bool, Option, Some, None, refl, sy
 use Rattle.epoch_host.proofs.Moving.{enters, enters_none, goes_nowhere}
 use Rattle.paxos_block.specs.Shape.{Shape}
 use Rattle.host.specs.declared.task.Task.{Task}
-use Rattle.epoch_host.specs.declared.task.EpochTask.{EpochTask}
 use Rattle.epoch_host.specs.declared.walk.Whereabouts.TheVariants.{In}
 use Rattle.epoch_host.specs.Ending.{in_epochs}
 use Rattle.epoch_host.proofs.Ending.{err_any, goes_silent}

@@ -1,4 +1,4 @@
-use Rattle.std.proofs.Common.{ℕ, Bool, Option, ap, refl, ◌∙◌, subst, if◌then◌else◌, Some, None}
+use Rattle.std.proofs.Common.{ℕ, Bool, ap, refl, ◌∙◌, subst, if◌then◌else◌, Some, None}
 use Rattle.torn_block.specs.Layout.{cluster_version}
 use Rattle.paxos_block.specs.Places.{image_length}
 use Rattle.paxos_block.specs.Shape.{Shape}

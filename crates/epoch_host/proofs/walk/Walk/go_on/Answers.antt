@@ -1,4 +1,4 @@
-use Rattle.std.proofs.Common.{◌≡◌, ◌≤◌, ◌+◌, refl, sym, ◌∙◌, subst}
+use Rattle.std.proofs.Common.{◌≡◌, ◌≤◌, ◌+◌, refl, rules, sym, ◌∙◌, subst}
 use Rattle.lock_table.specs.Apply.{table_after}
 use Rattle.epoch_host.specs.declared.over.Over.TheVariants.{Known}
 use Rattle.epoch_host.specs.declared.stay.Arrival.{Arrival}
@@ -14,8 +14,11 @@ use Rattle.epoch_host.proofs.walk.Walk.go_on.Goals as goal
 pub carried_over-requires : goal.carried_over-requires
 carried_over-requires c = record { beside = shown_beside c.table.result.now (table_after c.in-In.stay.core.prefix) c.table.ensures.table }
 
-pub returns-in_err-over-clause-leads : goal.returns-in_err-over-clause-leads
-returns-in_err-over-clause-leads c = same_place c.args.self.now c.args.self.now refl refl refl
+pub returns-in_err-values-clause-leads : goal.returns-in_err-values-clause-leads
+returns-in_err-values-clause-leads c = same_place c.args.self.now c.args.self.now refl refl refl
+
+pub returns-in_err-extend_from_slice-clause-leads : goal.returns-in_err-extend_from_slice-clause-leads
+returns-in_err-extend_from_slice-clause-leads c = same_place c.args.self.now c.args.self.now refl refl refl
 
 pub returns-clause-leads : goal.returns-clause-leads
 returns-clause-leads c =
@@ -24,8 +27,9 @@ returns-clause-leads c =
     let same : s.0 ≡ c.in-In.stay = cc in
     let staying : IsStaying c.args.self.now c.in-In.stay = subst (IsStaying c.args.self.now) same s.2 in
     let full : c.in-In.stay.config.slots ≤ learned_of c.in-In.stay = subst (λ (x : Stay). x.config.slots ≤ learned_of x) same s.4 in
-    let arrival : Arrival = record { epoch = c.in-In.stay.epoch + 1; errand = Works; over = Known c.in_ok-over.over } in
-    goes_next c.args.self.now c.enter.new.self c.in-In.stay arrival c.table.result.now c.in_ok-over.over c.in-In.is full staying.sound.learned.0 c.table.ensures.table c.in_ok-over.ensures.bytes c.in_ok-over.ensures.spelled refl
+    let arrival : Arrival = record { epoch = c.in-In.stay.epoch + 1; errand = Works; over = Known c.in_ok-values.values c.extend_from_slice.new.self } in
+    let kept : c.extend_from_slice.new.self.items ≡ c.in-In.stay.core.prefix = search rules in
+    goes_next c.args.self.now c.enter.new.self c.in-In.stay arrival c.table.result.now c.in_ok-values.values c.extend_from_slice.new.self c.in-In.is full staying.sound.learned.0 c.table.ensures.table c.in_ok-values.ensures.bytes c.in_ok-values.ensures.spelled kept refl
     refl c.enter.ensures.enters
 
 pub refuse-requires : goal.refuse-requires

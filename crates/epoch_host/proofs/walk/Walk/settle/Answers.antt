@@ -1,5 +1,4 @@
-use Rattle.std.specs.Prelude.{OnOk, OnErr}
-use Rattle.std.proofs.Common.{◌≡◌, refl}
+use Rattle.std.proofs.Common.{refl}
 use Rattle.std.proofs.lemmas.Result.{on_err_weaker}
 use Rattle.epoch_host.proofs.Ending.{err_none, ok_none}
 use Rattle.epoch_host.proofs.Moving.{goes_nowhere}

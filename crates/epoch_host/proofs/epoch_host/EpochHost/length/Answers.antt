@@ -1,0 +1,8 @@
+use Rattle.std.specs.Prelude.{IsSome}
+use Rattle.std.proofs.Common.{subst}
+use Rattle.epoch_host.specs.declared.walk.Walk.{Walk}
+use Rattle.epoch_host.specs.Ending.{IsThere}
+use Rattle.epoch_host.proofs.epoch_host.EpochHost.length.Goals as goal
+
+pub returns-clause-only : goal.returns-clause-only
+returns-clause-only c = subst (λ (w : Walk). IsSome c.length.result → IsThere w) c.self.view_is c.length.ensures.only
