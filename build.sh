@@ -140,9 +140,9 @@ build() {
     return $ended
 }
 
-# check_below CRATE LOG: proves the libraries that a crate stands on, each as soon as those below it are proved. In one checkout two checks that share a library wait
-# for one another. So each is run in one of the copies of the crates in the crate's out/checks, of which there is one more than half the processors, since a check uses
-# more than one. A check begins with what those in the other copies kept, and so does `rt lib`, as long as the copies stay. All that `rt` prints goes into the log.
+# check_below CRATE FOLDER LOG: proves the libraries that a crate stands on, each as soon as those below it are proved. In one checkout two checks that share a library
+# wait for one another. So each is run in one of several copies of the crates, which are made in the folder: one more than half the processors, since a check uses more
+# than one. A check begins with what those in the other copies kept, and so does `rt lib`, as long as the copies are there. All that `rt` prints goes into the log.
 check_below() {
     local name library copy pid status failed=0 below
     local -A named=() proved=() running=() place=()
@@ -152,8 +152,8 @@ check_below() {
     done < "$top/crates.txt"
     find_below "$1"
     for ((copy = 1; copy <= $(nproc) / 2 + 1; copy++)); do
-        renew_copy "$1" "$top/crates/$1/out/checks/$copy"
-        free+=("$top/crates/$1/out/checks/$copy")
+        copy_crates "$1" "$2/$copy"
+        free+=("$2/$copy")
     done
     while true; do
         for name in "${below[@]}"; do
@@ -164,7 +164,7 @@ check_below() {
             done
             copy=${free[-1]}
             unset 'free[-1]'
-            (cd -- "$copy/crates/$name" && rt check < /dev/null) >> "$2" 2>&1 &
+            (cd -- "$copy/crates/$name" && rt check < /dev/null) >> "$3" 2>&1 &
             running[$!]=$name
             place[$!]=$copy
         done
@@ -179,12 +179,6 @@ check_below() {
         free+=("${place[$pid]}")
         unset "running[$pid]" "place[$pid]"
     done
-}
-
-# renew_copy CRATE FOLDER: copy_crates, where there may be an older copy. What checks kept there stays.
-renew_copy() {
-    [[ ! -d $2/crates ]] || find "$2/crates" -mindepth 2 -maxdepth 2 ! -name out -exec rm -r -- {} +
-    copy_crates "$1" "$2"
 }
 
 # note_proved CRATE [FILE [SUM]]: what is proved, the program or this file, has its sum beside it, and that of what it was made of, which is what is there now

@@ -49,7 +49,11 @@ prove() {
     touch -- "$out/began"
     made_of=$(sum_of_sources dlm_c)
     : > "$out/build.log"
-    check_below dlm_c "$out/build.log" && (cd -- "$crate" && rt lib < /dev/null) >> "$out/build.log" 2>&1 || fail "not built: $out/build.log says why"
+    copies=$(mktemp -d)
+    trap 'rm -rf -- "$copies"' EXIT
+    check_below dlm_c "$copies" "$out/build.log" && (cd -- "$crate" && rt lib < /dev/null) >> "$out/build.log" 2>&1 || fail "not built: $out/build.log says why"
+    rm -rf -- "$copies"
+    trap - EXIT
     touch -r "$out/began" -- "$crate/out/libdlm_c.a"
     note_proved dlm_c libdlm_c.a "$made_of"
 }
