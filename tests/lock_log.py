@@ -14,7 +14,7 @@ PROGRAM = os.path.join(TOP, "crates/dlm/out/dlm")
 MODES = ["NL", "CR", "CW", "PR", "PW", "EX"]
 CONFLICTS = {("CR", "EX"), ("CW", "PR"), ("CW", "PW"), ("CW", "EX"), ("PR", "PW"), ("PR", "EX"),
              ("PW", "PW"), ("PW", "EX"), ("EX", "EX")}
-KINDS = {1: "enqueue", 2: "convert", 3: "release", 4: "cancel", 5: "status", 6: "purge"}
+KINDS = {1: "enqueue", 2: "convert", 3: "release", 4: "cancel", 5: "status", 6: "purge", 10: "forget"}
 
 
 # WHAT THE TESTS NEED
@@ -164,7 +164,7 @@ def words_of(command):
     lock, request, gone = int.from_bytes(command[6:8], "big"), int.from_bytes(command[8:16], "big"), command[16]
     if kind not in KINDS or mode >= len(MODES) or not command[17:17 + length].isascii() or any(command[32:]):
         return 255, [command.hex()]
-    words = [KINDS[kind], str(client), str(request), str(gone if kind == 6 else lock)]
+    words = [KINDS[kind], str(client), str(request), str(gone if kind in (6, 10) else lock)]
     if kind in (1, 2):
         words.append(MODES[mode])
     if kind == 1:
@@ -216,6 +216,8 @@ class Table:
             return "19 ClientsFull"
         reply = self.carry_out(host, client, words)
         self.clients[client] = (request, reply)
+        if reply == "Forgotten":
+            self.clients.pop(int(words[3]), None)
         return reply
 
     def carry_out(self, host, client, words):
@@ -227,6 +229,8 @@ class Table:
             for r in gone:
                 self.settle(r[3])
             return f"Purged({len(gone)})"
+        if kind == "forget":
+            return "11 LockInUse" if any(r[1] == lock for r in self.locks) else "Forgotten"
         r = self.find(lock)
         if kind == "enqueue":
             mode, name = words[4], words[5]

@@ -7,7 +7,7 @@ use Rattle.byteorder.specs.Numbers.{length-bytes_high_first}
 use Rattle.lock_command.specs.declared.mode.Mode.{Mode}
 use Rattle.lock_command.specs.declared.command.Command.{Command}
 use Rattle.lock_command.specs.declared.command.Action.{Action}
-use Rattle.lock_command.specs.declared.command.Action.TheVariants.{Enqueue, Convert, Release, Cancel, Status, Purge, QuietPurge, CarryLock, CarryClient}
+use Rattle.lock_command.specs.declared.command.Action.TheVariants.{Enqueue, Convert, Release, Cancel, Status, Purge, QuietPurge, Forget, CarryLock, CarryClient}
 use Rattle.lock_command.specs.declared.state.LockState.{LockState}
 use Rattle.lock_command.specs.declared.reply.Answer.{Answer}
 use Rattle.lock_command.specs.declared.reply.LockValue.{LockValue}
@@ -166,6 +166,7 @@ module _ (host client request : ℕ) where
   long_by (Status lock) is = spelled_long host client request (fields_of (Status lock)) (omega arith) refl
   long_by (Purge purged) is = spelled_long host client request (fields_of (Purge purged)) (omega arith) refl
   long_by (QuietPurge purged) is = spelled_long host client request (fields_of (QuietPurge purged)) (omega arith) refl
+  long_by (Forget gone) is = spelled_long host client request (fields_of (Forget gone)) (omega arith) refl
   long_by (CarryLock lock name s value) is =
       let c = whole (CarryLock lock name s value) in
       let read = carried_read (lock_at (spelling c)) (name_at (spelling c)) (state_at (spelling c)) (told_at (spelling c)) lock name s value (what_is_read (CarryLock lock name s value) is) in

@@ -11,7 +11,7 @@ use Rattle.lock_command.specs.declared.mode.Mode.TheVariants.{Null, ConcurrentRe
 use Rattle.lock_command.specs.declared.number.TheConstants.{HOSTS}
 use Rattle.lock_command.specs.declared.command.Command.{Command}
 use Rattle.lock_command.specs.declared.command.Action.{Action}
-use Rattle.lock_command.specs.declared.command.Action.TheVariants.{Enqueue, Convert, Release, Cancel, Status, Purge, QuietPurge, CarryLock, CarryClient}
+use Rattle.lock_command.specs.declared.command.Action.TheVariants.{Enqueue, Convert, Release, Cancel, Status, Purge, QuietPurge, Forget, CarryLock, CarryClient}
 use Rattle.lock_command.specs.declared.state.LockState.{LockState}
 use Rattle.lock_command.specs.declared.state.LockState.TheVariants as state
 use Rattle.lock_command.specs.declared.reply.Answer.{Answer}
@@ -134,6 +134,7 @@ answer_in n told count =
     else if n == 10 then Some answer.Released
     else if n == 21 then Some answer.Cancelled
     else if n == 22 then Some (answer.Purged count)
+    else if n == 23 then Some answer.Forgotten
     else if nat_lt n 8 then (told >>= λ s. Some (answer.State s))
     else (refusal_of n >>= λ why. Some (answer.Refused why))
 
@@ -161,6 +162,7 @@ answer_at-spelled host client request answer.Granted v fits = refl
 answer_at-spelled host client request answer.Queued v fits = refl
 answer_at-spelled host client request answer.Released v fits = refl
 answer_at-spelled host client request answer.Cancelled v fits = refl
+answer_at-spelled host client request answer.Forgotten v fits = refl
 answer_at-spelled host client request (answer.Purged count) v fits =
     let f = fields_of (CarryClient (record { answer = answer.Purged count; value = v })) in
     let bound : count < 256 ^ 2 = omega (arith, fits) in
@@ -214,6 +216,7 @@ action_at-spelled host client request (Purge purged) fits =
     ap (λ (found : Option ℕ). found >>= λ h. Some (Purge h)) (passed_true _ purged (lt-ltb purged HOSTS fits))
 action_at-spelled host client request (QuietPurge purged) fits =
     ap (λ (found : Option ℕ). found >>= λ h. Some (QuietPurge h)) (passed_true _ purged (lt-ltb purged HOSTS fits))
+action_at-spelled host client request (Forget gone) fits = refl
 action_at-spelled host client request (CarryLock lock name s value) fits =
     let bytes = spelled host client request (fields_of (CarryLock lock name s value)) in
     ap (λ (found : Option ℕ). found >>= λ l. name_at bytes >>= λ n. state_at bytes >>= λ t. told_at bytes >>= λ v. Some (CarryLock l n t v)) (lock_at-spelled host client request (fields_of (CarryLock lock name s value)) fits.0)

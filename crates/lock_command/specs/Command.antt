@@ -6,7 +6,7 @@ use Rattle.lock_command.specs.declared.mode.Mode.TheVariants.{Null, ConcurrentRe
 use Rattle.lock_command.specs.declared.number.TheConstants.{HOSTS}
 use Rattle.lock_command.specs.declared.command.Command.{Command}
 use Rattle.lock_command.specs.declared.command.Action.{Action}
-use Rattle.lock_command.specs.declared.command.Action.TheVariants.{Enqueue, Convert, Release, Cancel, Status, Purge, QuietPurge, CarryLock, CarryClient}
+use Rattle.lock_command.specs.declared.command.Action.TheVariants.{Enqueue, Convert, Release, Cancel, Status, Purge, QuietPurge, Forget, CarryLock, CarryClient}
 use Rattle.lock_command.specs.declared.state.LockState.{LockState}
 use Rattle.lock_command.specs.declared.state.LockState.TheVariants as state
 use Rattle.lock_command.specs.declared.reply.Answer.{Answer}
@@ -67,6 +67,7 @@ answer_number answer.Released = 10
 answer_number (answer.Refused why) = refusal_number why
 answer_number answer.Cancelled = 21
 answer_number (answer.Purged count) = 22
+answer_number answer.Forgotten = 23
 
 -- the number of the first mode of an answer that tells a state
 abbrev pub mode_told : Answer → ℕ
@@ -87,7 +88,7 @@ abbrev pub told_bytes : Option LockValue → List ℕ
 told_bytes None = replicate LOCK_VALUE_LENGTH 0
 told_bytes (Some value) = value.bytes
 
--- a command that says only which lock it is about, or which host is purged
+-- a command that says only which lock it is about, which host is purged, or which client is forgotten
 abbrev pub bare_fields : ℕ → ℕ → ℕ → Fields
 bare_fields kind lock purged = record { kind = kind; mode = 0; flags = 0; lock = lock; purged = purged; name = []; value = value_bytes None }
 
@@ -100,6 +101,7 @@ fields_of (Cancel lock) = bare_fields 4 lock 0
 fields_of (Status lock) = bare_fields 5 lock 0
 fields_of (Purge host) = bare_fields 6 0 host
 fields_of (QuietPurge host) = bare_fields 7 0 host
+fields_of (Forget client) = bare_fields 10 0 client
 fields_of (CarryLock lock name s value) = record { kind = 8; mode = mode_number (first_mode s); flags = told_flags (Some value); lock = lock; purged = state_number s; name = name; value = value.bytes }
 fields_of (CarryClient reply) = record { kind = 9; mode = mode_told reply.answer; flags = told_flags reply.value; lock = count_told reply.answer; purged = answer_number reply.answer; name = []; value = told_bytes reply.value }
 
@@ -160,6 +162,7 @@ FitsAction (Cancel lock) = IsLock lock
 FitsAction (Status lock) = IsLock lock
 FitsAction (Purge host) = host < HOSTS
 FitsAction (QuietPurge host) = host < HOSTS
+FitsAction (Forget client) = client < 2 ^ 8
 FitsAction (CarryLock lock name s value) = IsLock lock × IsName name × IsTold (Some value)
 FitsAction (CarryClient reply) = FitsAnswer reply.answer × IsTold reply.value
 

@@ -6,7 +6,7 @@ use Rattle.lock_command.specs.declared.mode.Mode.TheVariants.{Null, ConcurrentRe
 use Rattle.lock_command.specs.declared.number.TheConstants.{HOSTS}
 use Rattle.lock_command.specs.declared.command.Command.{Command}
 use Rattle.lock_command.specs.declared.command.Action.{Action}
-use Rattle.lock_command.specs.declared.command.Action.TheVariants.{Enqueue, Convert, Release, Cancel, Status, Purge, QuietPurge, CarryLock, CarryClient}
+use Rattle.lock_command.specs.declared.command.Action.TheVariants.{Enqueue, Convert, Release, Cancel, Status, Purge, QuietPurge, Forget, CarryLock, CarryClient}
 use Rattle.lock_command.specs.declared.state.LockState.{LockState}
 use Rattle.lock_command.specs.declared.state.LockState.TheVariants as state
 use Rattle.lock_command.specs.declared.reply.Answer.{Answer}
@@ -118,6 +118,7 @@ answer_at bytes =
     else if n == 10 then Some answer.Released
     else if n == 21 then Some answer.Cancelled
     else if n == 22 then Some (answer.Purged (count_at bytes))
+    else if n == 23 then Some answer.Forgotten
     else if nat_lt n 8 then (do s ← state_at bytes; Some (answer.State s))
     else (do why ← refusal_of n; Some (answer.Refused why))
 
@@ -160,6 +161,7 @@ action_at bytes =
     else if kind == 7 then (do host ← host_of (slice_index bytes PURGED_AT); Some (QuietPurge host))
     else if kind == 8 then carried_lock_at bytes
     else if kind == 9 then carried_client_at bytes
+    else if kind == 10 then Some (Forget (slice_index bytes PURGED_AT))
     else None
 
 -- the command

@@ -59,6 +59,8 @@ pub enum Action {
     Purge(HostNumber),
     /// The same, and values stay valid. So a purge of the first layout, which has no values, stands in a log that was moved. No client asks for it.
     QuietPurge(HostNumber),
+    /// Forgets the client's last request and reply, unless the client has a lock.
+    Forget(ClientNumber),
     /// A lock as it stands: the command's client has it, and it was enqueued through the command's host. With it, the value of its
     /// name. So a log that was renewed begins. No client asks for it.
     CarryLock {

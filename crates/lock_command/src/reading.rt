@@ -142,6 +142,7 @@ fn answer_at(value: &Value) -> Option<Answer>
         10 => Some(Answer::Released),
         21 => Some(Answer::Cancelled),
         22 => Some(Answer::Purged(count_at(value))),
+        23 => Some(Answer::Forgotten),
         number => {
             if number < 8 {
                 Some(Answer::State(state_at(value)?))
@@ -211,6 +212,7 @@ fn action_at(value: &Value) -> Option<Action>
         7 => Some(Action::QuietPurge(host_of(value[PURGED_AT])?)),
         8 => carried_lock_at(value),
         9 => carried_client_at(value),
+        10 => Some(Action::Forget(ClientNumber::new(value[PURGED_AT]))),
         _ => None,
     }
 }

@@ -90,6 +90,8 @@ pub enum Answer {
     Cancelled,
     /// How many locks were taken away.
     Purged(u16),
+    /// Nothing is kept of the client any more.
+    Forgotten,
     State(LockState),
     Refused(Refusal),
 }

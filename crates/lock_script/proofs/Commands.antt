@@ -6,7 +6,7 @@ use Rattle.lock_command.specs.declared.mode.Mode.TheVariants.{Null, ConcurrentRe
 use Rattle.lock_command.specs.declared.number.TheConstants.{HOSTS}
 use Rattle.lock_command.specs.declared.command.Command.{Command}
 use Rattle.lock_command.specs.declared.command.Action.{Action}
-use Rattle.lock_command.specs.declared.command.Action.TheVariants.{Enqueue, Convert, Release, Cancel, Status, Purge, QuietPurge, CarryLock, CarryClient}
+use Rattle.lock_command.specs.declared.command.Action.TheVariants.{Enqueue, Convert, Release, Cancel, Status, Purge, QuietPurge, Forget, CarryLock, CarryClient}
 use Rattle.lock_command.specs.Name.{IsName, is_name}
 use Rattle.lock_command.specs.Command.{IsValue, FitsAction, Fits}
 use Rattle.lock_command.specs.Reading.{◌>>=◌, name_of}
@@ -198,6 +198,16 @@ host_alone kind words action named h =
     let range : host.0 < HOSTS = omega (arith, l.high) in
     subst (Asks kind words) e (record { kind_is = named; words_are = one.words_are ∙ ap (λ w. w ∷ []) l.spelled; fits = record { fits = range; said = tt } })
 
+client_alone : (kind : List ℕ) (words : List (List ℕ)) (action : Action) → kind ≡ codes "forget"
+    → ((last_word words >>= client_of) >>= λ client. Some (Forget client)) ≡ Some action → Asks kind words action
+client_alone kind words action named h =
+    let client = bound (last_word words >>= client_of) (λ client. Some (Forget client)) action h in
+    let one = one_read client_of words client.0 client.1 in
+    let l = number_in-found 0 255 one.word client.0 one.reads in
+    let e : Forget client.0 ≡ action = cc in
+    let range : client.0 < 2 ^ 8 = omega (arith, l.high) in
+    subst (Asks kind words) e (record { kind_is = named; words_are = one.words_are ∙ ap (λ w. w ∷ []) l.spelled; fits = record { fits = range; said = tt } })
+
 pub action_at-found : (kind : List ℕ) (words : List (List ℕ)) (action : Action) → action_at kind words ≡ Some action → Asks kind words action
 unfolding action_at
 action_at-found kind words action h =
@@ -213,7 +223,10 @@ action_at-found kind words action h =
               | inl p ↦ lock_alone kind words Status action (λ lock. (p.0, refl, λ fits. record { fits = fits; said = tt })) p.1
               | inr other ↦ elim (picked kind (codes "purge") _ _ action other) [
                 | inl p ↦ host_alone kind words action p.0 p.1
-                | inr other ↦ absurd (cc)
+                | inr other ↦ elim (picked kind (codes "forget") _ _ action other) [
+                  | inl p ↦ client_alone kind words action p.0 p.1
+                  | inr other ↦ absurd (cc)
+                ]
               ]
             ]
           ]
@@ -249,6 +262,7 @@ action_at-only (Cancel lock) fits said = ap (λ (found : Option ℕ). found >>= 
 action_at-only (Status lock) fits said = ap (λ (found : Option ℕ). found >>= λ l. Some (Status l)) (lock_of-only lock fits)
 action_at-only (Purge host) fits said = ap (λ (found : Option ℕ). found >>= λ h. Some (Purge h)) (number_in-only 0 (HOSTS - 1) host (omega arith) (omega arith) (omega arith))
 action_at-only (QuietPurge host) fits said = absurd said
+action_at-only (Forget client) fits said = ap (λ (found : Option ℕ). found >>= λ n. Some (Forget n)) (number_in-only 0 255 client (omega arith) (omega (arith, fits)) (omega (arith, fits)))
 action_at-only (CarryLock lock name state value) fits said = absurd said
 action_at-only (CarryClient reply) fits said = absurd said
 

@@ -9,7 +9,7 @@ use Rattle.lock_command.specs.declared.value.TheConstants.{LOCK_VALUE_LENGTH}
 use Rattle.lock_command.specs.declared.number.TheConstants.{HOSTS}
 use Rattle.lock_command.specs.declared.command.Command.{Command}
 use Rattle.lock_command.specs.declared.command.Action.{Action}
-use Rattle.lock_command.specs.declared.command.Action.TheVariants.{Enqueue, Convert, Release, Cancel, Status, Purge}
+use Rattle.lock_command.specs.declared.command.Action.TheVariants.{Enqueue, Convert, Release, Cancel, Status, Purge, Forget}
 use Rattle.lock_command.specs.Reading.{◌>>=◌, passed, name_of}
 use Rattle.lock_script.specs.declared.event.Event.TheVariants.{Start, Stop, Submit, Recover, Look, Beat, Mark, Step, Tear, FailCall, DiskCrash, DiskGone}
 use Rattle.lock_script.specs.declared.line.Line.{Line}
@@ -154,6 +154,7 @@ action_at kind words =
     else if bytes_eq kind (codes "cancel") then (do lock ← last_word words >>= lock_of; Some (Cancel lock))
     else if bytes_eq kind (codes "status") then (do lock ← last_word words >>= lock_of; Some (Status lock))
     else if bytes_eq kind (codes "purge") then (do host ← last_word words >>= host_of; Some (Purge host))
+    else if bytes_eq kind (codes "forget") then (do client ← last_word words >>= client_of; Some (Forget client))
     else None
 
 -- the command that a host submits

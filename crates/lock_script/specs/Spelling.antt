@@ -6,7 +6,7 @@ use Rattle.lock_command.specs.declared.mode.Mode.TheVariants.{Null, ConcurrentRe
 use Rattle.lock_command.specs.declared.number.TheConstants.{HOSTS}
 use Rattle.lock_command.specs.declared.command.Command.{Command}
 use Rattle.lock_command.specs.declared.command.Action.{Action}
-use Rattle.lock_command.specs.declared.command.Action.TheVariants.{Enqueue, Convert, Release, Cancel, Status, Purge, QuietPurge, CarryLock, CarryClient}
+use Rattle.lock_command.specs.declared.command.Action.TheVariants.{Enqueue, Convert, Release, Cancel, Status, Purge, QuietPurge, Forget, CarryLock, CarryClient}
 use Rattle.lock_command.specs.Command.{Fits as FitsCommand}
 use Rattle.paxos_block.specs.Shape.{Shape}
 use Rattle.lock_script.specs.declared.event.Event.{Event}
@@ -57,6 +57,7 @@ kind_word (Cancel lock) = codes "cancel"
 kind_word (Status lock) = codes "status"
 kind_word (Purge host) = codes "purge"
 kind_word (QuietPurge host) = []
+kind_word (Forget client) = codes "forget"
 kind_word (CarryLock lock name state value) = []
 kind_word (CarryClient reply) = []
 
@@ -69,6 +70,7 @@ action_words (Cancel lock) = decimal lock ∷ []
 action_words (Status lock) = decimal lock ∷ []
 action_words (Purge host) = decimal host ∷ []
 action_words (QuietPurge host) = []
+action_words (Forget client) = decimal client ∷ []
 action_words (CarryLock lock name state value) = []
 action_words (CarryClient reply) = []
 

@@ -50,6 +50,8 @@ fn action_at(kind: &[u8], words: &mut Words<'_>) -> Option<Action>
         Some(Action::Status(lock_of(words.last()?)?))
     } else if is(kind, b"purge") {
         Some(Action::Purge(host_of(words.last()?)?))
+    } else if is(kind, b"forget") {
+        Some(Action::Forget(client_of(words.last()?)?))
     } else {
         None
     }

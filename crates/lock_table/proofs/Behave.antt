@@ -1,10 +1,10 @@
 -- Two plain tables with the same locks and clients do and answer the same.
-use Rattle.std.proofs.Common.{◌≡◌, ℕ, Bool, true, false, cond, not, ◌&&◌, ◌||◌, ◌==◌, nat_lt, nat_le, List, [], ◌∷◌, Option, Some, None, map, refl, sym, ap, ◌∙◌, arith}
+use Rattle.std.proofs.Common.{◌≡◌, ℕ, Bool, true, false, cond, not, ◌&&◌, ◌||◌, ◌==◌, nat_lt, nat_le, List, [], ◌∷◌, Option, Some, None, map, refl, sym, ap, subst, ◌∙◌, arith}
 use Rattle.std.specs.List.{filter, find, fold, list_any}
 use Rattle.lock_command.specs.declared.command.Command.{Command}
 use Rattle.lock_command.specs.Command.{is_carried}
 use Rattle.lock_command.specs.declared.command.Action.{Action}
-use Rattle.lock_command.specs.declared.command.Action.TheVariants.{Enqueue, Convert, Release, Cancel, Status, Purge, QuietPurge, CarryLock, CarryClient}
+use Rattle.lock_command.specs.declared.command.Action.TheVariants.{Enqueue, Convert, Release, Cancel, Status, Purge, QuietPurge, Forget, CarryLock, CarryClient}
 use Rattle.lock_table.specs.declared.clients.TheConstants.{CLIENTS}
 use Rattle.lock_command.specs.declared.record.LockRecord.{LockRecord}
 use Rattle.lock_command.specs.declared.state.LockState.TheVariants.{Granted, Converting, Waiting}
@@ -15,7 +15,7 @@ use Rattle.lock_command.specs.declared.reply.Reply.{Reply}
 use Rattle.lock_table.specs.Values.{Values, zeros, invalid, is_downward, given, of_locked, is_granted, is_released, changed, values_after, value_of_lock, asked_value, returned}
 use Rattle.lock_command.specs.State.{is_writer}
 use Rattle.lock_command.specs.Locks.{is_lock, is_on, in_state, IsDistinct, is_through}
-use Rattle.lock_table.specs.Apply.{CommandOutcome, purged, done, Plain, Applied, is_client, kept, keeps_none, kept_after, told_again, replied, carried_out, applied_after, applied, no_locks, table_after}
+use Rattle.lock_table.specs.Apply.{CommandOutcome, purged, done, Plain, Applied, is_client, kept, keeps_none, without_client, kept_after, forgotten_by, told_again, replied, carried_out, applied_after, applied, no_locks, table_after}
 use Rattle.lock_index.specs.Printed.{HasSameLocks}
 use Rattle.lock_table.specs.Picture.{HasSameClients, HasZeros}
 use Rattle.lock_index.proofs.Parts.{find_alike, length_alike, AlikeBy-filter, AlikeBy-append}
@@ -23,7 +23,7 @@ use Rattle.lock_index.proofs.Numbered.{IsDistinct-filter, IsDistinct-put}
 use Rattle.lock_index.proofs.Alike.{same-filter, same-any, same-lock_in, same-length}
 use Rattle.lock_index.proofs.Apart.{IsDistinct-settled, IsDistinct-settled_all}
 use Rattle.lock_index.proofs.Settled.{is_among, same-settled_all}
-use Rattle.lock_table.proofs.Outcomes.{IsSameOutcome, same-enqueued, same-convert, same-release, same-cancel, same-status, same-carried, after_enqueue, after_convert, after_release, after_cancel, after_status, after_carry, after_request}
+use Rattle.lock_table.proofs.Outcomes.{IsSameOutcome, same-enqueued, same-convert, same-release, same-cancel, same-status, same-forgotten, same-carried, after_enqueue, after_convert, after_release, after_cancel, after_status, after_forget, after_carry, after_request}
 
 pub any-names : (name : List ℕ) (locks : List LockRecord) → is_among (map (λ (r : LockRecord). r.name) locks) name ≡ list_any (is_on name) locks
 any-names name [] = refl
@@ -46,6 +46,7 @@ same-done a b host client (Cancel lock) s distinct = same-cancel a b s client lo
 same-done a b host client (Status lock) s distinct = same-status a b s lock
 same-done a b host client (Purge gone) s distinct = same-purged a b gone s distinct
 same-done a b host client (QuietPurge gone) s distinct = same-purged a b gone s distinct
+same-done a b host client (Forget gone) s distinct = same-forgotten a b s gone
 same-done a b host client (CarryLock lock name state value) s distinct = same-carried a b s (record { lock = lock; client = client; host = host; name = name; state = state })
 same-done a b host client (CarryClient reply) s distinct = record { locks = s; answer = refl }
 
@@ -56,13 +57,20 @@ same-kept : (k : KnownClient) (x y : List KnownClient) → HasSameClients x y �
 unfolding client_of
 same-kept k x y s = AlikeBy-append client_of (k ∷ []) _ _ (AlikeBy-filter client_of (λ other. not (is_client k.client other)) x y s)
 
--- and so it is where a command may keep nothing
+same-without : (gone : Option ℕ) (x y : List KnownClient) → HasSameClients x y → HasSameClients (without_client gone x) (without_client gone y)
+unfolding client_of
+same-without None x y s = s
+same-without (Some n) x y s = AlikeBy-filter client_of (λ other. not (is_client n other)) x y s
+
+-- and so it is where a command may keep nothing, or forget a client
 same-kept_after : (action : Action) (k j : KnownClient) (x y : List KnownClient) → k ≡ j → HasSameClients x y → HasSameClients (kept_after action x k) (kept_after action y j)
-same-kept_after action k j x y same s n =
-    elim (keeps_none action) as (λ b. filter (is_client n) (cond b x (kept x k)) ≡ filter (is_client n) (cond b y (kept y j))) [
-      | true ↦ s n
-      | false ↦ same-kept k x y s n ∙ ap (λ (o : KnownClient). filter (is_client n) (kept y o)) same
-    ]
+same-kept_after action k j x y same s =
+    let kept_same : HasSameClients (cond (keeps_none action) x (kept x k)) (cond (keeps_none action) y (kept y k)) =
+    elim (keeps_none action) as (λ b. HasSameClients (cond b x (kept x k)) (cond b y (kept y k))) [
+      | true ↦ s
+      | false ↦ same-kept k x y s
+    ] in
+    subst (λ (o : KnownClient). HasSameClients (kept_after action x k) (kept_after action y o)) same (same-without (forgotten_by action k.reply.answer) _ _ kept_same)
 
 -- the same values are stored
 same-changed : (a b : List LockRecord) (values : Values) (action : Action) (r : Answer) → HasSameLocks a b → changed values a action r ≡ changed values b action r
@@ -73,6 +81,7 @@ same-changed a b values (Cancel lock) r s = refl
 same-changed a b values (Status lock) r s = refl
 same-changed a b values (Purge host) r s = λ i name. cond (same-any (λ r. is_on name r && (is_through host r && is_writer r.state)) a b s i) (invalid (values name)) (values name)
 same-changed a b values (QuietPurge host) r s = refl
+same-changed a b values (Forget gone) r s = refl
 same-changed a b values (CarryLock lock name state value) r s = refl
 same-changed a b values (CarryClient reply) r s = refl
 
@@ -87,6 +96,7 @@ same-asked a b values (Cancel lock) s = refl
 same-asked a b values (Status lock) s = ap (value_of_lock values) (same-lock_in lock a b s)
 same-asked a b values (Purge host) s = refl
 same-asked a b values (QuietPurge host) s = refl
+same-asked a b values (Forget gone) s = refl
 same-asked a b values (CarryLock lock name state value) s = refl
 same-asked a b values (CarryClient reply) s = refl
 
@@ -164,6 +174,7 @@ distinct-done a host client (Cancel lock) d =
 distinct-done a host client (Status lock) d = after_status LeavesDistinct a (λ why. d) lock (λ r. d)
 distinct-done a host client (Purge gone) d = IsDistinct-settled_all (map (λ (r : LockRecord). r.name) (filter (is_through gone) a)) _ (IsDistinct-filter (λ r. not (is_through gone r)) a d)
 distinct-done a host client (QuietPurge gone) d = IsDistinct-settled_all (map (λ (r : LockRecord). r.name) (filter (is_through gone) a)) _ (IsDistinct-filter (λ r. not (is_through gone r)) a d)
+distinct-done a host client (Forget gone) d = after_forget LeavesDistinct a (λ why. d) gone d
 distinct-done a host client (CarryLock lock name state value) d =
     let new : LockRecord = record { lock = lock; client = client; host = host; name = name; state = state } in
     after_carry LeavesDistinct a (λ why. d) new (λ place. IsDistinct-put a new d)
@@ -207,5 +218,6 @@ told_asked (Cancel lock) r asked = refl
 told_asked (Status lock) r asked = refl
 told_asked (Purge host) r asked = refl
 told_asked (QuietPurge host) r asked = refl
+told_asked (Forget gone) r asked = refl
 told_asked (CarryLock lock name state value) r asked = refl
 told_asked (CarryClient reply) r asked = let impossible : ⊥ = cc in absurd impossible

@@ -8,7 +8,7 @@ use Rattle.lock_command.specs.Name.{same_name}
 use Rattle.lock_command.specs.declared.command.Command.{Command}
 use Rattle.lock_command.specs.Command.{is_carried}
 use Rattle.lock_command.specs.declared.command.Action.{Action}
-use Rattle.lock_command.specs.declared.command.Action.TheVariants.{Enqueue, Convert, Release, Cancel, Status, Purge, QuietPurge, CarryLock, CarryClient}
+use Rattle.lock_command.specs.declared.command.Action.TheVariants.{Enqueue, Convert, Release, Cancel, Status, Purge, QuietPurge, Forget, CarryLock, CarryClient}
 use Rattle.lock_command.specs.declared.record.LockRecord.{LockRecord}
 use Rattle.lock_command.specs.declared.state.LockState.{LockState}
 use Rattle.lock_command.specs.declared.state.LockState.TheVariants.{Granted, Converting, Waiting}
@@ -25,7 +25,7 @@ use Rattle.lock_index.proofs.Apart.{on, and_first, name_is, same_name-itself, ad
 use Rattle.lock_index.proofs.Queued.{head_on_name}
 use Rattle.lock_index.proofs.Settled.{settled_is_settled, is_among, settled_all-on}
 use Rattle.lock_table.proofs.Behave.{any-names, distinct-done}
-use Rattle.lock_table.proofs.Outcomes.{after_enqueue, after_convert, after_release, after_cancel, after_status, after_request}
+use Rattle.lock_table.proofs.Outcomes.{after_enqueue, after_convert, after_release, after_cancel, after_status, after_forget, after_request}
 use Rattle.lock_table.proofs.Reachable.{first_asked}
 
 find_within : (P Q : LockRecord → Bool) → ((r : LockRecord) → P r ≡ true → Q r ≡ true) → (xs : List LockRecord) → find P (filter Q xs) ≡ find P xs
@@ -291,6 +291,7 @@ calm-done a host client (Cancel lock) asked distinct before =
 calm-done a host client (Status lock) asked distinct before = after_status HasCalm a (λ why. before) lock (λ r. before)
 calm-done a host client (Purge gone) asked distinct before = calm-purged a gone distinct before
 calm-done a host client (QuietPurge gone) asked distinct before = calm-purged a gone distinct before
+calm-done a host client (Forget gone) asked distinct before = after_forget HasCalm a (λ why. before) gone before
 calm-done a host client (CarryLock lock name state value) asked distinct before = let impossible : ⊥ = cc in absurd impossible
 calm-done a host client (CarryClient reply) asked distinct before = before
 

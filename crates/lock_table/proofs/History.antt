@@ -6,7 +6,7 @@ use Rattle.lock_command.specs.Name.{same_name}
 use Rattle.lock_command.specs.declared.command.Command.{Command}
 use Rattle.lock_command.specs.Command.{is_carried}
 use Rattle.lock_command.specs.declared.command.Action.{Action}
-use Rattle.lock_command.specs.declared.command.Action.TheVariants.{Enqueue, Convert, Release, Cancel, Status, Purge, QuietPurge, CarryLock, CarryClient}
+use Rattle.lock_command.specs.declared.command.Action.TheVariants.{Enqueue, Convert, Release, Cancel, Status, Purge, QuietPurge, Forget, CarryLock, CarryClient}
 use Rattle.lock_table.specs.declared.clients.TheConstants.{CLIENTS}
 use Rattle.lock_command.specs.declared.record.LockRecord.{LockRecord}
 use Rattle.lock_command.specs.declared.state.LockState.{LockState}
@@ -103,6 +103,7 @@ changed_is values locks (Cancel lock) a name asked = stays (values name)
 changed_is values locks (Status lock) a name asked = stays (values name)
 changed_is values locks (Purge host) a name asked = spoils (list_any (λ r. is_on name r && (is_through host r && is_writer r.state)) locks) (values name)
 changed_is values locks (QuietPurge host) a name asked = stays (values name)
+changed_is values locks (Forget gone) a name asked = stays (values name)
 changed_is values locks (CarryLock lock on_name state value) a name asked = let impossible : ⊥ = cc in absurd impossible
 changed_is values locks (CarryClient reply) a name asked = stays (values name)
 

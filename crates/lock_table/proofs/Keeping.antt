@@ -5,7 +5,7 @@ use Rattle.std.proofs.lemmas.List.Folds.{list_any-append}
 use Rattle.lock_command.specs.declared.mode.Mode.{Mode}
 use Rattle.lock_command.specs.Name.{same_name}
 use Rattle.lock_command.specs.declared.command.Action.{Action}
-use Rattle.lock_command.specs.declared.command.Action.TheVariants.{Enqueue, Convert, Release, Cancel, Status, Purge, QuietPurge, CarryLock, CarryClient}
+use Rattle.lock_command.specs.declared.command.Action.TheVariants.{Enqueue, Convert, Release, Cancel, Status, Purge, QuietPurge, Forget, CarryLock, CarryClient}
 use Rattle.lock_command.specs.declared.record.LockRecord.{LockRecord}
 use Rattle.lock_command.specs.declared.state.LockState.{LockState}
 use Rattle.lock_command.specs.declared.state.LockState.TheVariants.{Granted, Converting, Waiting}
@@ -24,7 +24,7 @@ use Rattle.lock_index.proofs.Apart.{on, name_is, on-put_apart, on-without_apart,
 use Rattle.lock_table.proofs.Heads.{own_on}
 use Rattle.lock_table.proofs.Quiet.{same_name-sym}
 use Rattle.lock_index.proofs.Shown.{without_new}
-use Rattle.lock_table.proofs.Outcomes.{after_enqueue, after_convert, after_release, after_cancel, after_status, after_carry}
+use Rattle.lock_table.proofs.Outcomes.{after_enqueue, after_convert, after_release, after_cancel, after_status, after_forget, after_carry}
 
 -- the name has a lock
 Has : List ℕ → List LockRecord → Type 0
@@ -96,6 +96,7 @@ keeps_locks name a host client (Cancel lock) distinct has still =
 keeps_locks name a host client (Status lock) distinct has still = after_status (HasAfter name) a (λ why. has) lock (λ r. has)
 keeps_locks name a host client (Purge gone) distinct has still = let impossible : ⊥ = cc in absurd impossible
 keeps_locks name a host client (QuietPurge gone) distinct has still = let impossible : ⊥ = cc in absurd impossible
+keeps_locks name a host client (Forget gone) distinct has still = after_forget (HasAfter name) a (λ why. has) gone has
 keeps_locks name a host client (CarryLock lock on_name state value) distinct has still =
     let new : LockRecord = record { lock = lock; client = client; host = host; name = on_name; state = state } in
     after_carry (HasAfter name) a (λ why. has) new (λ place. new_keeps name new a place.free has)

@@ -1,14 +1,17 @@
--- A client that is known stays known, and its old requests change nothing.
-use Rattle.std.proofs.Common.{◌≡◌, ◌≤◌, ◌<◌, ℕ, true, false, cond, not, nat_lt, ◌==◌, List, [], ◌∷◌, Option, Some, None, refl, sym, ap, ◌∙◌, arith}
-use Rattle.std.specs.List.{filter, find, fold}
+-- A client that is known stays known until it is forgotten, and its old requests change nothing.
+use Rattle.std.proofs.Common.{◌≡◌, ◌≤◌, ◌<◌, ℕ, true, false, cond, not, nat_lt, ◌&&◌, ◌==◌, List, [], ◌∷◌, Option, Some, None, refl, sym, ap, ◌∙◌, arith}
+use Rattle.std.specs.List.{filter, find, fold, list_all}
 use Rattle.std.proofs.lemmas.Bool.{eqb-true, eq-eqb}
 use Rattle.std.proofs.lemmas.Bool.Decides.{nat_tests}
 use Rattle.lock_command.specs.declared.command.Command.{Command}
 use Rattle.lock_command.specs.declared.command.Action.{Action}
+use Rattle.lock_command.specs.declared.command.Action.TheVariants.{Enqueue, Convert, Release, Cancel, Status, Purge, QuietPurge, Forget, CarryLock, CarryClient}
+use Rattle.lock_command.specs.declared.reply.Answer.{Answer}
 use Rattle.lock_table.specs.declared.known_client.KnownClient.{KnownClient}
 use Rattle.lock_command.specs.Locks.{option_or}
-use Rattle.lock_table.specs.Apply.{Plain, Applied, is_client, kept, keeps_none, kept_after, carried_out, applied}
-use Rattle.lock_table.specs.Carrying.{IsKnownFrom}
+use Rattle.lock_table.specs.Apply.{Plain, Applied, is_client, kept, keeps_none, forgotten_by, without_client, kept_after, carried_out, applied}
+use Rattle.lock_table.specs.Values.{is_forgotten}
+use Rattle.lock_table.specs.Carrying.{IsKnownFrom, asks_to_forget, LeaveKnown}
 use Rattle.lock_table.proofs.Carrying.{unknown}
 use Rattle.lock_table.proofs.Quiet.{find-append}
 use Rattle.lock_table.proofs.Outcomes.{after_request}
@@ -60,45 +63,71 @@ kept_other client clients k differ =
     ∙ or_none (find (is_client client) clients)
 
 module _ (client request : ℕ) where
-  stays_other : (action : Action) (clients : List KnownClient) (k : KnownClient) → (k.client == client) ≡ false → IsKnownFrom client request clients → IsKnownFrom client request (kept_after action clients k)
-  stays_other action clients k differ was =
-      elim (keeps_none action) as (λ b. IsKnownFrom client request (cond b clients (kept clients k))) [
+  -- where another client is forgotten, or none
+  stays_without : (action : Action) (a : Answer) (clients : List KnownClient) → asks_to_forget client action ≡ false → IsKnownFrom client request clients → IsKnownFrom client request (without_client (forgotten_by action a) clients)
+  stays_without (Enqueue lock name mode no_queue) a clients still was = was
+  stays_without (Convert lock mode no_queue value) a clients still was = was
+  stays_without (Release lock value) a clients still was = was
+  stays_without (Cancel lock) a clients still was = was
+  stays_without (Status lock) a clients still was = was
+  stays_without (Purge host) a clients still was = was
+  stays_without (QuietPurge host) a clients still was = was
+  stays_without (Forget gone) a clients still was =
+      elim (is_forgotten a) as (λ b. IsKnownFrom client request (without_client (cond b (Some gone) None) clients)) [
+        | true ↦ (was.0, others_find client gone clients still ∙ was.1, was.2)
+        | false ↦ was
+      ]
+  stays_without (CarryLock lock name state value) a clients still was = was
+  stays_without (CarryClient reply) a clients still was = was
+
+  stays_other : (action : Action) (clients : List KnownClient) (k : KnownClient) → (k.client == client) ≡ false → asks_to_forget client action ≡ false → IsKnownFrom client request clients → IsKnownFrom client request (kept_after action clients k)
+  stays_other action clients k differ still was = stays_without action k.reply.answer _ still
+      (elim (keeps_none action) as (λ b. IsKnownFrom client request (cond b clients (kept clients k))) [
         | true ↦ was
         | false ↦ (was.0, kept_other client clients k differ ∙ was.1, was.2)
-      ]
+      ])
 
-  stays_own : (action : Action) (clients : List KnownClient) (k : KnownClient) → k.client ≡ client → request ≤ k.request → IsKnownFrom client request clients → IsKnownFrom client request (kept_after action clients k)
-  stays_own action clients k own no_lower was =
-      elim (keeps_none action) as (λ b. IsKnownFrom client request (cond b clients (kept clients k))) [
+  stays_own : (action : Action) (clients : List KnownClient) (k : KnownClient) → k.client ≡ client → request ≤ k.request → asks_to_forget client action ≡ false → IsKnownFrom client request clients → IsKnownFrom client request (kept_after action clients k)
+  stays_own action clients k own no_lower still was = stays_without action k.reply.answer _ still
+      (elim (keeps_none action) as (λ b. IsKnownFrom client request (cond b clients (kept clients k))) [
         | true ↦ was
         | false ↦ (k, ap (λ n. find (is_client n) (kept clients k)) (sym own) ∙ kept_own clients k, no_lower)
-      ]
+      ])
 
   IsKnownAfter : Applied → Type 0
   IsKnownAfter x = IsKnownFrom client request x.table.clients
 
-  stays-applied : (t : Plain) (c : Command) → IsKnownFrom client request t.clients → IsKnownFrom client request (applied t c).table.clients
+  stays-applied : (t : Plain) (c : Command) → asks_to_forget client c.action ≡ false → IsKnownFrom client request t.clients → IsKnownFrom client request (applied t c).table.clients
   unfolding IsKnownAfter
-  stays-applied t c was = after_request IsKnownAfter t c (λ reply. was)
+  stays-applied t c still was = after_request IsKnownAfter t c (λ reply. was)
       (λ is room. elim (c.client == client) as (λ b. (c.client == client) ≡ b → IsKnownAfter (carried_out t c)) [
         | true ↦ λ own.
             let some : None ≡ Some was.0 = sym is ∙ ap (λ n. find (is_client n) t.clients) (eqb-true c.client client own) ∙ was.1 in
             let impossible : ⊥ = cc in absurd impossible
-        | false ↦ λ differ. stays_other c.action t.clients _ differ was
+        | false ↦ λ differ. stays_other c.action t.clients _ differ still was
       ] refl)
       (λ k is later. elim (c.client == client) as (λ b. (c.client == client) ≡ b → IsKnownAfter (carried_out t c)) [
         | true ↦ λ own.
             let found : Some k ≡ Some was.0 = sym is ∙ ap (λ n. find (is_client n) t.clients) (eqb-true c.client client own) ∙ was.1 in
             let same : k ≡ was.0 = cc in
             let lower : k.request ≡ was.0.request = ap (λ (o : KnownClient). o.request) same in
-            stays_own c.action t.clients _ (eqb-true c.client client own) (omega (arith, was.2, lower, later)) was
-        | false ↦ λ differ. stays_other c.action t.clients _ differ was
+            stays_own c.action t.clients _ (eqb-true c.client client own) (omega (arith, was.2, lower, later)) still was
+        | false ↦ λ differ. stays_other c.action t.clients _ differ still was
       ] refl)
 
-  pub stays_known_from : (commands : List Command) (t : Plain) → IsKnownFrom client request t.clients → IsKnownFrom client request (fold (λ u c. (applied u c).table) t commands).clients
-  stays_known_from [] t was = was
-  stays_known_from (c ∷ commands) t was = stays_known_from commands (applied t c).table (stays-applied t c was)
+  first_leaves : (c : Command) (commands : List Command) → LeaveKnown client (c ∷ commands) → (asks_to_forget client c.action ≡ false) × LeaveKnown client commands
+  first_leaves c commands all =
+      elim (asks_to_forget client c.action) as (λ b. (not b && list_all (λ (d : Command). not (asks_to_forget client d.action)) commands) ≡ true → (b ≡ false) × LeaveKnown client commands) [
+        | true ↦ λ h. let impossible : ⊥ = cc in absurd impossible
+        | false ↦ λ h. (refl, h)
+      ] all
 
--- so it is after any commands
-pub known_stays : (commands : List Command) (t : Plain) (client request : ℕ) → IsKnownFrom client request t.clients → IsKnownFrom client request (fold (λ u c. (applied u c).table) t commands).clients
-known_stays commands t client request was = stays_known_from client request commands t was
+  pub stays_known_from : (commands : List Command) (t : Plain) → LeaveKnown client commands → IsKnownFrom client request t.clients → IsKnownFrom client request (fold (λ u c. (applied u c).table) t commands).clients
+  stays_known_from [] t all was = was
+  stays_known_from (c ∷ commands) t all was =
+      let parts = first_leaves c commands all in
+      stays_known_from commands (applied t c).table parts.1 (stays-applied t c parts.0 was)
+
+-- so it is after any commands that leave it
+pub known_stays : (commands : List Command) (t : Plain) (client request : ℕ) → LeaveKnown client commands → IsKnownFrom client request t.clients → IsKnownFrom client request (fold (λ u c. (applied u c).table) t commands).clients
+known_stays commands t client request all was = stays_known_from client request commands t all was

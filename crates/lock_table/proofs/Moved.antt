@@ -9,9 +9,10 @@ use Rattle.lock_command.specs.Old.{same_action, upgraded_action, upgraded}
 use Rattle.lock_table.specs.declared.clients.TheConstants.{CLIENTS}
 use Rattle.lock_command.specs.declared.record.LockRecord.{LockRecord}
 use Rattle.lock_table.specs.declared.known_client.KnownClient.{KnownClient}
+use Rattle.lock_command.specs.declared.reply.Answer.{Answer}
 use Rattle.lock_command.specs.declared.reply.Reply.{Reply}
 use Rattle.lock_command.specs.declared.reply.Refusal.TheVariants as refusal
-use Rattle.lock_table.specs.Apply.{Applied, done, is_client, kept, keeps_none, kept_after, told_again, replied, carried_out, unchanged, refusing, applied_after, applied, table_after}
+use Rattle.lock_table.specs.Apply.{Applied, done, is_client, kept, keeps_none, forgotten_by, without_client, kept_after, told_again, replied, carried_out, unchanged, refusing, applied_after, applied, table_after}
 use Rattle.lock_table.specs.Old.{OldClient, OldTable, OldApplied, is_old_client, old_carried_out, old_applied_after, old_applied, old_table_after, with_zeros, known_again, again}
 use Rattle.lock_table.specs.Stored.{value_in, gives_nothing}
 use Rattle.lock_table.specs.Values.{asked_value, returned, values_after, zeros}
@@ -23,20 +24,21 @@ lifted x = record { table = again x.table; reply = with_zeros x.answer }
 
 -- ONE COMMAND
 
--- the action of today does the same to the locks, gives no value, is told what it did and is kept of its client
+-- the action of today does the same to the locks, gives no value, is told what it did, is kept of its client and forgets none
 record IsAlike (locks : List LockRecord) (host client : ℕ) (action : OldAction) : Type 0 where
   does : done locks host client (upgraded_action action) ≡ done locks host client (same_action action)
   gives : gives_nothing (upgraded_action action) ≡ true
   told : (r : Reply) → told_again (upgraded_action action) r ≡ r
   is_kept : keeps_none (upgraded_action action) ≡ false
+  forgets : (a : Answer) → forgotten_by (upgraded_action action) a ≡ None
 
 alike : (locks : List LockRecord) (host client : ℕ) (action : OldAction) → IsAlike locks host client action
-alike locks host client (Enqueue lock name mode no_queue) = record { does = refl; gives = refl; told = λ r. refl; is_kept = refl }
-alike locks host client (Convert lock mode no_queue) = record { does = refl; gives = refl; told = λ r. refl; is_kept = refl }
-alike locks host client (Release lock) = record { does = refl; gives = refl; told = λ r. refl; is_kept = refl }
-alike locks host client (Cancel lock) = record { does = refl; gives = refl; told = λ r. refl; is_kept = refl }
-alike locks host client (Status lock) = record { does = refl; gives = refl; told = λ r. refl; is_kept = refl }
-alike locks host client (Purge gone) = record { does = refl; gives = refl; told = λ r. refl; is_kept = refl }
+alike locks host client (Enqueue lock name mode no_queue) = record { does = refl; gives = refl; told = λ r. refl; is_kept = refl; forgets = λ a. refl }
+alike locks host client (Convert lock mode no_queue) = record { does = refl; gives = refl; told = λ r. refl; is_kept = refl; forgets = λ a. refl }
+alike locks host client (Release lock) = record { does = refl; gives = refl; told = λ r. refl; is_kept = refl; forgets = λ a. refl }
+alike locks host client (Cancel lock) = record { does = refl; gives = refl; told = λ r. refl; is_kept = refl; forgets = λ a. refl }
+alike locks host client (Status lock) = record { does = refl; gives = refl; told = λ r. refl; is_kept = refl; forgets = λ a. refl }
+alike locks host client (Purge gone) = record { does = refl; gives = refl; told = λ r. refl; is_kept = refl; forgets = λ a. refl }
 
 filter_again : (client : ℕ) (clients : List OldClient) → filter (λ k. not (is_client client k)) (map known_again clients) ≡ map known_again (filter (λ k. not (is_old_client client k)) clients)
 filter_again client [] = refl
@@ -74,7 +76,8 @@ carried_again t c =
     let others = filter (λ k. not (is_old_client c.client k)) t.clients in
     let clients : kept_after action (map known_again t.clients) (record { client = c.client; request = c.request; reply = replied (values_after (value_in []) t.locks outcome.locks action outcome.answer) t.locks action outcome.answer })
     ≡ map known_again (others ++ last ∷ []) =
-    ap (λ b. cond b (map known_again t.clients) (kept (map known_again t.clients) (record { client = c.client; request = c.request; reply = replied (values_after (value_in []) t.locks outcome.locks action outcome.answer) t.locks action outcome.answer }))) is.is_kept
+    ap (λ o. without_client o (cond (keeps_none action) (map known_again t.clients) (kept (map known_again t.clients) (record { client = c.client; request = c.request; reply = replied (values_after (value_in []) t.locks outcome.locks action outcome.answer) t.locks action outcome.answer })))) (is.forgets _)
+    ∙ ap (λ b. cond b (map known_again t.clients) (kept (map known_again t.clients) (record { client = c.client; request = c.request; reply = replied (values_after (value_in []) t.locks outcome.locks action outcome.answer) t.locks action outcome.answer }))) is.is_kept
     ∙ ap (λ (r : Reply). filter (λ k. not (is_client c.client k)) (map known_again t.clients) ++ record { client = c.client; request = c.request; reply = r } ∷ []) reply
     ∙ ap (λ l. l ++ known_again last ∷ []) (filter_again c.client t.clients)
     ∙ sym (map-append known_again others (last ∷ [])) in

@@ -18,14 +18,21 @@ use Rattle.lock_command.specs.declared.record.TheConstants.{LOCKS}
 use Rattle.lock_command.specs.declared.record.LockRecord.{LockRecord}
 use Rattle.lock_command.specs.Locks.{is_lock, in_state, lock_in, without, put, has_queue, admits, settled}
 use Rattle.lock_index.specs.Printed.{HasSameLocks}
-use Rattle.lock_index.proofs.Alike.{same-filter, same-put, same-lock_in, same-length, same-admits, same-has_queue, same-settled}
-use Rattle.lock_table.specs.Apply.{CommandOutcome, refused, with_place, enqueued, converted, released, cancelled, with_own, convert_own, release_own, cancel_own, told, carried, Plain, Applied, is_client, carried_out, unchanged, applied_after, applied}
+use Rattle.lock_index.proofs.Alike.{same-any, same-filter, same-put, same-lock_in, same-length, same-admits, same-has_queue, same-settled}
+use Rattle.lock_table.specs.Apply.{CommandOutcome, refused, with_place, enqueued, converted, released, cancelled, with_own, convert_own, release_own, cancel_own, told, has_locks, forgotten, carried, Plain, Applied, is_client, carried_out, unchanged, applied_after, applied}
 
 pub either : {A : Type 0} (P : A → Type 0) (b : Bool) (x y : A) → (b ≡ true → P x) → (b ≡ false → P y) → P (cond b x y)
 either P true x y held refuted = held refl
 either P false x y held refuted = refuted refl
 
 -- WHAT A COMMAND KEEPS
+
+-- to forget a client, or to refuse that, changes no lock
+pub forgotten_locks : (a : List LockRecord) (gone : ℕ) → (forgotten a gone).locks ≡ a
+forgotten_locks a gone = elim (has_locks a gone) as (λ b. (cond b (refused a refusal.LockInUse) (record { locks = a; answer = answer.Forgotten })).locks ≡ a) [
+  | true ↦ refl
+  | false ↦ refl
+]
 
 -- a lock number that is free, and room for one more lock
 pub record HasPlace (locks : List LockRecord) (lock : ℕ) : Type 0 where
@@ -124,6 +131,9 @@ module _ (P : CommandOutcome → Type 0) (a : List LockRecord) (no_change : (why
       by_found None = no_change refusal.NoSuchLock
       by_found (Some r) = effect r
 
+  pub after_forget : (gone : ℕ) → P (record { locks = a; answer = answer.Forgotten }) → P (forgotten a gone)
+  after_forget gone effect = either P (has_locks a gone) _ _ (λ _. no_change refusal.LockInUse) (λ _. effect)
+
 -- what holds wherever the client decides alone holds after a command, if it holds after one that is carried out
 module _ (P : Applied → Type 0) (t : Plain) (c : Command) (no_change : (reply : Reply) → P (unchanged t reply)) where
   pub after_request : (find (is_client c.client) t.clients ≡ None → length t.clients < CLIENTS → P (carried_out t c))
@@ -206,6 +216,9 @@ module _ (a b : List LockRecord) (s : HasSameLocks a b) where
       by_found : (found : Option LockRecord) → IsSameOutcome (told a found) (told b found)
       by_found None = both_refuse refusal.NoSuchLock
       by_found (Some r) = answered a b (answer.State r.state) s
+
+  pub same-forgotten : (gone : ℕ) → IsSameOutcome (forgotten a gone) (forgotten b gone)
+  same-forgotten gone = by_test _ _ _ _ _ _ (same-any (λ (r : LockRecord). r.client == gone) a b s) (both_refuse refusal.LockInUse) (answered _ _ answer.Forgotten s)
 
   pub same-carried : (r : LockRecord) → IsSameOutcome (carried a r) (carried b r)
   same-carried r = same-place r.lock _ _ (answered _ _ (answer.State r.state) (same-put r a b s))

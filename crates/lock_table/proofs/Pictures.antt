@@ -1,6 +1,6 @@
 -- The picture of a plain table, and what a command makes of it.
 use Rattle.std.proofs.Common.{◌≡◌, ℕ, true, false, ◌||◌, List, [], ◌∷◌, refl, subst, sym, ap, ◌∙◌, arith}
-use Rattle.std.specs.List.{list_any}
+use Rattle.std.specs.List.{filter, list_any}
 use Rattle.std.specs.Ordering.{is_lt, nat_cmp}
 use Rattle.std.specs.Cmp.{IsStrictWeakOrder}
 use Rattle.std.proofs.lemmas.Bool.{eqb-true}
@@ -26,6 +26,11 @@ use Rattle.lock_index.proofs.Cuts.{in_order_sorted}
 pub client_order : IsStrictWeakOrder (λ a b. is_lt (client_cmp a b))
 client_order = ranks_by nat_cmp_total (λ (k : KnownClient). k.client)
 
+-- no client changes its records
+pub in_client_order : (client : ℕ) (clients : List KnownClient) → filter (is_client client) (in_order client_cmp clients) ≡ filter (is_client client) clients
+in_client_order client = filter-in_order client_cmp client_order (is_client client) (λ x z one two.
+    ap is_lt (ap (λ n. nat_cmp n z.client) (eqb-true x.client client one ∙ sym (eqb-true z.client client two)) ∙ tied_itself nat_cmp_total z.client))
+
 pub picture_of_pictured : (plain : Plain) → IsDistinct plain.locks → HasZeros plain.locks plain.values → IsPictureOf (pictured plain) plain
 unfolding pictured
 picture_of_pictured plain distinct has =
@@ -35,8 +40,7 @@ picture_of_pictured plain distinct has =
       printed = IsSorted-in_order printed_cmp printed_order plain.locks;
       values = refl;
       unlocked = λ name none. has name (sym (same-any (is_on name) (in_order printed_cmp plain.locks) plain.locks locks) ∙ none);
-      clients = λ client. filter-in_order client_cmp client_order (is_client client) (λ x z one two.
-          ap is_lt (ap (λ n. nat_cmp n z.client) (eqb-true x.client client one ∙ sym (eqb-true z.client client two)) ∙ tied_itself nat_cmp_total z.client)) plain.clients;
+      clients = λ client. in_client_order client plain.clients;
       by_number = IsSorted-in_order client_cmp client_order plain.clients;
     }
 

@@ -1,5 +1,5 @@
 -- No table that commands can reach has more locks or clients than there is room for, and no client twice.
-use Rattle.std.proofs.Common.{◌≡◌, ◌≤◌, ◌<◌, ◌+◌, ◌⊎◌, inl, inr, ℕ, Bool, true, false, cond, not, ◌==◌, List, [], ◌∷◌, ◌++◌, length, Some, map, refl, sym, ap, ◌∙◌, arith, length-append}
+use Rattle.std.proofs.Common.{◌≡◌, ◌≤◌, ◌<◌, ◌+◌, ◌⊎◌, inl, inr, ℕ, Bool, true, false, cond, not, ◌==◌, List, [], ◌∷◌, ◌++◌, length, Option, Some, None, map, refl, sym, ap, ◌∙◌, arith, length-append}
 use Rattle.std.specs.List.{filter, find, fold}
 use Rattle.std.proofs.lemmas.Bool.{eqb-true}
 use Rattle.std.proofs.lemmas.Bool.Decides.{nat_tests}
@@ -7,7 +7,7 @@ use Rattle.std.proofs.lemmas.List.Elements.{filter-append}
 use Rattle.lock_command.specs.declared.mode.Mode.{Mode}
 use Rattle.lock_command.specs.declared.command.Command.{Command}
 use Rattle.lock_command.specs.declared.command.Action.{Action}
-use Rattle.lock_command.specs.declared.command.Action.TheVariants.{Enqueue, Convert, Release, Cancel, Status, Purge, QuietPurge, CarryLock, CarryClient}
+use Rattle.lock_command.specs.declared.command.Action.TheVariants.{Enqueue, Convert, Release, Cancel, Status, Purge, QuietPurge, Forget, CarryLock, CarryClient}
 use Rattle.lock_command.specs.declared.state.LockState.TheVariants.{Granted, Converting, Waiting}
 use Rattle.lock_table.specs.declared.clients.TheConstants.{CLIENTS}
 use Rattle.lock_command.specs.declared.record.TheConstants.{LOCKS}
@@ -15,11 +15,11 @@ use Rattle.lock_command.specs.declared.record.LockRecord.{LockRecord}
 use Rattle.lock_table.specs.declared.known_client.KnownClient.{KnownClient}
 use Rattle.lock_command.specs.State.{goal_of}
 use Rattle.lock_command.specs.Locks.{is_lock, is_through, in_state, lock_in, without, put, converts_on, waits_on, conversions, waiting, queue, admits, granted, grant_from, settled, settled_all}
-use Rattle.lock_table.specs.Apply.{CommandOutcome, purged, done, Plain, Applied, is_client, kept, keeps_none, kept_after, carried_out, applied, no_locks, table_after}
+use Rattle.lock_table.specs.Apply.{CommandOutcome, purged, done, Plain, Applied, is_client, kept, keeps_none, forgotten_by, without_client, kept_after, carried_out, applied, no_locks, table_after}
 use Rattle.lock_index.proofs.Parts.{length_parts}
 use Rattle.lock_index.proofs.Numbered.{numbered, numbered-cons, numbered-append, numbered-filter}
 use Rattle.lock_table.proofs.Quiet.{found_numbered}
-use Rattle.lock_table.proofs.Outcomes.{after_enqueue, after_convert, after_release, after_cancel, after_status, after_carry, after_request}
+use Rattle.lock_table.proofs.Outcomes.{after_enqueue, after_convert, after_release, after_cancel, after_status, after_forget, after_carry, after_request}
 
 -- LOCKS
 
@@ -110,6 +110,7 @@ few-done a host client (Cancel lock) few =
 few-done a host client (Status lock) few = after_status IsFew a (λ why. few) lock (λ r. few)
 few-done a host client (Purge gone) few = few-purged a gone few
 few-done a host client (QuietPurge gone) few = few-purged a gone few
+few-done a host client (Forget gone) few = after_forget IsFew a (λ why. few) gone few
 few-done a host client (CarryLock lock name state value) few =
     let new : LockRecord = record { lock = lock; client = client; host = host; name = name; state = state } in
     after_carry IsFew a (λ why. few) new (λ place. omega (arith, length-put a new, place.room))
@@ -176,12 +177,18 @@ found_known client (x ∷ xs) k h =
       | false ↦ λ e. found_known client xs k e
     ] h
 
+few-without_client : (gone : Option ℕ) (xs : List KnownClient) → AreFewClients xs → AreFewClients (without_client gone xs)
+few-without_client None xs few = few
+few-without_client (Some n) xs few =
+    let stays : KnownClient → Bool = λ k. not (is_client n k) in
+    record { once = λ client. omega (arith, few.once client, known_less stays client xs); few = omega (arith, few.few, length_parts stays xs) }
+
 few-kept : (action : Action) (xs : List KnownClient) (k : KnownClient) → AreFewClients xs → (1 ≤ known k.client xs) ⊎ (length xs < CLIENTS) → AreFewClients (kept_after action xs k)
-few-kept action xs k few room =
-    elim (keeps_none action) as (λ b. AreFewClients (cond b xs (kept xs k))) [
+few-kept action xs k few room = few-without_client (forgotten_by action k.reply.answer) _
+    (elim (keeps_none action) as (λ b. AreFewClients (cond b xs (kept xs k))) [
       | true ↦ few
       | false ↦ record { once = once_kept xs k few.once; few = room_kept room }
-    ]
+    ])
   where
     room_kept : (1 ≤ known k.client xs) ⊎ (length xs < CLIENTS) → length (kept xs k) ≤ CLIENTS
     room_kept (inl there) = omega (arith, there, few.few, length_kept xs k)

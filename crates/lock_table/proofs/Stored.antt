@@ -8,7 +8,7 @@ use Rattle.std.proofs.lemmas.List.Kept.{IsSortedBy-filter}
 use Rattle.lock_command.specs.Name.{same_name}
 use Rattle.lock_command.specs.Command.{is_carried}
 use Rattle.lock_command.specs.declared.command.Action.{Action}
-use Rattle.lock_command.specs.declared.command.Action.TheVariants.{Enqueue, Convert, Release, Cancel, Status, Purge, QuietPurge, CarryLock, CarryClient}
+use Rattle.lock_command.specs.declared.command.Action.TheVariants.{Enqueue, Convert, Release, Cancel, Status, Purge, QuietPurge, Forget, CarryLock, CarryClient}
 use Rattle.lock_command.specs.declared.state.LockState.{LockState}
 use Rattle.lock_command.specs.declared.reply.Answer.{Answer}
 use Rattle.lock_command.specs.declared.record.LockRecord.{LockRecord}
@@ -299,6 +299,7 @@ stores_changed before entries locks (Cancel lock) a asked is = is
 stores_changed before entries locks (Status lock) a asked is = is
 stores_changed before entries locks (Purge host) a asked is = is
 stores_changed before entries locks (QuietPurge host) a asked is = is
+stores_changed before entries locks (Forget gone) a asked is = is
 stores_changed before entries locks (CarryLock lock name state value) a asked is = let impossible : ⊥ = cc in absurd impossible
 stores_changed before entries locks (CarryClient reply) a asked is = is
 
@@ -324,6 +325,7 @@ entry_has locks (Cancel lock) a e h = let impossible : ⊥ = cc in absurd imposs
 entry_has locks (Status lock) a e h = let impossible : ⊥ = cc in absurd impossible
 entry_has locks (Purge host) a e h = let impossible : ⊥ = cc in absurd impossible
 entry_has locks (QuietPurge host) a e h = let impossible : ⊥ = cc in absurd impossible
+entry_has locks (Forget gone) a e h = let impossible : ⊥ = cc in absurd impossible
 entry_has locks (CarryLock lock name state value) a e h = let impossible : ⊥ = cc in absurd impossible
 entry_has locks (CarryClient reply) a e h = let impossible : ⊥ = cc in absurd impossible
 
@@ -345,6 +347,7 @@ asked_same v locks (Cancel lock) = refl
 asked_same v locks (Status lock) = refl
 asked_same v locks (Purge host) = refl
 asked_same v locks (QuietPurge host) = refl
+asked_same v locks (Forget gone) = refl
 asked_same v locks (CarryLock lock name state value) = refl
 asked_same v locks (CarryClient reply) = refl
 
@@ -372,6 +375,7 @@ changed_nothing v locks (Cancel lock) a nothing = refl
 changed_nothing v locks (Status lock) a nothing = refl
 changed_nothing v locks (Purge host) a nothing = let impossible : ⊥ = cc in absurd impossible
 changed_nothing v locks (QuietPurge host) a nothing = refl
+changed_nothing v locks (Forget gone) a nothing = refl
 changed_nothing v locks (CarryLock lock name state value) a nothing = let impossible : ⊥ = cc in absurd impossible
 changed_nothing v locks (CarryClient reply) a nothing = refl
 
@@ -393,6 +397,7 @@ asked_zeros locks (Cancel lock) = refl
 asked_zeros locks (Status lock) = sym (asked_of_lock (lock_in locks lock))
 asked_zeros locks (Purge host) = refl
 asked_zeros locks (QuietPurge host) = refl
+asked_zeros locks (Forget gone) = refl
 asked_zeros locks (CarryLock lock name state value) = refl
 asked_zeros locks (CarryClient reply) = refl
 

@@ -1,13 +1,14 @@
 -- The commands that carry a table over into a new log, and which logs there are.
-use Rattle.std.specs.Prelude.{◌≡◌, ◌==◌, ◌≤◌, ℕ, zero, suc, true, not, ◌||◌, List, [], ◌∷◌, ◌++◌, map, fold, filter, find, Some, Bool}
+use Rattle.std.specs.Prelude.{◌≡◌, ◌==◌, ◌≤◌, ℕ, zero, suc, true, false, not, ◌||◌, List, [], ◌∷◌, ◌++◌, map, fold, filter, find, Some, Bool}
 use Rattle.std.specs.List.{list_all, list_any}
 use Rattle.lock_command.specs.declared.command.Command.{Command}
-use Rattle.lock_command.specs.declared.command.Action.TheVariants.{CarryLock, CarryClient}
+use Rattle.lock_command.specs.declared.command.Action.{Action}
+use Rattle.lock_command.specs.declared.command.Action.TheVariants.{Forget, CarryLock, CarryClient}
 use Rattle.lock_command.specs.declared.reply.LockValue.{LockValue}
 use Rattle.lock_command.specs.Command.{is_carried}
 use Rattle.lock_command.specs.declared.record.LockRecord.{LockRecord}
 use Rattle.lock_table.specs.declared.known_client.KnownClient.{KnownClient}
-use Rattle.lock_table.specs.Apply.{Plain, is_client, applied, table_after}
+use Rattle.lock_table.specs.Apply.{Plain, has_locks, is_client, applied, table_after}
 use Rattle.lock_table.specs.Picture.{Shown, IsPictureOf}
 
 -- a lock as it stands, and the value of its name
@@ -34,10 +35,6 @@ carried_over shown = carried_locks shown.locks shown.values ++ map carried_clien
 abbrev pub is_among : List ℕ → ℕ → Bool
 is_among clients client = list_any (λ other. other == client) clients
 
--- the client has a lock, or waits for one
-abbrev pub has_locks : List LockRecord → ℕ → Bool
-has_locks locks client = list_any (λ (r : LockRecord). r.client == client) locks
-
 -- the client is known from now on: it is not to be left out, or it has a lock
 abbrev pub stays_known : (ℕ → Bool) → List LockRecord → KnownClient → Bool
 stays_known leave locks k = not (leave k.client) || has_locks locks k.client
@@ -57,6 +54,15 @@ table_later t commands = fold (λ u c. (applied u c).table) t commands
 -- the client is known, and its last request has this number or a greater one
 abbrev pub IsKnownFrom : ℕ → ℕ → List KnownClient → Type 0
 IsKnownFrom client request clients = (k : KnownClient) × (find (is_client client) clients ≡ Some k) × (request ≤ k.request)
+
+-- the command asks to forget the client
+abbrev pub asks_to_forget : ℕ → Action → Bool
+asks_to_forget client (Forget gone) = gone == client
+asks_to_forget client other = false
+
+-- none of these commands asks to forget the client
+abbrev pub LeaveKnown : ℕ → List Command → Type 0
+LeaveKnown client commands = list_all (λ c. not (asks_to_forget client c.action)) commands ≡ true
 
 -- WHICH LOGS THERE ARE
 

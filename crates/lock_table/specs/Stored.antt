@@ -8,7 +8,7 @@ use Rattle.std.specs.declared.cmp.Ordering.{Ordering}
 use Rattle.std.specs.declared.cmp.Ordering.TheVariants.{Less, Equal, Greater}
 use Rattle.lock_command.specs.Name.{same_name}
 use Rattle.lock_command.specs.declared.command.Action.{Action}
-use Rattle.lock_command.specs.declared.command.Action.TheVariants.{Enqueue, Convert, Release, Cancel, Status, Purge, QuietPurge, CarryLock, CarryClient}
+use Rattle.lock_command.specs.declared.command.Action.TheVariants.{Enqueue, Convert, Release, Cancel, Status, Purge, QuietPurge, Forget, CarryLock, CarryClient}
 use Rattle.lock_command.specs.declared.record.LockRecord.{LockRecord}
 use Rattle.lock_command.specs.declared.state.LockState.{LockState}
 use Rattle.lock_command.specs.declared.reply.Answer.{Answer}
@@ -84,6 +84,7 @@ entry_by found (Cancel lock) a = None
 entry_by found (Status lock) a = None
 entry_by found (Purge host) a = None
 entry_by found (QuietPurge host) a = None
+entry_by found (Forget gone) a = None
 entry_by found (CarryLock lock name state value) a = None
 entry_by found (CarryClient reply) a = None
 
@@ -96,6 +97,7 @@ gives_nothing (Cancel lock) = true
 gives_nothing (Status lock) = true
 gives_nothing (Purge host) = false
 gives_nothing (QuietPurge host) = true
+gives_nothing (Forget gone) = true
 gives_nothing (CarryLock lock name state value) = false
 gives_nothing (CarryClient reply) = true
 
@@ -121,6 +123,7 @@ asked_value_by values found (Cancel lock) = zeros
 asked_value_by values found (Status lock) = value_of_lock values found
 asked_value_by values found (Purge host) = zeros
 asked_value_by values found (QuietPurge host) = zeros
+asked_value_by values found (Forget gone) = zeros
 asked_value_by values found (CarryLock lock name state value) = values name
 asked_value_by values found (CarryClient reply) = zeros
 
@@ -156,5 +159,6 @@ may_lose found (Cancel lock) name = is_named found name
 may_lose found (Status lock) name = false
 may_lose found (Purge host) name = true
 may_lose found (QuietPurge host) name = true
+may_lose found (Forget gone) name = false
 may_lose found (CarryLock lock on state value) name = false
 may_lose found (CarryClient reply) name = false

@@ -6,7 +6,7 @@ use Rattle.lock_command.specs.Mode.{downward}
 use Rattle.lock_command.specs.Name.{same_name}
 use Rattle.lock_command.specs.declared.value.TheConstants.{LOCK_VALUE_LENGTH}
 use Rattle.lock_command.specs.declared.command.Action.{Action}
-use Rattle.lock_command.specs.declared.command.Action.TheVariants.{Enqueue, Convert, Release, Cancel, Status, Purge, QuietPurge, CarryLock, CarryClient}
+use Rattle.lock_command.specs.declared.command.Action.TheVariants.{Enqueue, Convert, Release, Cancel, Status, Purge, QuietPurge, Forget, CarryLock, CarryClient}
 use Rattle.lock_command.specs.declared.record.LockRecord.{LockRecord}
 use Rattle.lock_command.specs.declared.state.LockState.{LockState}
 use Rattle.lock_command.specs.declared.state.LockState.TheVariants.{Granted, Converting, Waiting}
@@ -61,6 +61,11 @@ abbrev pub is_released : Answer → Bool
 is_released answer.Released = true
 is_released _ = false
 
+-- the client was forgotten
+abbrev pub is_forgotten : Answer → Bool
+is_forgotten answer.Forgotten = true
+is_forgotten _ = false
+
 -- the answer tells the state of a lock
 abbrev pub is_state : Answer → Bool
 is_state (answer.State state) = true
@@ -75,6 +80,7 @@ changed values locks (Cancel lock) a = values
 changed values locks (Status lock) a = values
 changed values locks (Purge host) a = spoiled values locks host
 changed values locks (QuietPurge host) a = values
+changed values locks (Forget gone) a = values
 changed values locks (CarryLock lock name state value) a = if is_state a then stored values name value else values
 changed values locks (CarryClient reply) a = values
 
@@ -96,6 +102,7 @@ asked_value values locks (Cancel lock) = zeros
 asked_value values locks (Status lock) = value_of_lock values (lock_in locks lock)
 asked_value values locks (Purge host) = zeros
 asked_value values locks (QuietPurge host) = zeros
+asked_value values locks (Forget gone) = zeros
 asked_value values locks (CarryLock lock name state value) = values name
 asked_value values locks (CarryClient reply) = zeros
 

@@ -1,5 +1,5 @@
-ghost use Rattle.std.specs.Prelude.{◌≡◌, ◌<◌, ◌≤◌, [], IfOk, IfSome, None, find, length};
-ghost use Rattle.lock_table.specs.Apply.{applied, carried_out, is_client, keeps_none, unchanged};
+ghost use Rattle.std.specs.Prelude.{◌≡◌, ◌<◌, ◌≤◌, [], IfOk, IfSome, None, find, length, if◌then◌else◌};
+ghost use Rattle.lock_table.specs.Apply.{applied, carried_out, forgotten_by, is_client, kept, keeps_none, kept_after, unchanged};
 ghost use Rattle.lock_table.specs.Known.{IsPlaceOf};
 ghost use Rattle.lock_index.specs.Printed.{printed_cmp};
 ghost use Rattle.lock_table.specs.Picture.{client_cmp, HasZeros};
@@ -8,10 +8,10 @@ ghost use Rattle.lock_table.specs.Stored.{plain_of, value_in, AreNamed};
 
 use crate::clients::{CLIENTS, Clients};
 use crate::known_client::KnownClient;
-use crate::reply::refusing;
+use crate::reply::{is_forgotten, refusing};
 use crate::valued::ValuedLocks;
 use crate::values::NamedValue;
-use lock_command::{Action, Command, Refusal, Reply};
+use lock_command::{Action, Answer, ClientNumber, Command, Refusal, Reply};
 use lock_index::ByPrintedOrder;
 use std::alloc::{AllocError, Global};
 use std::marker::Model;
@@ -79,9 +79,12 @@ impl IndexedTable {
         let reply = self
             .valued
             .act(command.host, command.client, &command.action);
-        if !keeps_none(&command.action) {
-            self.clients.keep(place, known(command, &reply));
-        }
+        keep_after(
+            &mut self.clients,
+            place,
+            &command.action,
+            known(command, &reply),
+        );
         reply
     }
 
@@ -113,6 +116,41 @@ fn keeps_none(action: &Action) -> bool
     ensures { result ≡ keeps_none action.now }
 {
     matches!(action, Action::CarryLock { .. })
+}
+
+/// The client that a command forgets that was answered so.
+fn forgotten_by(action: &Action, answer: &Answer) -> Option<ClientNumber>
+    ensures { result ≡ forgotten_by action.now answer.now }
+{
+    match action {
+        Action::Forget(gone) if is_forgotten(answer) => Some(*gone),
+        _ => None,
+    }
+}
+
+/// Keeps the last request of a command's client, unless nothing is kept of it.
+fn keep_last(clients: &mut Clients, place: usize, action: &Action, last: KnownClient)
+    requires place { IsPlaceOf last.client clients.old place }
+    requires room { find (is_client last.client) clients.old ≡ None → length clients.old < CLIENTS }
+    requires by_number { in_order client_cmp clients.old ≡ clients.old }
+    ensures { clients.new ≡ in_order client_cmp (if keeps_none action.now then clients.old else kept clients.old last) }
+{
+    if !keeps_none(action) {
+        clients.keep(place, last);
+    }
+}
+
+/// Keeps the last request of a command's client, and takes out that of a client that the command forgets.
+fn keep_after(clients: &mut Clients, place: usize, action: &Action, last: KnownClient)
+    requires place { IsPlaceOf last.client clients.old place }
+    requires room { find (is_client last.client) clients.old ≡ None → length clients.old < CLIENTS }
+    requires by_number { in_order client_cmp clients.old ≡ clients.old }
+    ensures { clients.new ≡ in_order client_cmp (kept_after action.now clients.old last) }
+{
+    keep_last(clients, place, action, last);
+    if let Some(gone) = forgotten_by(action, &last.reply.answer) {
+        clients.forget(gone);
+    }
 }
 
 /// What is kept of a command's client.

@@ -94,6 +94,7 @@ fn gives_nothing(action: &Action) -> bool
         | Action::Cancel(_)
         | Action::Status(_)
         | Action::QuietPurge(_)
+        | Action::Forget(_)
         | Action::CarryClient(_) => true,
     }
 }

@@ -1,6 +1,7 @@
 // A header of a device, the places of its sectors, and a row out of them. A plain driver in C gave the bytes and the numbers.
 ghost use Rattle.std.specs.Prelude.{◌<◌};
 
+use endless_image::Kind;
 use sectors::{
     DEVICE_HEADER_LENGTH, DeviceFault, DeviceHeader, Geometry, SectorRange, SetFault, StampSpent,
     agree, beat_sector, block_at, check_set, decode_device_header, device_size,
@@ -13,6 +14,7 @@ use torn_block::ROW_LENGTH;
 const SMALL: Geometry = Geometry {
     sector_size: 512,
     hosts: 4,
+    kind: Kind::Ending,
     slots: 16,
 };
 
@@ -91,6 +93,57 @@ fn refused_headers(rt: HostRuntime) {
     );
 }
 
+// The same of a log without an end: 320 slots an epoch. Byte 1 is its version, and bytes 6 and 7 have the slots.
+const ENDLESS: DeviceHeader = DeviceHeader {
+    geometry: Geometry {
+        kind: Kind::Endless,
+        slots: 320,
+        ..SMALL
+    },
+    ..HEADER
+};
+
+fn endless_changed(slots: u8) -> [u8; DEVICE_HEADER_LENGTH] {
+    let mut bytes = changed(1, 5);
+    bytes[6] = 1;
+    bytes[7] = slots;
+    bytes
+}
+
+// The image has a header and 644 rows: two areas of 321 rows, and two of standings.
+const ENDLESS_LONG: u64 = 4096 + 644 * 2048;
+
+#[test]
+fn endless(rt: HostRuntime) {
+    assert!(rt; is_device_header(&ENDLESS));
+    assert!(rt; encode_device_header(&ENDLESS) == endless_changed(64));
+    assert_eq!(rt;
+        decode_device_header(1, ENDLESS_LONG, &endless_changed(64)),
+        Ok(ENDLESS)
+    );
+    assert_eq!(rt;
+        decode_device_header(1, ENDLESS_LONG - 1, &endless_changed(64)),
+        Err(DeviceFault::TooShort)
+    );
+    // an epoch of 319 slots, a version between, and one that a later program made
+    assert_eq!(rt;
+        decode_device_header(1, ENDLESS_LONG, &endless_changed(63)),
+        Err(DeviceFault::WrongSlots)
+    );
+    for version in [4, 6] {
+        assert_eq!(rt;
+            decode_device_header(1, ENDLESS_LONG, &changed(1, version)),
+            Err(DeviceFault::WrongVersion)
+        );
+    }
+    // the last row of the image, and none behind it
+    assert_eq!(rt;
+        row_at(&ENDLESS.geometry, 644 * 4096),
+        Some(ENDLESS_LONG - 2048)
+    );
+    assert_eq!(rt; row_at(&ENDLESS.geometry, 645 * 4096), None);
+}
+
 #[test]
 fn sets(rt: HostRuntime) {
     // another disk of the set, with other sectors
@@ -118,6 +171,7 @@ fn sets(rt: HostRuntime) {
         ),
         Err(SetFault::OtherSlots)
     );
+    assert_eq!(rt; check_set(&HEADER, &ENDLESS), Err(SetFault::OtherKind));
     assert_eq!(rt;
         check_set(
             &HEADER,
@@ -142,6 +196,7 @@ fn places(rt: HostRuntime) {
     let large = Geometry {
         sector_size: 4096,
         hosts: 16,
+        kind: Kind::Ending,
         slots: 4096,
     };
     assert!(rt; is_geometry(&large));

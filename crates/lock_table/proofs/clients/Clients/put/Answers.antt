@@ -7,19 +7,8 @@ use Rattle.lock_table.specs.Apply.{is_client, kept}
 use Rattle.lock_table.specs.Known.{AreKnown, IsPlaceOf}
 use Rattle.lock_table.specs.Picture.{client_cmp}
 use Rattle.lock_index.specs.Placed.{in_order}
-use Rattle.lock_table.proofs.KnownPlaces.{known_insert, known_set}
+use Rattle.lock_table.proofs.KnownPlaces.{found_if, none_if, at_place, known_insert, known_set}
 use Rattle.lock_table.proofs.clients.Clients.put.Goals as goal
-
-found_if : (o : Option (Bor KnownClient)) (f : Option KnownClient) → option_copied o ≡ f → true ≡ is_some o → (own : KnownClient) × (f ≡ Some own)
-found_if None f same is = let impossible : ⊥ = cc in absurd impossible
-found_if (Some r) f same is = (r.now, sym same)
-
-none_if : (o : Option (Bor KnownClient)) (f : Option KnownClient) → option_copied o ≡ f → false ≡ is_some o → f ≡ None
-none_if None f same is = sym same
-none_if (Some r) f same is = let impossible : ⊥ = cc in absurd impossible
-
-at_place : (n place : ℕ) (xs value : List KnownClient) → xs ≡ value → IsPlaceOf n value place → IsPartitionPoint (λ o. nat_lt o.client n ≡ true) (λ o. nat_lt o.client n ≡ false) xs place
-at_place n place xs value view is = subst (λ (l : List KnownClient). IsPartitionPoint (λ o. nat_lt o.client n ≡ true) (λ o. nat_lt o.client n ≡ false) l place) (sym view) is.point
 
 -- WHERE THE CLIENT WAS KNOWN
 
