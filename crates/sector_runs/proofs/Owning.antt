@@ -33,7 +33,7 @@ use Rattle.sector_runs.specs.Owning.{host_of, IsOwn, IsOwnEntry, AllOwn, HostsWr
 
 module _ (place h : ℕ) (spot : Spot) (is : place ≡ place_of cluster_version spot) (own : host_of spot ≡ h) (below : h < HOSTS) where
   -- a call of the write of a block begins within it
-  puts_own : (block body : List ℕ) (boot : ℕ) (call : WriteCall) → IsOwn h (call_of call (record { version = cluster_version; place = place; block = block; body = body }) boot)
+  pub puts_own : (block body : List ℕ) (boot : ℕ) (call : WriteCall) → IsOwn h (call_of call (record { version = cluster_version; place = place; block = block; body = body }) boot)
   puts_own block body boot CloseGate =
       let fits = offset_fits cluster_version (target_of cluster_version block) in
       record { spot = spot; own = own; below = below; offset = offset_of cluster_version (target_of cluster_version block); here = ap (λ (p : ℕ). p + offset_of cluster_version (target_of cluster_version block)) is; begins = omega (arith, fits) }
@@ -109,7 +109,7 @@ module _ (h : ℕ) (below : h < HOSTS) (k : ℕ) (call : Call) where
   look_in s f (look.Due d) due = same_call h d k (look.call_on s (f d)) call due (look_kind s (f d) (nat_lt (length (f d)) 1))
   look_in s f (look.Ended end) due = absurd (cc)
 
-  doing_own : (c : Shape) (m : Memory) (o : Option Doing) → next_doing c h m o ≡ Some (k, call) → IsOwn h call
+  pub doing_own : (c : Shape) (m : Memory) (o : Option Doing) → next_doing c h m o ≡ Some (k, call) → IsOwn h call
   doing_own c m None due = absurd (cc)
   doing_own c m (Some (Attempts t)) due = let s = setup_of c h m t.operation in attempt_in s (on t.heard) (status s (on t.heard)) refl due
   doing_own c m (Some (Looks t)) due = let s = look_of c m t.first in look_in s (on t.heard) (look.status s (on t.heard)) due

@@ -12,7 +12,7 @@ use Rattle.paxos_block.specs.Places as images
 use Rattle.paxos_block.specs.Places.{Spot, BeatOf, VoteOf}
 use Rattle.paxos_block.proofs.PlaceLemmas as places
 use Rattle.sectors.specs.declared.geometry.Geometry.{Geometry}
-use Rattle.sectors.specs.Geometry.{IsGeometry}
+use Rattle.sectors.specs.Geometry.{IsGeometry, slot_rows}
 use Rattle.sectors.specs.Places.{IsSpot}
 use Rattle.sectors.specs.Sector.{block_of}
 use Rattle.sectors.proofs.PlaceLaws.{image_spot}
@@ -37,7 +37,7 @@ spot_host slots (BeatOf h) o is below = omega arith
 spot_host slots (VoteOf slot h) o is below = omega arith
 
 -- it is in a sector that the device has, or in none
-has_host : (geometry : Geometry) (spot : Spot) (o : ℕ) → images.IsSpot cluster_version geometry.slots spot → o < 256 → host_at (images.place_of cluster_version spot + o) < geometry.hosts
+has_host : (geometry : Geometry) (spot : Spot) (o : ℕ) → images.IsSpot cluster_version (slot_rows geometry) spot → o < 256 → host_at (images.place_of cluster_version spot + o) < geometry.hosts
     → IsSpot geometry spot
 unfolding host_at
 has_host g (BeatOf h) o is below few = omega (arith, few, is, below)
@@ -80,7 +80,7 @@ record InSome (geometry : Geometry) (p : ℕ) : Type 0 where
   below : o < 256
   here : p ≡ images.place_of cluster_version spot + o
 
-in_some : (geometry : Geometry) (p : ℕ) → 4096 ≤ p → p < images.image_length cluster_version geometry.slots → host_at p < geometry.hosts → InSome geometry p
+in_some : (geometry : Geometry) (p : ℕ) → 4096 ≤ p → p < images.image_length cluster_version (slot_rows geometry) → host_at p < geometry.hosts → InSome geometry p
 unfolding host_at
 in_some g p behind inside few =
     elim (cases_eq (p / 4096) 1) [
@@ -127,8 +127,8 @@ module _ (geometry : Geometry) (is : IsGeometry geometry) (disk : DiskState) (ol
   stayed p (inr high) (inl below) none = absurd (omega (arith, none, below))
   stayed p (inr high) (inr more) none = refl
 
-  in_image : (spot : Spot) (o : ℕ) → images.IsSpot cluster_version geometry.slots spot → o < 256 → images.place_of cluster_version spot + o < length disk.bytes
-  in_image spot o is_spot below = omega (arith, shows.shape.1, places.spot_fits cluster_version geometry.slots spot is_spot, below)
+  in_image : (spot : Spot) (o : ℕ) → images.IsSpot cluster_version (slot_rows geometry) spot → o < 256 → images.place_of cluster_version spot + o < length disk.bytes
+  in_image spot o is_spot below = omega (arith, shows.shape.1, places.spot_fits cluster_version (slot_rows geometry) spot is_spot, below)
 
   -- each block is that of its sector
   left_in : (spot : Spot) (o : ℕ) → IsSpot geometry spot → o < 256 → get_or left (images.place_of cluster_version spot + o) 0 ≡ get_or (new.now (sector_of geometry spot)) o 0
@@ -138,7 +138,7 @@ module _ (geometry : Geometry) (is : IsGeometry geometry) (disk : DiskState) (ol
       let there = image_spot geometry is spot is_spot in
       let where_it_is = is_at geometry is spot o is_spot below in
       left_at p (in_image spot o there below)
-      ∙ picked p (cases_lt p 4096) (cases_lt (host_at p) geometry.hosts) (spot_host geometry.slots spot o there below) where_it_is.host
+      ∙ picked p (cases_lt p 4096) (cases_lt (host_at p) geometry.hosts) (spot_host (slot_rows geometry) spot o there below) where_it_is.host
       ∙ (λ i. get_or (new.now (where_it_is.number i)) (where_it_is.offset i) 0)
 
   long : (s : ℕ) → length (block_of (new.now s)) ≡ 256
@@ -147,8 +147,8 @@ module _ (geometry : Geometry) (is : IsGeometry geometry) (disk : DiskState) (ol
       let at_least = long_sector geometry.sector_size is.sector_size in
       length-take-le 256 (new.now s) (omega (arith, size_of, at_least))
 
-  long_in : (spot : Spot) → images.IsSpot cluster_version geometry.slots spot → images.place_of cluster_version spot + 256 ≤ length left
-  long_in spot is_spot = omega (arith, size, shows.shape.1, places.spot_fits cluster_version geometry.slots spot is_spot)
+  long_in : (spot : Spot) → images.IsSpot cluster_version (slot_rows geometry) spot → images.place_of cluster_version spot + 256 ≤ length left
+  long_in spot is_spot = omega (arith, size, shows.shape.1, places.spot_fits cluster_version (slot_rows geometry) spot is_spot)
 
   blocks : (spot : Spot) → IsSpot geometry spot → at.block_in cluster_version (images.place_of cluster_version spot) left ≡ block_of (new.now (sector_of geometry spot))
   blocks spot is_spot =
@@ -162,7 +162,7 @@ module _ (geometry : Geometry) (is : IsGeometry geometry) (disk : DiskState) (ol
       get_or-part q 256 left k below ∙ left_in spot k is_spot below ∙ sym (get_or-take 256 (new.now s) k 0 below))
 
   -- a block of no host is as it was
-  others : (spot : Spot) → images.IsSpot cluster_version geometry.slots spot → ¬ IsSpot geometry spot → at.block_in cluster_version (images.place_of cluster_version spot) left ≡ at.block_in cluster_version (images.place_of cluster_version spot) disk.bytes
+  others : (spot : Spot) → images.IsSpot cluster_version (slot_rows geometry) spot → ¬ IsSpot geometry spot → at.block_in cluster_version (images.place_of cluster_version spot) left ≡ at.block_in cluster_version (images.place_of cluster_version spot) disk.bytes
   unfolding byte_at
   others spot is_spot none =
       let q = images.place_of cluster_version spot in

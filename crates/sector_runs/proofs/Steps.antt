@@ -13,7 +13,7 @@ use Rattle.paxos_block.specs.Places as images
 use Rattle.paxos_block.specs.Places.{Spot, BeatOf, VoteOf}
 use Rattle.paxos_block.proofs.PlaceLemmas as places
 use Rattle.sectors.specs.declared.geometry.Geometry.{Geometry}
-use Rattle.sectors.specs.Geometry.{IsGeometry}
+use Rattle.sectors.specs.Geometry.{IsGeometry, slot_rows}
 use Rattle.sectors.specs.Moments.{Puts, Tries}
 use Rattle.sectors.proofs.PlaceLaws.{image_spot}
 use Rattle.sectors.proofs.Putting.{part_is, length-part, get_or-part}
@@ -120,19 +120,19 @@ zero_block n place fits =
 pub blank_devices_show : BlankDevicesShow
 unfolding fresh_disk
 blank_devices_show geometry device is blank =
-    let n = images.image_length cluster_version geometry.slots in
+    let n = images.image_length cluster_version (slot_rows geometry) in
     let none : (s : ℕ) (had : List ℕ) → Contains (device.since s) had → ⊥ = (λ s had in_it. none_in had (subst (λ (f : ℕ → List (List ℕ)). Contains (f s) had) blank.synced in_it)) in (
       record {
         shape = shape_fresh n;
         sized = (blank.sized, λ s had in_it. absurd (none s had in_it));
         blocks =
             λ spot is_spot.
-            zero_block n (images.place_of cluster_version spot) (places.spot_fits cluster_version geometry.slots spot (image_spot geometry is spot is_spot))
+            zero_block n (images.place_of cluster_version spot) (places.spot_fits cluster_version (slot_rows geometry) spot (image_spot geometry is spot is_spot))
             ∙ sym (blank.zero (sector_of geometry spot));
-        others = λ spot is_spot none_there. zero_block n (images.place_of cluster_version spot) (places.spot_fits cluster_version geometry.slots spot is_spot);
+        others = λ spot is_spot none_there. zero_block n (images.place_of cluster_version spot) (places.spot_fits cluster_version (slot_rows geometry) spot is_spot);
         synced = λ spot o had is_spot below is_synced in_it. absurd (none (sector_of geometry spot) had in_it);
         boot = refl;
         gone = sym blank.there;
       },
-      zeros_hold_nothing geometry.slots,
+      zeros_hold_nothing (slot_rows geometry),
     )

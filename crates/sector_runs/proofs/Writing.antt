@@ -12,7 +12,7 @@ use Rattle.paxos_block.specs.Places as images
 use Rattle.paxos_block.specs.Places.{Spot}
 use Rattle.paxos_block.proofs.PlaceLemmas as places
 use Rattle.sectors.specs.declared.geometry.Geometry.{Geometry}
-use Rattle.sectors.specs.Geometry.{IsGeometry}
+use Rattle.sectors.specs.Geometry.{IsGeometry, slot_rows}
 use Rattle.sectors.specs.Places.{IsSpot}
 use Rattle.sectors.specs.Sector.{block_of}
 use Rattle.sectors.proofs.PlaceLaws.{same_or_not, image_spot}
@@ -45,7 +45,7 @@ module _ (geometry : Geometry) (is : IsGeometry geometry) (disk : DiskState) (ol
   flags = replicate (length some) true
 
   in_image : q + 256 ≤ length disk.bytes
-  in_image = omega (arith, shows.shape.1, places.spot_fits cluster_version geometry.slots spot (image_spot geometry is spot is_spot))
+  in_image = omega (arith, shows.shape.1, places.spot_fits cluster_version (slot_rows geometry) spot (image_spot geometry is spot is_spot))
 
   room : q + offset + length some ≤ length disk.bytes
   room = omega (arith, in_image, within)
@@ -65,14 +65,14 @@ module _ (geometry : Geometry) (is : IsGeometry geometry) (disk : DiskState) (ol
       ∙ sym writes.here
 
   -- two blocks of an image have no byte in common
-  apart : (other : Spot) → images.IsSpot cluster_version geometry.slots other → spot ≢ other → (q + 256 ≤ images.place_of cluster_version other) ⊎ (images.place_of cluster_version other + 256 ≤ q)
-  apart other is_other differ = places.spots_apart cluster_version geometry.slots spot other (image_spot geometry is spot is_spot) is_other differ
+  apart : (other : Spot) → images.IsSpot cluster_version (slot_rows geometry) other → spot ≢ other → (q + 256 ≤ images.place_of cluster_version other) ⊎ (images.place_of cluster_version other + 256 ≤ q)
+  apart other is_other differ = places.spots_apart cluster_version (slot_rows geometry) spot other (image_spot geometry is spot is_spot) is_other differ
 
   -- another block
-  kept : (other : Spot) → images.IsSpot cluster_version geometry.slots other → spot ≢ other → at.block_in cluster_version (images.place_of cluster_version other) (put_at disk.bytes (q + offset) some) ≡ at.block_in cluster_version (images.place_of cluster_version other) disk.bytes
+  kept : (other : Spot) → images.IsSpot cluster_version (slot_rows geometry) other → spot ≢ other → at.block_in cluster_version (images.place_of cluster_version other) (put_at disk.bytes (q + offset) some) ≡ at.block_in cluster_version (images.place_of cluster_version other) disk.bytes
   kept other is_other differ =
       part_is (images.place_of cluster_version other) 256 (put_at disk.bytes (q + offset) some)
-      ∙ part_elsewhere disk.bytes some (q + offset) room (images.place_of cluster_version other) 256 (omega (arith, shows.shape.1, places.spot_fits cluster_version geometry.slots other is_other))
+      ∙ part_elsewhere disk.bytes some (q + offset) room (images.place_of cluster_version other) 256 (omega (arith, shows.shape.1, places.spot_fits cluster_version (slot_rows geometry) other is_other))
       (elim (apart other is_other differ) [
         | inl before ↦ inl (omega (arith, before, within))
         | inr behind ↦ inr (omega (arith, behind))
@@ -147,7 +147,7 @@ module _ (geometry : Geometry) (is : IsGeometry geometry) (disk : DiskState) (ol
       ]
       ∙ sym (as_before o below where_it_is)
 
-  elsewhere : (other : Spot) (o : ℕ) → images.IsSpot cluster_version geometry.slots other → spot ≢ other → o < 256 → (images.place_of cluster_version other + o < q + offset) ⊎ (q + offset + length some ≤ images.place_of cluster_version other + o)
+  elsewhere : (other : Spot) (o : ℕ) → images.IsSpot cluster_version (slot_rows geometry) other → spot ≢ other → o < 256 → (images.place_of cluster_version other + o < q + offset) ⊎ (q + offset + length some ≤ images.place_of cluster_version other + o)
   elsewhere other o is_other differ below =
       elim (apart other is_other differ) [
         | inl before ↦ inr (omega (arith, before, within))
@@ -167,7 +167,7 @@ module _ (geometry : Geometry) (is : IsGeometry geometry) (disk : DiskState) (ol
   pub shows_written : ShowsDisk geometry new (written disk (q + offset) some)
   shows_written =
       record {
-        shape = shape_written (images.image_length cluster_version geometry.slots) disk (q + offset) some room shows.shape;
+        shape = shape_written (images.image_length cluster_version (slot_rows geometry)) disk (q + offset) some room shows.shape;
         sized = sized;
         blocks = blocks;
         others =

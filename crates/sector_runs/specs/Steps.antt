@@ -11,7 +11,7 @@ use Rattle.paxos_block.specs.Shape.{Shape}
 use Rattle.world.specs.Entry.{Filled}
 use Rattle.sectors.specs.declared.geometry.Geometry.{Geometry}
 use Rattle.sectors.specs.declared.header.TheConstants.{DEVICE_HEADER_LENGTH}
-use Rattle.sectors.specs.Geometry.{IsGeometry}
+use Rattle.sectors.specs.Geometry.{IsGeometry, slot_rows}
 use Rattle.sectors.specs.Moments.{Puts, Tries, Keeps}
 use Rattle.sectors.specs.Places.{place_of, IsSpot, RowOf, IsRow, image_row}
 use Rattle.sectors.specs.Row.{IsRowOf, sector_in}
@@ -90,5 +90,5 @@ pub record IsBlank (geometry : Geometry) (device : Device) : Type 0 where
 abbrev pub BlankDevicesShow : Type 0
 BlankDevicesShow =
     (geometry : Geometry) (device : Device) → IsGeometry geometry → IsBlank geometry device →
-    ShowsDisk geometry device (fresh_disk (images.image_length cluster_version geometry.slots)) ×
-    HoldsNothing geometry.slots (fresh_disk (images.image_length cluster_version geometry.slots))
+    ShowsDisk geometry device (fresh_disk (images.image_length cluster_version (slot_rows geometry))) ×
+    HoldsNothing (slot_rows geometry) (fresh_disk (images.image_length cluster_version (slot_rows geometry)))

@@ -4,8 +4,9 @@ use Rattle.std.proofs.Common.{refl, sym, ◌∙◌, ap, subst, arith, inl, inr, 
 use Rattle.std.proofs.lemmas.Bool.{cases_lt}
 use Rattle.sectors.specs.declared.fault.DeviceFault.{DeviceFault}
 use Rattle.sectors.specs.declared.fault.DeviceFault.TheVariants.{NotFormatted, WrongVersion, WrongDisk, WrongSlots, WrongSectorSize, WrongParts, WrongHosts, WrongWrites, WrongRest, TooShort}
-use Rattle.sectors.specs.Headers.{IsNamed, Has, IsFirst, rank, header_in}
-use Rattle.sectors.specs.Geometry.{IsSectorSize, IsHostCount, IsSlotCount}
+use Rattle.endless_image.specs.Kinds.{IsSlotsBy}
+use Rattle.sectors.specs.Headers.{IsNamed, IsVersion, Has, IsFirst, rank, header_in}
+use Rattle.sectors.specs.Geometry.{IsSectorSize, IsHostCount}
 use Rattle.paxos_block.specs.Saying.{zeros}
 
 abbrev all : List DeviceFault
@@ -63,7 +64,7 @@ module _ (disk long : ℕ) (bytes : List ℕ) (gate : slice_index bytes 0 ≡ 16
   pub at_version : Passes disk long bytes 1
   at_version = one_more disk long bytes NotFormatted (none_yet disk long bytes) (λ has. has gate)
 
-  module _ (version : slice_index bytes 1 ≡ 3) where
+  module _ (version : IsVersion (slice_index bytes 1)) where
     pub at_disk : Passes disk long bytes 2
     at_disk = one_more disk long bytes WrongVersion at_version (λ has. has version)
 
@@ -71,7 +72,7 @@ module _ (disk long : ℕ) (bytes : List ℕ) (gate : slice_index bytes 0 ≡ 16
       pub at_slots : Passes disk long bytes 3
       at_slots = one_more disk long bytes WrongDisk at_disk (λ has. has named)
 
-      module _ (slots : IsSlotCount (header_in bytes).geometry.slots) where
+      module _ (slots : IsSlotsBy (header_in bytes).geometry.kind (header_in bytes).geometry.slots) where
         pub at_size : Passes disk long bytes 4
         at_size = one_more disk long bytes WrongSlots at_slots (λ has. has slots)
 

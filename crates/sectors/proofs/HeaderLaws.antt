@@ -13,11 +13,16 @@ use Rattle.paxos_block.specs.declared.header.Header.{Header}
 use Rattle.paxos_block.specs.Headers as older
 use Rattle.paxos_block.specs.Headers.{short_bytes, short_at}
 use Rattle.paxos_block.specs.Saying.{zeros, number_at, flag_of}
+use Rattle.endless_image.specs.declared.header.EndlessHeader.{EndlessHeader}
+use Rattle.endless_image.specs.Headers as endless
+use Rattle.endless_image.specs.Kinds.{IsSlotsBy}
+use Rattle.endless_image.specs.declared.kind.Kind.{Kind}
+use Rattle.endless_image.specs.declared.kind.Kind.TheVariants.{Ending, Endless}
 use Rattle.sectors.specs.declared.fault.DeviceFault.{DeviceFault}
 use Rattle.sectors.specs.declared.fault.DeviceFault.TheVariants.{NotFormatted, WrongVersion, WrongDisk, WrongSlots, WrongSectorSize, WrongParts, WrongHosts, WrongWrites, WrongRest, TooShort}
 use Rattle.sectors.specs.declared.header.DeviceHeader.{DeviceHeader}
-use Rattle.sectors.specs.Geometry.{IsSectorSize, IsHostCount, IsSlotCount, device_size}
-use Rattle.sectors.specs.Headers.{IsNamed, IsDeviceHeader, header_saying, header_end, IsRight, header_in, Has}
+use Rattle.sectors.specs.Geometry.{IsSectorSize, IsHostCount, device_size}
+use Rattle.sectors.specs.Headers.{IsNamed, IsDeviceHeader, IsVersion, version_by, kind_by, header_saying, header_end, IsRight, header_in, Has}
 use Rattle.sectors.proofs.SectorLaws.{length-number}
 
 length-short : (n : ℕ) → length (short_bytes n) ≡ 4
@@ -38,6 +43,23 @@ short_sector size (inr (inl is)) = omega (arith, is)
 short_sector size (inr (inr (inl is))) = omega (arith, is)
 short_sector size (inr (inr (inr is))) = omega (arith, is)
 
+short_slots : (kind : Kind) (slots : ℕ) → IsSlotsBy kind slots → slots ≤ 4096
+short_slots Ending slots is = omega (arith, is.1)
+short_slots Endless slots is = omega (arith, is.1)
+
+-- a version and the kind that it says
+kind_back : (kind : Kind) → kind_by (version_by kind) ≡ kind
+kind_back Ending = refl
+kind_back Endless = refl
+
+is_version : (kind : Kind) → IsVersion (version_by kind)
+is_version Ending = inl refl
+is_version Endless = inr refl
+
+version_stands : (version : ℕ) → IsVersion version → version ≡ version_by (kind_by version)
+version_stands version (inl is) = is ∙ ap (λ (n : ℕ). version_by (kind_by n)) (sym is)
+version_stands version (inr is) = is ∙ ap (λ (n : ℕ). version_by (kind_by n)) (sym is)
+
 flag_back : (b : Bool) → (flag_of b == 1) ≡ b
 flag_back true = refl
 flag_back false = refl
@@ -48,7 +70,7 @@ flag_small false = omega arith
 
 -- ---- what was spelled is read
 
-version_read : (h : DeviceHeader) → slice_index (header_saying h) 1 ≡ 3
+version_read : (h : DeviceHeader) → slice_index (header_saying h) 1 ≡ version_by h.geometry.kind
 unfolding header_saying
 version_read h = refl
 
@@ -95,7 +117,10 @@ module _ (h : DeviceHeader) (is : IsDeviceHeader h) (fits : h.cluster < 2 ^ 64) 
 
   reads_slots : short_at 4 (header_saying h) ≡ h.geometry.slots
   unfolding short_at
-  reads_slots = ap (big_number 4) at_slots ∙ short_back h.geometry.slots from_cluster is.geometry.slots.1
+  reads_slots = ap (big_number 4) at_slots ∙ short_back h.geometry.slots from_cluster (short_slots h.geometry.kind h.geometry.slots is.geometry.slots)
+
+  reads_kind : kind_by (slice_index (header_saying h) 1) ≡ h.geometry.kind
+  reads_kind = ap kind_by (version_read h) ∙ kind_back h.geometry.kind
 
   reads_cluster : number_at 8 (header_saying h) ≡ h.cluster
   unfolding number_at
@@ -120,7 +145,7 @@ module _ (h : DeviceHeader) (is : IsDeviceHeader h) (fits : h.cluster < 2 ^ 64) 
         disk = reads_disk i;
         disks = reads_disks i;
         cluster = reads_cluster i;
-        geometry = record { sector_size = reads_size i; hosts = reads_end 1 i; slots = reads_slots i };
+        geometry = record { sector_size = reads_size i; hosts = reads_end 1 i; kind = reads_kind i; slots = reads_slots i };
         dsync = (ap (λ (n : ℕ). n == 1) reads_flag ∙ flag_back h.dsync) i;
       }
 
@@ -134,10 +159,10 @@ module _ (disk long : ℕ) (bytes : List ℕ) (h : DeviceHeader) (right : IsRigh
 
   pub right_lacks : (fault : DeviceFault) → ¬ Has disk long bytes fault
   right_lacks NotFormatted has = has (spelled_at 0 ∙ reads_gate h right.may_be right.fits)
-  right_lacks WrongVersion has = has (spelled_at 1 ∙ version_read h)
+  right_lacks WrongVersion has = has (subst IsVersion (sym (spelled_at 1 ∙ version_read h)) (is_version h.geometry.kind))
   right_lacks WrongDisk has =
       has (subst (IsNamed disk) (sym back) (record { named = right.named; among = right.may_be.disk.among; disks = right.may_be.disk.disks }))
-  right_lacks WrongSlots has = has (subst (λ (g : DeviceHeader). IsSlotCount g.geometry.slots) (sym back) right.may_be.geometry.slots)
+  right_lacks WrongSlots has = has (subst (λ (g : DeviceHeader). IsSlotsBy g.geometry.kind g.geometry.slots) (sym back) right.may_be.geometry.slots)
   right_lacks WrongSectorSize has =
       has (subst (λ (g : DeviceHeader). IsSectorSize g.geometry.sector_size) (sym back) right.may_be.geometry.sector_size)
   right_lacks WrongParts has = has (spelled_at 20 ∙ reads_end h right.may_be right.fits 0)
@@ -199,7 +224,7 @@ module _ (bytes : List ℕ) (whole : length bytes ≡ 4096) (fits : AreBytes byt
       ∙ ap (λ (l : List ℕ). take m (drop n bytes) ++ l) (behind ∙ sym (drop-drop m n bytes))
       ∙ take-append-drop m (drop n bytes)
 
-  header_stands : slice_index bytes 0 ≡ 165 → slice_index bytes 1 ≡ 3 → slice_index bytes 20 ≡ 1 → slice_index bytes 22 ≤ 1 → drop 23 bytes ≡ zeros (4096 - 23) → bytes ≡ header_saying (header_in bytes)
+  header_stands : slice_index bytes 0 ≡ 165 → IsVersion (slice_index bytes 1) → slice_index bytes 20 ≡ 1 → slice_index bytes 22 ≤ 1 → drop 23 bytes ≡ zeros (4096 - 23) → bytes ≡ header_saying (header_in bytes)
   unfolding header_saying header_in
   header_stands gate version parts flag rest =
       let at_20 = drop 20 bytes in
@@ -213,10 +238,10 @@ module _ (bytes : List ℕ) (whole : length bytes ≡ 4096) (fits : AreBytes byt
       let size = stands 16 4 (short_bytes (short_at 16 bytes)) _ size_stands end in
       let cluster = stands 8 8 (number_bytes (number_at 8 bytes)) _ cluster_stands size in
       let all = stands 4 4 (short_bytes (short_at 4 bytes)) _ slots_stand cluster in
-      four bytes (omega (arith, whole)) ∙ (λ i. gate i ∷ version i ∷ slice_index bytes 2 ∷ slice_index bytes 3 ∷ sym all i)
+      four bytes (omega (arith, whole)) ∙ (λ i. gate i ∷ version_stands (slice_index bytes 1) version i ∷ slice_index bytes 2 ∷ slice_index bytes 3 ∷ sym all i)
 
   -- a device without faults is right
-  pub right_by : (disk long : ℕ) → slice_index bytes 0 ≡ 165 → slice_index bytes 1 ≡ 3 → IsNamed disk (header_in bytes) → IsSlotCount (header_in bytes).geometry.slots → IsSectorSize (header_in bytes).geometry.sector_size →
+  pub right_by : (disk long : ℕ) → slice_index bytes 0 ≡ 165 → IsVersion (slice_index bytes 1) → IsNamed disk (header_in bytes) → IsSlotsBy (header_in bytes).geometry.kind (header_in bytes).geometry.slots → IsSectorSize (header_in bytes).geometry.sector_size →
       slice_index bytes 20 ≡ 1 → IsHostCount (header_in bytes).geometry.hosts → slice_index bytes 22 ≤ 1 → drop 23 bytes ≡ zeros (4096 - 23) → device_size (header_in bytes).geometry ≤ long → IsRight disk long bytes (header_in bytes)
   right_by disk long gate version named slots size parts hosts flag rest room =
       record {
@@ -233,9 +258,15 @@ module _ (bytes : List ℕ) (whole : length bytes ≡ 4096) (fits : AreBytes byt
 
 -- ---- whoever knows images alone
 
-version_of : (v : Version) → number_of v ≢ 3
-version_of Version1 same = absurd (omega (arith, same))
-version_of Version2 same = absurd (omega (arith, same))
+version_of : (v : Version) (kind : Kind) → number_of v ≢ version_by kind
+version_of Version1 Ending same = absurd (omega (arith, same))
+version_of Version1 Endless same = absurd (omega (arith, same))
+version_of Version2 Ending same = absurd (omega (arith, same))
+version_of Version2 Endless same = absurd (omega (arith, same))
+
+not_endless : (kind : Kind) → version_by kind ≢ 4
+not_endless Ending same = absurd (omega (arith, same))
+not_endless Endless same = absurd (omega (arith, same))
 
 image_version : (v : Version) (header : Header) → slice_index (older.header_saying v header) 1 ≡ number_of v
 unfolding older.header_saying
@@ -243,11 +274,27 @@ image_version v header = refl
 
 pub no_image : (v : Version) (disk long : ℕ) (header : DeviceHeader) (other : Header) → ¬ older.IsRight v disk long (take 1024 (header_saying header)) other
 no_image v disk long header other right =
-    version_of v
+    version_of v header.geometry.kind
     (sym (image_version v other)
     ∙ sym (ap (λ (l : List ℕ). slice_index l 1) right.spelled)
     ∙ get_or-take 1024 (header_saying header) 1 0 (omega arith)
     ∙ version_read header)
+
+endless_version : (header : EndlessHeader) → slice_index (endless.header_saying header) 1 ≡ 4
+unfolding endless.header_with
+endless_version header = refl
+
+pub no_endless_image : (disk long : ℕ) (header : DeviceHeader) (other : EndlessHeader) → ¬ endless.IsRight disk long (take 1024 (header_saying header)) other
+no_endless_image disk long header other right =
+    not_endless header.geometry.kind
+    (sym (version_read header)
+    ∙ sym (get_or-take 1024 (header_saying header) 1 0 (omega arith))
+    ∙ ap (λ (l : List ℕ). slice_index l 1) right.spelled
+    ∙ endless_version other)
+
+-- whoever knows devices of logs that end alone
+pub not_older : (header : DeviceHeader) → header.geometry.kind ≡ Endless → slice_index (header_saying header) 1 ≢ 3
+not_older header is same = absurd (omega (arith, same, version_read header, ap version_by is))
 
 -- ---- what is encoded is right
 

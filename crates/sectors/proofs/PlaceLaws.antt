@@ -7,9 +7,17 @@ use Rattle.torn_block.specs.Layout.{cluster_version}
 use Rattle.paxos_block.specs.Places as images
 use Rattle.paxos_block.specs.Places.{Spot, BeatOf, VoteOf}
 use Rattle.sectors.specs.declared.geometry.Geometry.{Geometry}
-use Rattle.sectors.specs.Geometry.{IsGeometry, row_size, device_size}
+use Rattle.endless_image.specs.Kinds.{size_by}
+use Rattle.endless_image.specs.declared.kind.Kind.{Kind}
+use Rattle.endless_image.specs.declared.kind.Kind.TheVariants.{Ending, Endless}
+use Rattle.sectors.specs.Geometry.{IsGeometry, row_size, rows_by, slot_rows, device_size}
 use Rattle.sectors.specs.Places.{place_of, IsSpot, RowOf, BeatsRow, SlotRow, IsRow, image_row, device_row, IsRowAt, IsRangeAt, HasNoRangeAt}
 use Rattle.sectors.proofs.Shapes.{they_follow, one_more, header_sectors}
+
+-- the image is as long as its kind says
+pub rows_are_long : (kind : Kind) (slots : ℕ) → images.image_length cluster_version (rows_by kind slots) ≡ size_by kind slots
+rows_are_long Ending slots = omega arith
+rows_are_long Endless slots = omega arith
 
 abbrev Apart : Geometry → Spot → Spot → Type 0
 Apart g a b = (place_of g a + g.sector_size ≤ place_of g b) ⊎ (place_of g b + g.sector_size ≤ place_of g a)
@@ -56,7 +64,7 @@ module _ (g : Geometry) where
 
   pub spot_fits : (a : Spot) → IsSpot g a → place_of g a + g.sector_size ≤ device_size g
   spot_fits (BeatOf h) is = omega (arith, they_follow g.sector_size h g.hosts is)
-  spot_fits (VoteOf s h) is = omega (arith, they_follow (row_size g) s g.slots is.0, they_follow g.sector_size h g.hosts is.1)
+  spot_fits (VoteOf s h) is = omega (arith, they_follow (row_size g) s (slot_rows g) is.0, they_follow g.sector_size h g.hosts is.1)
 
   pub spot_aligned : (a : Spot) → IsGeometry g → (n : ℕ) × (place_of g a ≡ g.sector_size * n)
   spot_aligned (BeatOf h) is =
@@ -70,13 +78,13 @@ module _ (g : Geometry) where
       )
 
   -- the image has the spot, too
-  pub image_spot : IsGeometry g → (a : Spot) → IsSpot g a → images.IsSpot cluster_version g.slots a
+  pub image_spot : IsGeometry g → (a : Spot) → IsSpot g a → images.IsSpot cluster_version (slot_rows g) a
   image_spot is (BeatOf h) spot = omega (arith, is.hosts.1)
   image_spot is (VoteOf s h) spot = (spot.0, omega (arith, is.hosts.1, spot.1))
 
   -- ---- from an image's places
 
-  pub row_found : (at size : ℕ) → size ≡ row_size g → at % 4096 ≡ 0 → (at / 4096 ≡ 0 → ⊥) → at / 4096 ≤ g.slots + 1 → IsRowAt g at (4096 + size * (at / 4096 - 1))
+  pub row_found : (at size : ℕ) → size ≡ row_size g → at % 4096 ≡ 0 → (at / 4096 ≡ 0 → ⊥) → at / 4096 ≤ slot_rows g + 1 → IsRowAt g at (4096 + size * (at / 4096 - 1))
   row_found at size is whole some below =
       elim (cases_eq (at / 4096) 1) [
         | inl first ↦

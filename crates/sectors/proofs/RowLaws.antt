@@ -13,7 +13,7 @@ use Rattle.paxos_block.specs.Places as images
 use Rattle.paxos_block.specs.Places.{Spot, BeatOf, VoteOf}
 use Rattle.paxos_block.proofs.PlaceLemmas as places
 use Rattle.sectors.specs.declared.geometry.Geometry.{Geometry}
-use Rattle.sectors.specs.Geometry.{IsGeometry, row_size, device_size}
+use Rattle.sectors.specs.Geometry.{IsGeometry, row_size, slot_rows, device_size}
 use Rattle.sectors.specs.Places.{place_of, row_place, IsSpot, sector_at, row_in, Shows}
 use Rattle.sectors.specs.Row.{IsRowOf, sector_in}
 use Rattle.sectors.specs.Sector.{block_of, sector_with}
@@ -253,7 +253,7 @@ module _ (geometry : Geometry) (is : IsGeometry geometry) where
 
   -- ---- the same of a whole device
 
-  module _ (device image from : List ℕ) (spot : Spot) (offset : ℕ) (is_spot : IsSpot geometry spot) (long : device_size geometry ≤ length device) (as_long : length image ≡ images.image_length cluster_version geometry.slots) (within : offset + length from ≤ 256) (shows : Shows geometry device image) where
+  module _ (device image from : List ℕ) (spot : Spot) (offset : ℕ) (is_spot : IsSpot geometry spot) (long : device_size geometry ≤ length device) (as_long : length image ≡ images.image_length cluster_version (slot_rows geometry)) (within : offset + length from ≤ 256) (shows : Shows geometry device image) where
     abbrev new_sector : List ℕ
     new_sector = sector_with offset from (sector_at geometry (place_of geometry spot) device)
 
@@ -282,7 +282,7 @@ module _ (geometry : Geometry) (is : IsGeometry geometry) where
 
     in_image : images.place_of cluster_version spot + 256 ≤ length image
     in_image =
-        omega (arith, as_long, places.spot_fits cluster_version geometry.slots spot (image_spot geometry is spot is_spot))
+        omega (arith, as_long, places.spot_fits cluster_version (slot_rows geometry) spot (image_spot geometry is spot is_spot))
 
     -- the block that is written
     mine : at.block_in cluster_version (place_of geometry spot) new_device ≡ at.block_in cluster_version (images.place_of cluster_version spot) new_image
@@ -301,12 +301,12 @@ module _ (geometry : Geometry) (is : IsGeometry geometry) where
         ∙ sym (part_is q 256 (put_at image (q + offset) from))
 
     -- a block of the image elsewhere
-    image_kept : (other : Spot) → images.IsSpot cluster_version geometry.slots other → spot ≢ other → at.block_in cluster_version (images.place_of cluster_version other) new_image ≡ at.block_in cluster_version (images.place_of cluster_version other) image
+    image_kept : (other : Spot) → images.IsSpot cluster_version (slot_rows geometry) other → spot ≢ other → at.block_in cluster_version (images.place_of cluster_version other) new_image ≡ at.block_in cluster_version (images.place_of cluster_version other) image
     image_kept other is_other differ =
         let q = images.place_of cluster_version spot in
         part_is (images.place_of cluster_version other) 256 new_image
-        ∙ part_elsewhere image from (q + offset) (omega (arith, in_image, within)) (images.place_of cluster_version other) 256 (omega (arith, as_long, places.spot_fits cluster_version geometry.slots other is_other))
-        (elim (places.spots_apart cluster_version geometry.slots spot other (image_spot geometry is spot is_spot) is_other differ) [
+        ∙ part_elsewhere image from (q + offset) (omega (arith, in_image, within)) (images.place_of cluster_version other) 256 (omega (arith, as_long, places.spot_fits cluster_version (slot_rows geometry) other is_other))
+        (elim (places.spots_apart cluster_version (slot_rows geometry) spot other (image_spot geometry is spot is_spot) is_other differ) [
           | inl before ↦ inl (omega (arith, before, within))
           | inr behind ↦ inr (omega (arith, behind))
         ])
@@ -347,8 +347,8 @@ module _ (geometry : Geometry) (is : IsGeometry geometry) where
 
   -- ---- what a read of a row gives
 
-  module _ (device image bytes : List ℕ) (as_long : length image ≡ images.image_length cluster_version geometry.slots) (shows : Shows geometry device image) where
-    pub vote_row : (slot : ℕ) → slot < geometry.slots → IsRowOf geometry (row_in geometry (row_place geometry slot) device) bytes → bytes ≡ images.row_of cluster_version slot image
+  module _ (device image bytes : List ℕ) (as_long : length image ≡ images.image_length cluster_version (slot_rows geometry)) (shows : Shows geometry device image) where
+    pub vote_row : (slot : ℕ) → slot < slot_rows geometry → IsRowOf geometry (row_in geometry (row_place geometry slot) device) bytes → bytes ≡ images.row_of cluster_version slot image
     vote_row slot among gathers =
         let start = images.row_place cluster_version slot in
         let long : length (images.row_of cluster_version slot image) ≡ 4096 = ap (λ (l : List ℕ). length l) (part_is start 4096 image) ∙ length-part start 4096 image (omega (arith, as_long, among)) in
@@ -384,11 +384,11 @@ image_behind : (spot : Spot) → 4096 ≤ images.place_of cluster_version spot
 image_behind (BeatOf host) = omega arith
 image_behind (VoteOf slot host) = omega arith
 
-pub new_shows : (geometry : Geometry) (device image : List ℕ) → IsGeometry geometry → device_size geometry ≤ length device → length image ≡ images.image_length cluster_version geometry.slots →
+pub new_shows : (geometry : Geometry) (device image : List ℕ) → IsGeometry geometry → device_size geometry ≤ length device → length image ≡ images.image_length cluster_version (slot_rows geometry) →
     ((k : ℕ) → 4096 ≤ k → get_or device k 0 ≡ 0) → ((k : ℕ) → 4096 ≤ k → get_or image k 0 ≡ 0) → Shows geometry device image
 new_shows geometry device image is long as_long none none_there =
-    let blank : (spot : Spot) → images.IsSpot cluster_version geometry.slots spot → at.block_in cluster_version (images.place_of cluster_version spot) image ≡ zeros 256 =
-    (λ spot is_spot. zero_block (images.place_of cluster_version spot) image (omega (arith, as_long, places.spot_fits cluster_version geometry.slots spot is_spot)) (image_behind spot) none_there) in
+    let blank : (spot : Spot) → images.IsSpot cluster_version (slot_rows geometry) spot → at.block_in cluster_version (images.place_of cluster_version spot) image ≡ zeros 256 =
+    (λ spot is_spot. zero_block (images.place_of cluster_version spot) image (omega (arith, as_long, places.spot_fits cluster_version (slot_rows geometry) spot is_spot)) (image_behind spot) none_there) in
     record {
       blocks =
           λ spot is_spot.

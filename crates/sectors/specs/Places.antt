@@ -9,7 +9,7 @@ use Rattle.paxos_block.specs.Saying.{zeros}
 use Rattle.sectors.specs.declared.geometry.Geometry.{Geometry}
 use Rattle.sectors.specs.declared.header.TheConstants.{DEVICE_HEADER_LENGTH}
 use Rattle.sectors.specs.declared.place.SectorRange.{SectorRange}
-use Rattle.sectors.specs.Geometry.{row_size}
+use Rattle.sectors.specs.Geometry.{row_size, slot_rows}
 
 -- the row of the heartbeat blocks, and then those of the slots
 abbrev pub row_place : Geometry → ℕ → ℕ
@@ -23,7 +23,7 @@ place_of geometry (VoteOf slot host) = row_place geometry slot + geometry.sector
 -- the device has this spot
 abbrev pub IsSpot : Geometry → Spot → Type 0
 IsSpot geometry (BeatOf host) = host < geometry.hosts
-IsSpot geometry (VoteOf slot host) = (slot < geometry.slots) × (host < geometry.hosts)
+IsSpot geometry (VoteOf slot host) = (slot < slot_rows geometry) × (host < geometry.hosts)
 
 -- the sector at a place of the device, and the sectors of a row
 abbrev pub sector_at : Geometry → ℕ → List ℕ → List ℕ
@@ -37,7 +37,7 @@ row_in geometry place device = slice_range device place (place + row_size geomet
 pub record Shows (geometry : Geometry) (device image : List ℕ) : Type 0 where
   pub blocks : (spot : Spot) → IsSpot geometry spot →
       block_in cluster_version (place_of geometry spot) device ≡ block_in cluster_version (images.place_of cluster_version spot) image
-  pub others : (spot : Spot) → images.IsSpot cluster_version geometry.slots spot → ¬ IsSpot geometry spot →
+  pub others : (spot : Spot) → images.IsSpot cluster_version (slot_rows geometry) spot → ¬ IsSpot geometry spot →
       block_in cluster_version (images.place_of cluster_version spot) image ≡ zeros BLOCK_LENGTH
 
 -- ---- from an image's places to those of the device
@@ -50,7 +50,7 @@ pub data RowOf : Type 0 where
 -- the device has this row
 abbrev pub IsRow : Geometry → RowOf → Type 0
 IsRow geometry BeatsRow = Unit {0}
-IsRow geometry (SlotRow slot) = slot < geometry.slots
+IsRow geometry (SlotRow slot) = slot < slot_rows geometry
 
 -- where it begins in an image, and on the device
 abbrev pub image_row : RowOf → ℕ

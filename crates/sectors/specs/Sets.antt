@@ -6,5 +6,6 @@ use Rattle.sectors.specs.declared.header.DeviceHeader.{DeviceHeader}
 pub record IsSameSet (one other : DeviceHeader) : Type 0 where
   pub cluster : one.cluster ≡ other.cluster
   pub disks : one.disks ≡ other.disks
+  pub kind : one.geometry.kind ≡ other.geometry.kind
   pub slots : one.geometry.slots ≡ other.geometry.slots
   pub hosts : one.geometry.hosts ≡ other.geometry.hosts

@@ -6,13 +6,13 @@ pub enum DeviceFault {
     /// The gate of its header is not open.
     #[error("the device is not formatted")]
     NotFormatted,
-    /// Its header is not of version 3.
+    /// Its header is neither of version 3 nor of version 5.
     #[error("the header of the device has another version")]
     WrongVersion,
     /// It is not the disk that it is named as, or there is no such disk among so many.
     #[error("the device is another disk")]
     WrongDisk,
-    /// It has no slots, or more than an image may have.
+    /// It has more or fewer slots than a log of its kind may have.
     #[error("the device has a wrong number of slots")]
     WrongSlots,
     /// Its sectors have none of the lengths that sectors may have.

@@ -1,7 +1,7 @@
 ghost use Rattle.std.specs.Prelude.{◌≡◌, ◌==◌, ◌↔◌, IsTrue, IfOk, IfNone, Ok, Err, Some, length};
 ghost use Rattle.std.specs.List.{list_all};
 ghost use Rattle.paxos_block.specs.Saying.{flag_of};
-ghost use Rattle.sectors.specs.Headers.{IsNamed, IsDeviceHeader, IsRight, IsFirst, header_saying, header_in};
+ghost use Rattle.sectors.specs.Headers.{IsNamed, IsDeviceHeader, IsRight, IsFirst, IsVersion, header_saying, header_in, kind_by, version_by};
 ghost use Rattle.sectors.specs.declared.fault.DeviceFault.{DeviceFault};
 
 use crate::fault::DeviceFault;
@@ -9,6 +9,7 @@ use crate::geometry::{
     Geometry, device_size, is_geometry, is_host_count, is_sector_size, is_slot_count,
 };
 use crate::number::{NUMBER_LENGTH, SHORT_LENGTH, number_in, put_short, put_zeros, short_in};
+use endless_image::Kind;
 use torn_block::{DISKS, OPEN_GATE, put_number};
 
 /// The bytes of the header: as many as the longest sector has.
@@ -16,6 +17,9 @@ pub const DEVICE_HEADER_LENGTH: usize = 4096;
 
 /// The version of such a device, where an image has the number of its layout.
 pub const DEVICE_VERSION: u8 = 3;
+
+/// The version of one whose log has no end.
+pub const ENDLESS_DEVICE_VERSION: u8 = 5;
 
 // Where the fields are, and the zeros after them.
 const GATE_AT: usize = 0;
@@ -105,13 +109,13 @@ fn first_fault(
     if bytes[GATE_AT] != OPEN_GATE {
         return Some(DeviceFault::NotFormatted);
     }
-    if bytes[VERSION_AT] != DEVICE_VERSION {
+    if !is_version(bytes[VERSION_AT]) {
         return Some(DeviceFault::WrongVersion);
     }
     if !is_named(disk, header) {
         return Some(DeviceFault::WrongDisk);
     }
-    if !is_slot_count(header.geometry.slots) {
+    if !is_slot_count(header.geometry.kind, header.geometry.slots) {
         return Some(DeviceFault::WrongSlots);
     }
     if !is_sector_size(header.geometry.sector_size) {
@@ -152,6 +156,7 @@ fn header_in(bytes: &[u8]) -> DeviceHeader
         geometry: Geometry {
             sector_size: short_in(&bytes[SECTOR_SIZE_AT..]),
             hosts: bytes[HOSTS_AT],
+            kind: kind_by(bytes[VERSION_AT]),
             slots: short_in(&bytes[SLOTS_AT..]),
         },
         dsync: bytes[WRITES_AT] == 1,
@@ -177,12 +182,39 @@ fn put_header(bytes: &mut [u8], header: &DeviceHeader)
     let (cluster, end) = rest.split_at_mut(NUMBER_LENGTH);
     let (sector_size, end) = end.split_at_mut(SHORT_LENGTH);
     let (kinds, zeros) = end.split_at_mut(REST_AT - PARTS_AT);
-    front.copy_from_slice(&[OPEN_GATE, DEVICE_VERSION, header.disk, header.disks]);
+    let version = version_by(header.geometry.kind);
+    front.copy_from_slice(&[OPEN_GATE, version, header.disk, header.disks]);
     put_short(slots, header.geometry.slots);
     put_number(cluster, header.cluster);
     put_short(sector_size, header.geometry.sector_size);
     kinds.copy_from_slice(&[PARTS, header.geometry.hosts, flag(header.dsync)]);
     put_zeros(zeros);
+}
+
+fn is_version(version: u8) -> bool
+    ensures { IsTrue result ↔ IsVersion version }
+{
+    version == DEVICE_VERSION || version == ENDLESS_DEVICE_VERSION
+}
+
+// What the version says, right or not.
+fn kind_by(version: u8) -> Kind
+    ensures { result ≡ kind_by version }
+{
+    if version == ENDLESS_DEVICE_VERSION {
+        Kind::Endless
+    } else {
+        Kind::Ending
+    }
+}
+
+fn version_by(kind: Kind) -> u8
+    ensures { result ≡ version_by kind }
+{
+    match kind {
+        Kind::Ending => DEVICE_VERSION,
+        Kind::Endless => ENDLESS_DEVICE_VERSION,
+    }
 }
 
 fn flag(set: bool) -> u8

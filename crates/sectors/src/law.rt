@@ -9,10 +9,16 @@ ghost use Rattle.paxos_block.specs.Places as images;
 ghost use Rattle.paxos_block.specs.Places.{Spot, BeatOf, VoteOf};
 ghost use Rattle.paxos_block.specs.declared.header.Header.{Header};
 ghost use Rattle.paxos_block.specs.Headers as older;
+ghost use Rattle.standings.specs.Epochs.{base_of, number_place};
+ghost use Rattle.endless_image.specs.declared.header.EndlessHeader.{EndlessHeader};
+ghost use Rattle.endless_image.specs.declared.kind.Kind.TheVariants.{Endless};
+ghost use Rattle.endless_image.specs.Headers as endless;
+ghost use Rattle.endless_image.specs.Kinds.{size_by};
+ghost use Rattle.endless_image.specs.Sizes.{area_size};
 ghost use Rattle.sectors.specs.declared.geometry.Geometry.{Geometry};
 ghost use Rattle.sectors.specs.declared.header.DeviceHeader.{DeviceHeader};
-ghost use Rattle.sectors.specs.declared.header.TheConstants.{DEVICE_HEADER_LENGTH};
-ghost use Rattle.sectors.specs.Geometry.{IsGeometry, row_size, device_size};
+ghost use Rattle.sectors.specs.declared.header.TheConstants.{DEVICE_HEADER_LENGTH, DEVICE_VERSION, VERSION_AT};
+ghost use Rattle.sectors.specs.Geometry.{IsGeometry, row_size, slot_rows, device_size};
 ghost use Rattle.sectors.specs.Headers.{IsDeviceHeader, IsRight, header_saying};
 ghost use Rattle.sectors.specs.Moments.{Sectors, Touch, IsSeen, Leads, Raises};
 ghost use Rattle.sectors.specs.Names.{name_of, sector_naming};
@@ -22,7 +28,7 @@ ghost use Rattle.sectors.specs.Places.{place_of, row_place, IsSpot, sector_at, r
 ghost use Rattle.sectors.specs.Row.{IsRowOf, Agree, sector_in};
 ghost use Rattle.sectors.specs.Sector.{block_of, stamp_of, stamped_of, sector_with};
 
-/// What a header is spelled to say is read, and nothing else; and whoever knows images alone refuses it.
+/// What a header is spelled to say is read, and nothing else. Whoever knows images alone refuses it; so does whoever knows logs that end alone.
 pub fn headers_come_back()
     ensures back { (long : ℕ) (header : DeviceHeader) → IsDeviceHeader header → header.cluster < 2 ^ 64 →
         device_size header.geometry ≤ long → IsRight header.disk long (header_saying header) header }
@@ -30,6 +36,10 @@ pub fn headers_come_back()
         IsRight disk long bytes b → a ≡ b }
     ensures images { (v : Version) (disk long : ℕ) (header : DeviceHeader) (other : Header) →
         ¬ older.IsRight v disk long (take HEADER_LENGTH (header_saying header)) other }
+    ensures endless { (disk long : ℕ) (header : DeviceHeader) (other : EndlessHeader) →
+        ¬ endless.IsRight disk long (take HEADER_LENGTH (header_saying header)) other }
+    ensures older { (header : DeviceHeader) → header.geometry.kind ≡ Endless →
+        slice_index (header_saying header) VERSION_AT ≢ DEVICE_VERSION }
 {}
 
 /// The sectors of two blocks have no byte in common, none is in the header, and the device has room for each. Each begins where a
@@ -43,6 +53,21 @@ pub fn places_are_apart()
         place_of geometry a + geometry.sector_size ≤ device_size geometry }
     ensures aligned { (geometry : Geometry) (a : Spot) → IsGeometry geometry →
         (n : ℕ) × (place_of geometry a ≡ geometry.sector_size * n) }
+{}
+
+/// A device has the rows of the image that it shows. Of a log without an end these are where its areas and its standings are.
+pub fn images_have_rows()
+    ensures long { (geometry : Geometry) →
+        images.image_length cluster_version (slot_rows geometry) ≡ size_by geometry.kind geometry.slots }
+    // The rows of standings follow the slots of the first area.
+    ensures standings { (slots area host : ℕ) → number_place (area_size slots) area host ≡
+        images.place_of cluster_version (VoteOf (slots + area) host) }
+    // Then come the heartbeat blocks of the second, and its slots.
+    ensures beats { (slots host : ℕ) → base_of (area_size slots) 1 + images.place_of cluster_version (BeatOf host) ≡
+        images.place_of cluster_version (VoteOf (slots + 2) host) }
+    ensures votes { (slots slot host : ℕ) →
+        base_of (area_size slots) 1 + images.place_of cluster_version (VoteOf slot host) ≡
+        images.place_of cluster_version (VoteOf (slots + 3 + slot) host) }
 {}
 
 /// What is gathered of a row's sectors has the blocks that the device has at their places, and there is no other such row.
@@ -72,7 +97,7 @@ pub fn rows_come_back()
 pub fn new_devices_show()
     ensures { (geometry : Geometry) (device image : List ℕ) → IsGeometry geometry →
         device_size geometry ≤ length device →
-        length image ≡ images.image_length cluster_version geometry.slots →
+        length image ≡ images.image_length cluster_version (slot_rows geometry) →
         ((k : ℕ) → DEVICE_HEADER_LENGTH ≤ k → slice_index device k ≡ 0) →
         ((k : ℕ) → area_place cluster_version ≤ k → slice_index image k ≡ 0) →
         Shows geometry device image }
@@ -81,12 +106,12 @@ pub fn new_devices_show()
 /// A row that is gathered is what a read of the image that the device shows would give.
 pub fn reads_show()
     ensures votes { (geometry : Geometry) (device image bytes : List ℕ) (slot : ℕ) → IsGeometry geometry →
-        slot < geometry.slots → length image ≡ images.image_length cluster_version geometry.slots →
+        slot < slot_rows geometry → length image ≡ images.image_length cluster_version (slot_rows geometry) →
         Shows geometry device image →
         IsRowOf geometry (row_in geometry (row_place geometry slot) device) bytes →
         bytes ≡ images.row_of cluster_version slot image }
     ensures beats { (geometry : Geometry) (device image bytes : List ℕ) → IsGeometry geometry →
-        length image ≡ images.image_length cluster_version geometry.slots →
+        length image ≡ images.image_length cluster_version (slot_rows geometry) →
         Shows geometry device image →
         IsRowOf geometry (row_in geometry DEVICE_HEADER_LENGTH device) bytes →
         bytes ≡ images.area_of cluster_version image }
@@ -103,7 +128,7 @@ pub fn writes_show()
         new ≡ put_at old (BLOCK_LENGTH * host + offset) from }
     ensures image { (geometry : Geometry) (device image from : List ℕ) (spot : Spot) (offset : ℕ) →
         IsGeometry geometry → IsSpot geometry spot → device_size geometry ≤ length device →
-        length image ≡ images.image_length cluster_version geometry.slots →
+        length image ≡ images.image_length cluster_version (slot_rows geometry) →
         offset + length from ≤ BLOCK_LENGTH →
         Shows geometry device image →
         Shows geometry (put_at device (place_of geometry spot)

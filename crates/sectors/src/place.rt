@@ -1,11 +1,11 @@
 // Where blocks are on a device, by their spots and by their places in an image of the cluster's layout.
 ghost use Rattle.std.specs.Prelude.{◌≡◌, ◌≢◌, ◌≤◌, ◌<◌, IfSome, IfNone};
 ghost use Rattle.paxos_block.specs.Places.{BeatOf, VoteOf};
-ghost use Rattle.sectors.specs.Geometry.{IsGeometry};
+ghost use Rattle.sectors.specs.Geometry.{IsGeometry, slot_rows};
 ghost use Rattle.sectors.specs.Places as places;
 ghost use Rattle.sectors.specs.Places.{place_of, RowOf, IsRow, IsRowAt, IsRangeAt, HasNoRangeAt, image_row};
 
-use crate::geometry::{Geometry, row_size};
+use crate::geometry::{Geometry, row_size, slot_rows};
 use crate::header::DEVICE_HEADER_LENGTH;
 use torn_block::{BLOCK_LENGTH, ROW_LENGTH};
 
@@ -21,7 +21,7 @@ pub struct SectorRange {
 /// Where a slot's row begins on the device.
 pub fn slot_row(geometry: &Geometry, slot: u32) -> u64
     requires shape { IsGeometry geometry.now }
-    requires slot { slot < geometry.now.slots }
+    requires slot { slot < slot_rows geometry.now }
     ensures { result ≡ places.row_place geometry.now slot }
 {
     let row = row_size(geometry);
@@ -31,7 +31,7 @@ pub fn slot_row(geometry: &Geometry, slot: u32) -> u64
 /// Where the sector of a host's block of a slot begins.
 pub fn vote_sector(geometry: &Geometry, slot: u32, host: u8) -> u64
     requires shape { IsGeometry geometry.now }
-    requires slot { slot < geometry.now.slots }
+    requires slot { slot < slot_rows geometry.now }
     requires host { host < geometry.now.hosts }
     ensures { result ≡ place_of geometry.now (VoteOf slot host) }
 {
@@ -54,7 +54,7 @@ pub fn row_at(geometry: &Geometry, at: u64) -> Option<u64>
     ensures none { IfNone result ((row : RowOf) → IsRow geometry.now row → at ≢ image_row row) }
 {
     let row = at / ROW_LENGTH as u64;
-    if at % ROW_LENGTH as u64 != 0 || row == 0 || row > u64::from(geometry.slots) + 1 {
+    if at % ROW_LENGTH as u64 != 0 || row == 0 || row > u64::from(slot_rows(geometry)) + 1 {
         return None;
     }
     Some(DEVICE_HEADER_LENGTH as u64 + row_size(geometry) * (row - 1))

@@ -11,6 +11,8 @@ pub enum SetFault {
     OtherCluster,
     #[error("the devices are of sets of different sizes")]
     OtherDisks,
+    #[error("the log of one device ends, and that of the other does not")]
+    OtherKind,
     #[error("the devices have different numbers of slots")]
     OtherSlots,
     #[error("the devices have different numbers of hosts")]
@@ -23,11 +25,16 @@ pub fn check_set(one: &DeviceHeader, other: &DeviceHeader) -> Result<(), SetFaul
     ensures cluster { (result ≡ Err SetFault.OtherCluster) ↔ (one.now.cluster ≢ other.now.cluster) }
     ensures disks { (result ≡ Err SetFault.OtherDisks) ↔
         ((one.now.cluster ≡ other.now.cluster) × (one.now.disks ≢ other.now.disks)) }
+    ensures kind { (result ≡ Err SetFault.OtherKind) ↔
+        ((one.now.cluster ≡ other.now.cluster) × (one.now.disks ≡ other.now.disks) ×
+        (one.now.geometry.kind ≢ other.now.geometry.kind)) }
     ensures slots { (result ≡ Err SetFault.OtherSlots) ↔
         ((one.now.cluster ≡ other.now.cluster) × (one.now.disks ≡ other.now.disks) ×
+        (one.now.geometry.kind ≡ other.now.geometry.kind) ×
         (one.now.geometry.slots ≢ other.now.geometry.slots)) }
     ensures hosts { (result ≡ Err SetFault.OtherHosts) ↔
         ((one.now.cluster ≡ other.now.cluster) × (one.now.disks ≡ other.now.disks) ×
+        (one.now.geometry.kind ≡ other.now.geometry.kind) ×
         (one.now.geometry.slots ≡ other.now.geometry.slots) ×
         (one.now.geometry.hosts ≢ other.now.geometry.hosts)) }
 {
@@ -36,6 +43,9 @@ pub fn check_set(one: &DeviceHeader, other: &DeviceHeader) -> Result<(), SetFaul
     }
     if one.disks != other.disks {
         return Err(SetFault::OtherDisks);
+    }
+    if one.geometry.kind != other.geometry.kind {
+        return Err(SetFault::OtherKind);
     }
     if one.geometry.slots != other.geometry.slots {
         return Err(SetFault::OtherSlots);

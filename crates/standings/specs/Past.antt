@@ -151,7 +151,7 @@ MayCallIn n e host past other = Unit {0}
 
 -- WHAT IT IS TOLD IN AN EPOCH
 
--- A row of the image was read, and then the standings once more, under one boot number. By them and an earlier reading it is clear whom to show, and the host itself is inside.
+-- A row of the image was read, and then the standings once more, under one boot number. By them and an earlier reading it is clear whom to show.
 pub record IsShown (n : ℕ) (e : Epoch) (host boot at : ℕ) (past : Past) (answer : Answer) : Type 0 where
   pub first : List ℕ
   pub row : List ℕ
@@ -161,7 +161,6 @@ pub record IsShown (n : ℕ) (e : Epoch) (host boot at : ℕ) (past : Past) (ans
   pub between : Past
   pub is : past ≡ early ++ reading n e.area boot first ∷ before ++ made (Read boot (base_of n e.area + at) ROW_LENGTH) (Told row) ∷ between ++ reading n e.area boot second ∷ []
   pub clear : AreClear e (numbers_in first) (numbers_in second)
-  pub inside : numbers_in second host ≡ e.number
   pub told : answer ≡ Told (masked (shown_by e (numbers_in first) (numbers_in second)) row)
 
 -- Or the last read under that boot number failed, and the host hears how; or it succeeded, and the host hears that it failed.

@@ -7,4 +7,4 @@ pub returns : goal.returns
 unfolding header_saying
 returns c =
     let rest : zeros (length c.split_at_mut-kinds.result.1.now) ≡ zeros (4096 - 23) = ap zeros (omega arith) in
-    rw (c.copy_from_slice.ensures.after, c.put_short.ensures, c.put_number.ensures, c.put_short-2.ensures, c.copy_from_slice-2.ensures.after, c.flag.ensures, c.put_zeros.ensures, rest) refl
+    rw (c.copy_from_slice.ensures.after, c.version_by-version.ensures, c.put_short.ensures, c.put_number.ensures, c.put_short-2.ensures, c.copy_from_slice-2.ensures.after, c.flag.ensures, c.put_zeros.ensures, rest) refl

@@ -1,0 +1,2 @@
+pub mod OverDevices
+pub mod World
