@@ -19,7 +19,7 @@ use Rattle.host.specs.declared.task.Task.TheVariants as task
 use Rattle.host.specs.Host.{Operation, Submitting, Recovering, Attempt, Looking, Marking, Doing, Attempts, Looks, Beats, Marks as MarksSlot, Memory, says, does, begins, full_answer, goes_on, is_submitted, after_learning, learns, takes, with_floor, tries_again, ended, by_status, with_heard, hears_from, beat_by, marking_by, marking_with, look_by, looking_with, looks_on, takes_marked, starts, suggested, reply_after}
 use Rattle.epoch_host.specs.declared.over.Over.{Over}
 use Rattle.epoch_host.specs.declared.stay.Work.{Work}
-use Rattle.epoch_host.specs.declared.stay.Work.TheVariants.{Goes, Carries, Marks}
+use Rattle.epoch_host.specs.declared.stay.Work.TheVariants.{Goes, Carries, Marks, Looks as LooksOnly}
 use Rattle.epoch_host.specs.Answering.{AreRead, DoesFor, EndsTask, IsFor, IsOfTask, IsPlaced, SaysFor}
 use Rattle.epoch_host.specs.Submitting.{IsClients, SubmitsFor}
 use Rattle.epoch_host.specs.Working.{IsSpelled}
@@ -45,6 +45,7 @@ pub does_of : (over : Over) (slots : ℕ) (given : Task) (what : Work) (m : Memo
 does_of over slots given Goes m None is = tt
 does_of over slots given (Carries at) m None is = tt
 does_of over slots given Marks m None is = tt
+does_of over slots given LooksOnly m None is = tt
 does_of over slots given what m (Some doing) is = is.0
 
 pub silent_of : (over : Over) (slots : ℕ) (given : Task) (what : Work) (m : Memory) (o : Option Doing) → is_none o ≡ false → GoesFor over slots given what m o → m.said ≡ None
@@ -187,6 +188,25 @@ module _ (over : Over) (given : Task) (c : Shape) where
   marked_part m t (mark.Ended (mark.Marked count)) = tt
   marked_part m t (mark.Ended mark.NoMajority) = tt
 
+-- A LOOK ALONE
+
+module _ (over : Over) (given : Task) (c : Shape) where
+  abbrev Alone : Memory → Type 0
+  Alone m = GoesFor over c.slots given LooksOnly m m.doing
+
+  alone_next : (m : Memory) (first : ℕ) → Alone (looks_on c m first)
+  alone_next m first = by_test Alone (nat_lt (length m.learned) c.slots) (does m (Looks (record { first = first; heard = [] }))) _ (tt, refl) refl
+
+  alone_told : (m : Memory) (d : ℕ) (o : Option Command) → Alone (takes_marked c m d o)
+  alone_told m d None = tt
+  alone_told m d (Some command) = alone_next (learns m command) d
+
+  alone_goes : (m : Memory) (t : Looking) (st : look.Status) → Alone (look_by c m t st)
+  alone_goes m t (look.Due disk) = (tt, refl)
+  alone_goes m t (look.Ended (look.Decided disk value)) = alone_told m disk (decoded value)
+  alone_goes m t (look.Ended look.Unmarked) = refl
+  alone_goes m t (look.Ended look.NoMajority) = tt
+
 -- ANY OF THEM
 
 -- so it goes on, or says
@@ -203,6 +223,11 @@ hears_for over given c Marks h m (Some (Attempts t)) d answer spelled busy may i
 hears_for over given c Marks h m (Some (Looks t)) d answer spelled busy may is inside = absurd may
 hears_for over given c Marks h m (Some (Beats heard)) d answer spelled busy may is inside = absurd may
 hears_for over given c Marks h m (Some (MarksSlot t)) d answer spelled busy may is inside = marked_part over given c m (marking_with t _) _
+hears_for over given c LooksOnly h m None d answer spelled busy may is inside = absurd (true≢false busy)
+hears_for over given c LooksOnly h m (Some (Attempts t)) d answer spelled busy may is inside = absurd may
+hears_for over given c LooksOnly h m (Some (Looks t)) d answer spelled busy may is inside = alone_goes over given c m (looking_with t _) _
+hears_for over given c LooksOnly h m (Some (Beats heard)) d answer spelled busy may is inside = absurd may
+hears_for over given c LooksOnly h m (Some (MarksSlot t)) d answer spelled busy may is inside = absurd may
 
 -- A PART OF THE TABLE BEGINS, AND ITS MARKING
 
@@ -213,10 +238,14 @@ pub mark_begins : (over : Over) (given : Task) (c : Shape) (m : Memory) (slot : 
 mark_begins over given c m slot =
     by_test (λ (n : Memory). GoesFor over c.slots given Marks n n.doing) (nat_lt slot (length m.learned)) (does m (MarksSlot (record { slot = slot; heard = [] }))) (says m (Refused refusal.NotLearned)) (tt, refl) tt
 
+-- A look alone begins.
+pub alone_begins : (over : Over) (given : Task) (c : Shape) (m : Memory) → GoesFor over c.slots given LooksOnly (starts c m task.Look) (starts c m task.Look).doing
+alone_begins over given c m = alone_next over given c m 0
+
 -- A LOOK AND A RECOVERY
 
-pub looked_ends : (over : Over) (slots : ℕ) (given : Task) (learned : List Command) (told : ℕ) → given ≡ task.Look → AreRead over slots learned told → EndsTask over slots given learned (Looked told)
+pub looked_ends : (over : Over) (slots : ℕ) (given : Task) (learned : List Command) (told : ℕ) → given ≡ task.Look → AreRead over learned told → EndsTask over slots given learned (Looked told)
 looked_ends over slots given learned told is read = subst (λ (x : Task). EndsTask over slots x learned (Looked told)) (sym is) read
 
-pub recovered_ends : (over : Over) (slots : ℕ) (given : Task) (learned : List Command) (told tries : ℕ) → given ≡ task.Recover tries → AreRead over slots learned told → EndsTask over slots given learned (Recovered told)
+pub recovered_ends : (over : Over) (slots : ℕ) (given : Task) (learned : List Command) (told tries : ℕ) → given ≡ task.Recover tries → AreRead over learned told × (length learned < slots) → EndsTask over slots given learned (Recovered told)
 recovered_ends over slots given learned told tries is read = subst (λ (x : Task). EndsTask over slots x learned (Recovered told)) (sym is) read

@@ -21,7 +21,7 @@ use Rattle.epoch_deeds.specs.Knowing.{Carries, IsDue, MaySubmit, SubmitsBy, Subm
 use Rattle.epoch_host.specs.declared.over.Over.{Over}
 use Rattle.epoch_host.specs.declared.over.Over.TheVariants.{Unknown, Known}
 use Rattle.epoch_host.specs.declared.stay.Work.{Work}
-use Rattle.epoch_host.specs.declared.stay.Work.TheVariants.{Goes, Carries as CarriesSlot, Marks}
+use Rattle.epoch_host.specs.declared.stay.Work.TheVariants.{Goes, Carries as CarriesSlot, Marks, Looks as LooksOnly}
 use Rattle.epoch_host.specs.Leading.{CarriesOver, IsSpelledBy, IsSpelledIn}
 use Rattle.epoch_host.specs.Submitting.{IsAsked, IsClients, IsDueIn, Stands, SubmitsFor}
 use Rattle.epoch_host.specs.Working.{GivesTries, IsSpelled}
@@ -96,6 +96,7 @@ module _ (c : Shape) (h e : ℕ) (deeds : Deeds) where
   submits_due over Goes learned (Some (Attempts t)) is may spelled = by_clients over learned t.operation is may
   submits_due over (CarriesSlot slot) learned (Some (Attempts t)) is may spelled = by_carried over slot learned t.operation is may.0 may.1 spelled
   submits_due over Marks learned (Some (Attempts t)) is may spelled = absurd may
+  submits_due over LooksOnly learned (Some (Attempts t)) is may spelled = absurd may
   submits_due over work learned (Some (Looks t)) is may spelled = tt
   submits_due over work learned (Some (Beats heard)) is may spelled = tt
   submits_due over work learned (Some (MarksSlot t)) is may spelled = tt

@@ -30,7 +30,7 @@ use Rattle.epoch_host.specs.declared.walk.Walk.{Walk}
 use Rattle.epoch_host.specs.declared.walk.Whereabouts.{Whereabouts}
 use Rattle.epoch_host.specs.declared.walk.Whereabouts.TheVariants.{Nowhere, Finds, In}
 use Rattle.epoch_host.specs.Answering.{AreRead, EndsTask}
-use Rattle.epoch_host.specs.Ending.{AreIdle, AreSilent, Ends, EndsSo, HasEnded, HasLearnedUpto, HasTable, IsDone, IsElsewhere, IsGivenUp, IsTableOf, IsUnlearned, Learns, Refuses, Says, TableIsThere, TaskGoesOn, in_epochs, in_places, place_in}
+use Rattle.epoch_host.specs.Ending.{AreIdle, AreSilent, Ends, EndsSo, HasEnded, HasLearnedUpto, HasTable, LacksTable, IsDone, IsElsewhere, IsGivenUp, IsTableOf, IsUnlearned, Learns, Refuses, Says, TableIsThere, TaskGoesOn, in_epochs, in_places, place_in}
 use Rattle.epoch_host.specs.Leading.{AllStopped, CarriesOver, LeadsTo, LeadsToPlace, LeadsToStay}
 use Rattle.epoch_host.specs.Staying.{IsAhead, IsAnswered, WorksFor}
 use Rattle.epoch_host.specs.Submitting.{Stands}
@@ -49,6 +49,16 @@ has_table c h e deeds (Known values before) learned (over, carries, spells, same
     let long : length values.items ≡ length over = ap (λ (l : List (List ℕ)). length l) same ∙ length-map over spelling in
     inl (over, carries, omega (arith, long, stands))
 
+-- and else it is not
+lacks_table : (c : Shape) (h e : ℕ) (deeds : Deeds) (over : Over) (learned : List Command) → CarriesOver c h e deeds over → (Stands over learned → ⊥) → LacksTable c h e deeds learned
+lacks_table c h e deeds Unknown learned is none = inr none
+lacks_table c h e deeds (Known values before) learned (over, carries, spells, same, all) none =
+    let long : length values.items ≡ length over = ap (λ (l : List (List ℕ)). length l) same ∙ length-map over spelling in
+    elim (cases_lt (length learned) (length values.items)) [
+      | inl less ↦ inl (over, carries, omega (arith, long, less))
+      | inr more ↦ absurd (none more)
+    ]
+
 module _ (c : Shape) (h : ℕ) (deeds : Deeds) (s : Stay) (led : LeadsToStay c h deeds s) where
   says_so : (said : HostAnswer) → s.core.said ≡ Some said → Says c h deeds s.epoch led.memory said
   says_so said is = record { runs = led.runs; is = sym led.leads.said ∙ is }
@@ -66,15 +76,15 @@ module _ (c : Shape) (h : ℕ) (deeds : Deeds) (s : Stay) (led : LeadsToStay c h
   place_here slot = ap (λ (k : Shape). place_in k s.epoch slot) led.config
 
   -- it has learned all that it tells
-  learns : (said : ℕ → HostAnswer) (told : ℕ) → s.core.said ≡ Some (said told) → AreRead s.over s.config.slots s.core.prefix told → Learns c h deeds said (place_in s.config s.epoch told)
-  learns said told is read =
+  learns : (said : ℕ → HostAnswer) (told : ℕ) → s.core.said ≡ Some (said told) → AreRead s.over s.core.prefix told → (said ≡ core.Recovered → length s.core.prefix < s.config.slots) → Learns c h deeds said (place_in s.config s.epoch told)
+  learns said told is read less =
       let all : told ≡ length led.memory.learned = read.all ∙ long_here in
       record {
         epoch = s.epoch;
         memory = led.memory;
         says = subst (λ (n : ℕ). Says c h deeds s.epoch led.memory (said n)) all (says_so (said told) is);
         there = place_here told ∙ ap (place_in c s.epoch) all;
-        below = (let below = read.below in omega (arith, below, long_here, slots_here));
+        below = λ recovers. (let below = less recovers in omega (arith, below, long_here, slots_here));
         whole = subst (HasTable c h s.epoch deeds) led.leads.prefix (table_here s.core.prefix read.stands);
       }
 
@@ -94,8 +104,8 @@ module _ (c : Shape) (h : ℕ) (deeds : Deeds) (s : Stay) (led : LeadsToStay c h
         replied = so.replied;
         whole = table_here so.before so.stands;
       }
-  ends_by (task.Recover tries) (core.Recovered told) is so = learns core.Recovered told is so
-  ends_by task.Look (core.Looked told) is so = learns core.Looked told is so
+  ends_by (task.Recover tries) (core.Recovered told) is so = learns core.Recovered told is so.0 (λ recovers. so.1)
+  ends_by task.Look (core.Looked told) is so = learns core.Looked told is so (λ recovers. absurd (let same : core.Looked 0 ≡ core.Recovered 0 = (λ i. recovers i 0) in cc))
   ends_by task.Beat (core.Beaten host) is so = (s.epoch, led.memory, says_so (core.Beaten host) is)
   ends_by (task.Mark slot) (core.Marked count) is so =
       record {
@@ -189,9 +199,9 @@ goes_ended Told o w answer none said ends there told =
     }
 
 -- the table is there, where what was learned is told
-table_there : (w : Walk) (s : Stay) (k : Shape) (own : Task) (said : HostAnswer) → w.is ≡ In s → WorksFor s.errand said → EndsTask s.over s.config.slots own s.core.prefix said → TableIsThere w (Some (in_places k s.epoch said))
-table_there w s k (task.Recover tries) (core.Recovered told) is works so = record { stay = s; is = is; works = works; whole = so.stands }
-table_there w s k task.Look (core.Looked told) is works so = record { stay = s; is = is; works = works; whole = so.stands }
+table_there : (w : Walk) (s : Stay) (k : Shape) (own : Task) (said : HostAnswer) → w.is ≡ In s → WorksFor s said → EndsTask s.over s.config.slots own s.core.prefix said → TableIsThere w (Some (in_places k s.epoch said))
+table_there w s k (task.Recover tries) (core.Recovered told) is works so = record { stay = s; is = is; works = works; whole = so.0.stands }
+table_there w s k task.Look (core.Looked told) is works so = record { stay = s; is = is; works = works.0; whole = so.stands }
 table_there w s k own (core.Refused refusal) is works so = tt
 table_there w s k own (core.Ack slot reply) is works so = tt
 table_there w s k own (core.Beaten host) is works so = tt
@@ -250,7 +260,7 @@ nowhere_unlearned c h deeds place stopped e slot memory runs there = absurd (let
 
 module _ (c : Shape) (h : ℕ) (deeds : Deeds) (s : Stay) (led : LeadsToStay c h deeds s) where
   -- a slot of this epoch that is not learned is learned nowhere
-  pub ahead_unlearned : (own : Task) → IsAhead own (length s.core.prefix) → IsUnlearned c h deeds (in_epochs s.config s.epoch own)
+  pub ahead_unlearned : (own : Task) → IsAhead own s → IsUnlearned c h deeds (in_epochs s.config s.epoch own)
   ahead_unlearned (task.Mark slot) ahead = λ e other memory runs there.
       let here = runs_here c h deeds s led e memory runs in
       let long : length s.core.prefix ≡ length memory.learned = ap (λ (l : List Command). length l) (learned_here c h deeds s led e memory runs) in
@@ -260,7 +270,13 @@ module _ (c : Shape) (h : ℕ) (deeds : Deeds) (s : Stay) (led : LeadsToStay c h
       omega (arith, most, long, same)
   ahead_unlearned (task.Submit command tries) ahead = absurd ahead
   ahead_unlearned (task.Recover tries) ahead = absurd ahead
-  ahead_unlearned task.Look ahead = absurd ahead
+  ahead_unlearned task.Look (inl less) = λ e memory runs.
+      let long : length s.core.prefix ≡ length memory.learned = ap (λ (l : List Command). length l) (learned_here c h deeds s led e memory runs) in
+      let slots : s.config.slots ≡ c.slots = slots_here c h deeds s led in
+      inl (omega (arith, less, long, slots))
+  ahead_unlearned task.Look (inr none) = λ e memory runs.
+      inr (subst (λ (k : ℕ). LacksTable c h k deeds memory.learned) (sym (runs_here c h deeds s led e memory runs).0)
+      (subst (LacksTable c h s.epoch deeds) (learned_here c h deeds s led e memory runs) (lacks_table c h s.epoch deeds s.over s.core.prefix led.over none)))
   ahead_unlearned task.Beat ahead = absurd ahead
 
   -- nor is a place of another epoch

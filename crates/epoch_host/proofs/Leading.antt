@@ -41,7 +41,7 @@ use Rattle.epoch_host.proofs.Beginning.{begun_ready, spelled_begun}
 use Rattle.epoch_host.proofs.Due.{may_carry, may_give}
 use Rattle.epoch_host.proofs.Going.{are_open_later, carries_over_later, goes_none, makes_as}
 use Rattle.epoch_host.proofs.OneDeed.{goes_by, makes_by, core_by_call, core_started, core_begun, other_started, other_begun, past_by_begin, past_called, adds_call, follows_same, follows_unseen}
-use Rattle.epoch_host.proofs.Submitting.{carried_begun, client_begun, marking_begun}
+use Rattle.epoch_host.proofs.Submitting.{alone_begun, carried_begun, client_begun, marking_begun}
 
 -- nothing is done
 pub stays_as : (s : Stay) → GoesOnIn s s
@@ -65,12 +65,11 @@ given_led c h deeds s given tries led =
 
 -- IT STARTS
 
--- a core starts, that knows nothing, and the host comes to the epoch on a disk
-pub starts_led : (c : Shape) (h : ℕ) (deeds : Deeds) (s : Stay) (disk : ℕ) (notes : Notes) → s.doing ≡ Comes disk notes → s.config ≡ c → s.host ≡ h → AllStopped c h deeds → AreOpen c h s.epoch deeds → CarriesOver c h s.epoch deeds s.over
-    → LeadsTo c h fresh s.core → ((pasts : Pasts) → Follows s.window pasts) → ((d : ℕ) → sight_of s.window d ≡ None) → s.window.reading ≡ None
-    → ((past : Past) → coming.Knows (image_of c) h past notes) → notes.epoch ≡ epoch_of s.epoch
+-- a core starts, that knows nothing
+pub starts_led : (c : Shape) (h : ℕ) (deeds : Deeds) (s : Stay) → s.doing ≡ Nothing → s.config ≡ c → s.host ≡ h → AllStopped c h deeds → AreOpen c h s.epoch deeds → CarriesOver c h s.epoch deeds s.over
+    → LeadsTo c h fresh s.core → ((pasts : Pasts) → Follows s.window pasts) → s.window.reading ≡ None
     → GoesOn c h deeds (λ after. LeadsToStay c h after s)
-starts_led c h deeds s disk notes doing config host stopped opened over leads follows unseen rests knows towards =
+starts_led c h deeds s doing config host stopped opened over leads follows rests =
     let after : Deeds = deeds ++ Starts s.epoch ∷ [] in
     goes_by c h deeds (Starts s.epoch) (λ after. LeadsToStay c h after s) tt (stopped s.epoch, opened s.epoch (omega arith))
     (record {
@@ -83,7 +82,7 @@ starts_led c h deeds s disk notes doing config host stopped opened over leads fo
       leads = leads;
       window = follows (pasts_of after);
       over = carries_over_later c h s.epoch deeds (Starts s.epoch ∷ []) s.over over;
-      doing = subst (DoesSo c h after s fresh) (sym doing) (record { knows = knows (past_on disk after); towards = towards; unseen = unseen disk; rests = rests });
+      doing = subst (DoesSo c h after s fresh) (sym doing) rests;
     })
 
 -- NOTHING IS UNDER WAY
@@ -157,6 +156,12 @@ module _ (c : Shape) (h : ℕ) (deeds : Deeds) (s : Stay) (led : LeadsToStay c h
         (may_give c h s.epoch deeds given some (subst (λ (host : ℕ). IsAsked host given) led.host asked) spelled
         (λ slot same. subst (λ (k : Shape). slot < k.slots) led.config (subst (λ (t : Task). HasRoom t (length s.core.prefix) s.config.slots) same room).1))
         (client_begun c s.over led.memory given (subst (λ (l : List Command). MayCarryOut s.over l given) led.leads.prefix may))
+
+    -- a look alone
+    pub look_on : given ≡ task.Look → GoesOn c h deeds (λ after. LeadsToStay c h after (record s { core = core; doing = Works work.Looks }))
+    look_on is =
+        begins_led work.Looks (subst (MayBeGiven c h) (sym is) tt)
+        (subst (λ (t : Task). SubmitsFor s.over work.Looks (starts c led.memory t).learned (starts c led.memory t).doing) (sym is) (alone_begun c s.over led.memory))
 
     -- what is due in the next slot
     pub submit_on : (slot tries : ℕ) (command : Command) → given ≡ task.Submit command tries → decoded (spelling command) ≡ Some command → slot ≡ length s.core.prefix → 1 ≤ tries → IsDueIn s.over slot (Submitting command)

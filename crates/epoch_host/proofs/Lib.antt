@@ -7,6 +7,7 @@ mod Going
 mod Hearing
 pub mod Knowing
 mod Leading
+mod Looking
 mod Moving
 mod OneDeed
 mod Owning

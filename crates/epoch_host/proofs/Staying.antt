@@ -23,11 +23,11 @@ use Rattle.host.specs.declared.answer.HostAnswer.{HostAnswer}
 use Rattle.host.specs.declared.answer.HostAnswer.TheVariants as answers
 use Rattle.epoch_host.specs.declared.stay.Leave.TheVariants as leave
 use Rattle.epoch_host.specs.Answering.{DoesFor, EndsTask, IsFor, SaysFor}
-use Rattle.epoch_host.specs.Staying.{CoreWorks, IsDoing, IsSoLeft, IsSound, Rests, WorksFor}
+use Rattle.epoch_host.specs.Staying.{CoreWorks, IsDoing, IsLooking, IsSoLeft, IsSound, Rests, WorksFor, only_looks_for}
 use Rattle.epoch_host.specs.Submitting.{IsDueIn, StaysAt, SubmitsFor, MayCarryOut}
 use Rattle.epoch_host.specs.Working.{IsAnswer, IsAt, IsKnown, IsWorking, IsWhole, IsSpelled, HasRoom}
-use Rattle.epoch_host.proofs.Answering.{GoesFor, begins_for, does_of, hears_for, mark_begins, part_begins, silent_of}
-use Rattle.epoch_host.proofs.Submitting.{client_begun, carried_begun, heard_submits, marking_begun}
+use Rattle.epoch_host.proofs.Answering.{GoesFor, alone_begins, begins_for, does_of, hears_for, mark_begins, part_begins, silent_of}
+use Rattle.epoch_host.proofs.Submitting.{alone_begun, client_begun, carried_begun, heard_submits, marking_begun}
 use Rattle.epoch_host.proofs.Working.{hears_more, hears_so, starts_so, starts_busy}
 
 -- what follows from what holds of the value, if there is one
@@ -123,6 +123,24 @@ module _ (over : Over) (own : Task) (old new : Kept) (given : Task) (known : IsK
   mark_now : (slot : ℕ) → given ≡ task.Mark slot → GoesFor over known.shape.slots own work.Marks after after.doing
   mark_now slot is =
       subst (λ (t : Task). GoesFor over known.shape.slots own work.Marks (starts known.shape known.memory t) (starts known.shape known.memory t).doing) (sym is) (mark_begins over own known.shape known.memory slot)
+
+  alone_now : given ≡ task.Look → GoesFor over known.shape.slots own work.Looks after after.doing
+  alone_now is =
+      subst (λ (t : Task). GoesFor over known.shape.slots own work.Looks (starts known.shape known.memory t) (starts known.shape known.memory t).doing) (sym is) (alone_begins over own known.shape known.memory)
+
+  -- or it looks alone
+  pub has_looked : given ≡ task.Look → HasBegun over own work.Looks old new
+  has_looked is =
+      record {
+        host = same_host;
+        shape = same_shape;
+        prefix = same_prefix;
+        busy = busy_there;
+        works = works_there;
+        submits = subst (λ (t : Task). SubmitsFor over work.Looks (starts known.shape known.memory t).learned (starts known.shape known.memory t).doing) (sym is) (alone_begun known.shape over known.memory);
+        does = does_of over known.shape.slots own work.Looks after after.doing (alone_now is);
+        silent = silent_there work.Looks (alone_now is);
+      }
 
   -- or what is due in the next slot
   pub has_submitted : (slot tries : ℕ) (command : Command) → given ≡ task.Submit command tries → slot ≡ length old.prefix → IsDueIn over slot (Submitting command) → HasBegun over own (work.Carries slot) old new
@@ -248,8 +266,8 @@ pub rests_in : (s : Stay) → IsSound s → s.doing ≡ Nothing → Rests s
 rests_in s is rests = subst (IsDoing s) rests is.doing
 
 -- where its core has begun something, all is sound again
-pub begun_sound : (s : Stay) (core : Kept) (what : Work) → IsSound s → HasBegun s.over s.task what s.core core → IsSound (record s { core = core; doing = Works what })
-begun_sound s core what is begun =
+pub begun_sound : (s : Stay) (core : Kept) (what : Work) → IsSound s → (only_looks_for s.errand ≡ true → what ≡ work.Looks) → HasBegun s.over s.task what s.core core → IsSound (record s { core = core; doing = Works what })
+begun_sound s core what is alone begun =
     let long : length core.prefix ≡ length s.core.prefix = ap (λ (l : List Command). length l) begun.prefix in
     record {
       epoch = is.epoch;
@@ -264,8 +282,13 @@ begun_sound s core what is begun =
       asked = is.asked;
       spelled = is.spelled;
       marks = λ slot same. subst (λ (n : ℕ). HasRoom s.task n s.config.slots) (sym long) (is.marks slot same);
+      looks = λ only. ((is.looks only).0, alone only);
       doing = record { busy = begun.busy; works = begun.works; submits = begun.submits; does = begun.does; silent = begun.silent };
     }
+
+-- one that comes to the epoch does not only look
+comes_not : {P : Type 0} (b : Bool) → b ≡ false → b ≡ true → P
+comes_not b comes only = absurd (true≢false (sym only ∙ comes))
 
 -- as many slots as the core's log has
 module _ (s : Stay) (is : IsSound s) (rests : s.doing ≡ Nothing) (core : Kept) (given : Task) (leads : (c : Shape) (h : ℕ) (m : Memory) → LeadsTo c h m s.core → LeadsTo c h (starts c m given) core) (spelled : IsSpelled given)
@@ -279,14 +302,17 @@ module _ (s : Stay) (is : IsSound s) (rests : s.doing ≡ Nothing) (core : Kept)
   known_here : IsKnown s.core
   known_here = (rests_in s is rests).known
 
-  pub work_sound : MayCarryOut s.over s.core.prefix given → IsFor s.task given → IsSound (record s { core = core; doing = Works work.Goes })
-  work_sound may before = begun_sound s core work.Goes is (has_begun s.over s.task s.core core given known_here leads spelled room_here few_here may before)
+  pub look_sound : given ≡ task.Look → IsSound (record s { core = core; doing = Works work.Looks })
+  look_sound same = begun_sound s core work.Looks is (λ only. refl) (has_looked s.over s.task s.core core given known_here leads spelled room_here few_here same)
 
-  pub submit_sound : (slot tries : ℕ) (command : Command) → given ≡ task.Submit command tries → slot ≡ length s.core.prefix → IsDueIn s.over slot (Submitting command) → IsSound (record s { core = core; doing = Works (work.Carries slot) })
-  submit_sound slot tries command same next due = begun_sound s core (work.Carries slot) is (has_submitted s.over s.task s.core core given known_here leads spelled room_here few_here slot tries command same next due)
+  pub work_sound : only_looks_for s.errand ≡ false → MayCarryOut s.over s.core.prefix given → IsFor s.task given → IsSound (record s { core = core; doing = Works work.Goes })
+  work_sound comes may before = begun_sound s core work.Goes is (comes_not (only_looks_for s.errand) comes) (has_begun s.over s.task s.core core given known_here leads spelled room_here few_here may before)
 
-  pub mark_sound : (slot : ℕ) → given ≡ task.Mark slot → IsSound (record s { core = core; doing = Works work.Marks })
-  mark_sound slot same = begun_sound s core work.Marks is (has_marked s.over s.task s.core core given known_here leads spelled room_here few_here slot same)
+  pub submit_sound : only_looks_for s.errand ≡ false → (slot tries : ℕ) (command : Command) → given ≡ task.Submit command tries → slot ≡ length s.core.prefix → IsDueIn s.over slot (Submitting command) → IsSound (record s { core = core; doing = Works (work.Carries slot) })
+  submit_sound comes slot tries command same next due = begun_sound s core (work.Carries slot) is (comes_not (only_looks_for s.errand) comes) (has_submitted s.over s.task s.core core given known_here leads spelled room_here few_here slot tries command same next due)
+
+  pub mark_sound : only_looks_for s.errand ≡ false → (slot : ℕ) → given ≡ task.Mark slot → IsSound (record s { core = core; doing = Works work.Marks })
+  mark_sound comes slot same = begun_sound s core work.Marks is (comes_not (only_looks_for s.errand) comes) (has_marked s.over s.task s.core core given known_here leads spelled room_here few_here slot same)
 
 -- WHERE IT HEARS AN ANSWER
 
@@ -310,6 +336,7 @@ waits_sound s what window is works same =
       asked = is.asked;
       spelled = is.spelled;
       marks = is.marks;
+      looks = is.looks;
       doing = subst (IsDoing (record s { window = window })) (sym works) (record { busy = at.busy; works = at.works; submits = at.submits; does = at.does; silent = at.silent });
     }
 
@@ -347,8 +374,8 @@ module _ (s : Stay) (what : Work) (window : Window) (core : Kept) (is : IsSound 
   pub longer : length s.core.prefix ≤ length core.prefix
   longer = heard.more
 
-  sound_with : (doing : Doing) → IsDoing (record s { window = window; core = core; doing = doing }) doing → IsSound (record s { window = window; core = core; doing = doing })
-  sound_with doing so =
+  sound_with : (doing : Doing) → (only_looks_for s.errand ≡ true → IsLooking doing) → IsDoing (record s { window = window; core = core; doing = doing }) doing → IsSound (record s { window = window; core = core; doing = doing })
+  sound_with doing alone so =
       record {
         epoch = is.epoch;
         few = is.few;
@@ -362,17 +389,18 @@ module _ (s : Stay) (what : Work) (window : Window) (core : Kept) (is : IsSound 
         asked = is.asked;
         spelled = is.spelled;
         marks = λ slot marking. room_longer s.task s.config.slots (length s.core.prefix) (length core.prefix) slot marking longer (is.marks slot marking);
+        looks = λ only. ((is.looks only).0, alone only);
         doing = so;
       }
 
   pub heard_rests : is_idle core ≡ true → IsSound (record s { window = window; core = core; doing = Nothing })
-  heard_rests idle = sound_with Nothing (record { idle = idle; known = heard.known })
+  heard_rests idle = sound_with Nothing (λ only. tt) (record { idle = idle; known = heard.known })
 
   pub heard_leaves : IsSound (record s { window = window; core = core; doing = Leaves })
-  heard_leaves = sound_with Leaves tt
+  heard_leaves = sound_with Leaves (λ only. tt) tt
 
   pub heard_works : is_idle core ≡ false → StaysAt what (length core.prefix) → IsSound (record s { window = window; core = core; doing = Works what })
-  heard_works busy stays = sound_with (Works what) (record { busy = busy; works = heard.works; submits = heard.submits stays; does = heard.does; silent = heard.silent busy })
+  heard_works busy stays = sound_with (Works what) (λ only. subst IsLooking works (is.looks only).1) (record { busy = busy; works = heard.works; submits = heard.submits stays; does = heard.does; silent = heard.silent busy })
 
   -- an idle core has answered
   pub heard_answer : is_idle core ≡ true → IsAnswer s.config (length core.prefix) core.said
@@ -406,7 +434,7 @@ module _ (s : Stay) (what : Work) (said : HostAnswer) (fits : SaysFor s.over s.c
   marks_no_beat host at is = says_at work.Marks (answers.Beaten host) at is
 
   module _ (rests : s.doing ≡ Nothing) (says : s.core.said ≡ Some said) where
-    told_left : (told : HostAnswer) → said ≡ told → EndsTask s.over s.config.slots s.task s.core.prefix told → WorksFor s.errand told → IsSoLeft s.task (Some (leave.Answered said)) s
+    told_left : (told : HostAnswer) → said ≡ told → EndsTask s.over s.config.slots s.task s.core.prefix told → WorksFor s told → IsSoLeft s.task (Some (leave.Answered said)) s
     told_left told is ends works =
         subst (λ (x : HostAnswer). (s.core.said ≡ Some said) → IsSoLeft s.task (Some (leave.Answered x)) s) (sym is) (λ here. (rests, (here ∙ ap (λ (x : HostAnswer). Some x) is, ends, works))) says
 

@@ -20,7 +20,7 @@ use Rattle.host.specs.Host.{Operation, Submitting, Recovering, Attempt, Looking,
 use Rattle.epoch_host.specs.declared.over.Over.{Over}
 use Rattle.epoch_host.specs.declared.over.Over.TheVariants.{Unknown, Known}
 use Rattle.epoch_host.specs.declared.stay.Work.{Work}
-use Rattle.epoch_host.specs.declared.stay.Work.TheVariants.{Goes, Carries, Marks}
+use Rattle.epoch_host.specs.declared.stay.Work.TheVariants.{Goes, Carries, Marks, Looks as LooksOnly}
 use Rattle.epoch_host.specs.Submitting.{Stands, IsClients, IsDueIn, StaysAt, SubmitsFor, MayCarryOut}
 
 by_test : (P : Memory → Type 0) (b : Bool) (m n : Memory) → (b ≡ true → P m) → (b ≡ false → P n) → P (if b then m else n)
@@ -166,6 +166,28 @@ module _ (c : Shape) (over : Over) where
   marking_goes m t (mark.Ended (mark.Marked count)) = tt
   marking_goes m t (mark.Ended mark.NoMajority) = tt
 
+-- A LOOK ALONE
+
+module _ (c : Shape) (over : Over) where
+  abbrev OnlyLooks : Memory → Type 0
+  OnlyLooks m = SubmitsFor over LooksOnly m.learned m.doing
+
+  alone_next : (m : Memory) (first : ℕ) → OnlyLooks (looks_on c m first)
+  alone_next m first = by_test OnlyLooks (nat_lt (length m.learned) c.slots) (does m (Looks (record { first = first; heard = [] }))) _ (λ less. tt) (λ full. tt)
+
+  pub alone_begun : (m : Memory) → OnlyLooks (starts c m task.Look)
+  alone_begun m = alone_next m 0
+
+  alone_told : (m : Memory) (d : ℕ) (o : Option Command) → OnlyLooks (takes_marked c m d o)
+  alone_told m d None = tt
+  alone_told m d (Some command) = alone_next (learns m command) d
+
+  alone_goes : (m : Memory) (t : Looking) (st : look.Status) → OnlyLooks (look_by c m t st)
+  alone_goes m t (look.Due disk) = tt
+  alone_goes m t (look.Ended (look.Decided disk value)) = alone_told m disk (decoded value)
+  alone_goes m t (look.Ended look.Unmarked) = tt
+  alone_goes m t (look.Ended look.NoMajority) = tt
+
 -- ANY OF THEM
 
 -- what is submitted stays due, unless the core has gone on to another slot with what was due in one
@@ -182,3 +204,8 @@ heard_submits c over Marks h m (Some (Attempts t)) d answer busy is stays = absu
 heard_submits c over Marks h m (Some (Looks t)) d answer busy is stays = absurd is
 heard_submits c over Marks h m (Some (Beats heard)) d answer busy is stays = absurd is
 heard_submits c over Marks h m (Some (MarksSlot t)) d answer busy is stays = marking_goes c over m (marking_with t _) _
+heard_submits c over LooksOnly h m None d answer busy is stays = absurd (true≢false busy)
+heard_submits c over LooksOnly h m (Some (Attempts t)) d answer busy is stays = absurd is
+heard_submits c over LooksOnly h m (Some (Looks t)) d answer busy is stays = alone_goes c over m (looking_with t _) _
+heard_submits c over LooksOnly h m (Some (Beats heard)) d answer busy is stays = absurd is
+heard_submits c over LooksOnly h m (Some (MarksSlot t)) d answer busy is stays = absurd is

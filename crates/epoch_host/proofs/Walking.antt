@@ -1,9 +1,10 @@
 -- A host with a task under way has a call due.
 use Rattle.std.specs.Prelude.{IsSome}
-use Rattle.std.proofs.Common.{◌≡◌, ◌≤◌, ℕ, Option, Some, None, refl, sym, ◌∙◌, ap, subst, true≢false}
+use Rattle.std.proofs.Common.{◌≡◌, ◌≤◌, ℕ, true, Option, Some, None, refl, sym, ◌∙◌, ap, subst, true≢false}
 use Rattle.torn_block.specs.declared.layout.TheConstants.{DISKS}
 use Rattle.paxos_block.specs.Shape.{Shape}
 use Rattle.epoch_host.specs.declared.task.EpochTask.{EpochTask}
+use Rattle.epoch_host.specs.declared.task.EpochTask.TheVariants.{Look}
 use Rattle.host.specs.declared.task.Task.{Task}
 use Rattle.epoch_host.specs.declared.stay.Leave.{Leave}
 use Rattle.epoch_host.specs.declared.stay.Stay.{Stay}
@@ -13,7 +14,7 @@ use Rattle.epoch_host.specs.declared.walk.Whereabouts.TheVariants.{In}
 use Rattle.epoch_host.specs.Ending.{in_epochs}
 use Rattle.epoch_host.specs.Staying as stay
 use Rattle.epoch_host.specs.Staying.{IsBusy}
-use Rattle.epoch_host.specs.Walking.{GoesFor, HasFew, IsAt, IsGoing, IsLeftFor, IsResting, IsSame, IsSound, IsStaying, MayBegin}
+use Rattle.epoch_host.specs.Walking.{GoesFor, HasFew, IsAt, IsGoing, IsLeftFor, IsResting, IsSameWalk, IsSound, IsStaying, MayBegin}
 
 -- its task, and where it goes on
 pub record IsUnderWay (w : Walk) : Type 0 where
@@ -33,20 +34,25 @@ is_under_way w is busy = go w.task refl is.here busy
 
 -- IN AN EPOCH
 
-module _ (old new : Walk) (s : Stay) (few : HasFew old) (same : IsSame old new) (here : new.is ≡ In s) (staying : IsStaying old s) where
+module _ (old new : Walk) (s : Stay) (few : HasFew old) (same : IsSameWalk old new) (here : new.is ≡ In s) (staying : IsStaying old s) where
   few_new : HasFew new
   few_new = subst (λ (k : Shape). (1 ≤ k.disks) × (k.disks ≤ DISKS) × (1 ≤ k.slots)) (sym same.config) few
 
   stays_new : IsStaying new s
-  stays_new = record { sound = staying.sound; host = staying.host ∙ sym same.host; config = staying.config ∙ sym same.config }
+  stays_new = record { sound = staying.sound; host = staying.host ∙ sym same.host; config = staying.config ∙ sym same.config; looks = staying.looks ∙ sym same.looks }
 
   -- it has no task
   pub rests_sound : new.task ≡ None → s.doing ≡ Nothing → IsSound new
-  rests_sound idle rests = record { few = few_new; here = subst (IsAt new) (sym idle) (subst (IsResting new) (sym here) (stays_new, rests)) }
+  rests_sound idle rests =
+      record {
+        few = few_new;
+        here = subst (IsAt new) (sym idle) (subst (IsResting new) (sym here) (stays_new, rests));
+        looks = λ only task is. absurd (let both : None ≡ Some task = sym idle ∙ is in cc);
+      }
 
   -- or has one, and a call is due
-  pub goes_sound : (given : EpochTask) → new.task ≡ Some given → MayBegin old.host given → IsBusy s.doing → given ≡ in_epochs s.config s.epoch s.task → new.said ≡ None → IsSound new
-  goes_sound given some may busy goes silent =
+  pub goes_sound : (given : EpochTask) → new.task ≡ Some given → (old.only_looks ≡ true → given ≡ Look) → MayBegin old.host given → IsBusy s.doing → given ≡ in_epochs s.config s.epoch s.task → new.said ≡ None → IsSound new
+  goes_sound given some alone may busy goes silent =
       record {
         few = few_new;
         here =
@@ -56,6 +62,7 @@ module _ (old new : Walk) (s : Stay) (few : HasFew old) (same : IsSame old new) 
               subst (GoesFor given) (sym here) goes,
               silent,
             );
+        looks = λ only task is. (let both : Some given ≡ Some task = sym some ∙ is in let one : given ≡ task = cc in sym one ∙ alone (sym same.looks ∙ only));
       }
 
 -- a task that is this one of all epochs is so where the host stays in its epoch

@@ -9,7 +9,7 @@ use Rattle.host.specs.declared.task.Task.TheVariants.{Submit, Recover, Look, Bea
 use Rattle.host.specs.Host.{Operation, Submitting, Recovering, Doing, Attempts, Looks, Beats, Marks as MarksSlot, reply_after}
 use Rattle.epoch_host.specs.declared.over.Over.{Over}
 use Rattle.epoch_host.specs.declared.stay.Work.{Work}
-use Rattle.epoch_host.specs.declared.stay.Work.TheVariants.{Goes, Carries, Marks}
+use Rattle.epoch_host.specs.declared.stay.Work.TheVariants.{Goes, Carries, Marks, Looks as LooksOnly}
 use Rattle.epoch_host.specs.Submitting.{Stands}
 
 -- WHAT IS UNDER WAY
@@ -45,18 +45,17 @@ pub record IsPlaced (over : Over) (learned : List Command) (command : Command) (
   pub replied : reply ≡ reply_after before command
   pub stands : Stands over before
 
--- So many commands are learned, and not all of the epoch. All that carries the table over is among them.
-pub record AreRead (over : Over) (slots : ℕ) (learned : List Command) (told : ℕ) : Type 0 where
+-- So many commands are learned. All that carries the table over is among them.
+pub record AreRead (over : Over) (learned : List Command) (told : ℕ) : Type 0 where
   pub all : told ≡ length learned
-  pub below : length learned < slots
   pub stands : Stands over learned
 
--- so a task ends in an epoch of which this was learned
+-- So a task ends in an epoch of which this was learned. A recovery that ends there is not of the whole epoch.
 abbrev pub EndsTask : Over → (slots : ℕ) → Task → (learned : List Command) → HostAnswer → Type 0
 EndsTask over slots task learned (Refused refusal) = Unit {0}
 EndsTask over slots (Submit command tries) learned (Ack slot reply) = IsPlaced over learned command slot reply
-EndsTask over slots (Recover tries) learned (Recovered told) = AreRead over slots learned told
-EndsTask over slots Look learned (Looked told) = AreRead over slots learned told
+EndsTask over slots (Recover tries) learned (Recovered told) = AreRead over learned told × (length learned < slots)
+EndsTask over slots Look learned (Looked told) = AreRead over learned told
 EndsTask over slots Beat learned (Beaten host) = Unit {0}
 EndsTask over slots (Mark slot) learned (Marked count) = slot < length learned
 EndsTask over slots task learned other = ⊥
@@ -70,8 +69,10 @@ SaysFor over slots task work learned (Some (Looked told)) = told ≡ length lear
 SaysFor over slots task Goes learned (Some (Ack slot reply)) = EndsTask over slots task learned (Ack slot reply)
 SaysFor over slots task (Carries at) learned (Some (Ack slot reply)) = Unit {0}
 SaysFor over slots task Marks learned (Some (Ack slot reply)) = ⊥
+SaysFor over slots task LooksOnly learned (Some (Ack slot reply)) = ⊥
 SaysFor over slots task Goes learned (Some (Beaten host)) = EndsTask over slots task learned (Beaten host)
 SaysFor over slots task other learned (Some (Beaten host)) = ⊥
 SaysFor over slots task Goes learned (Some (Marked count)) = EndsTask over slots task learned (Marked count)
 SaysFor over slots task (Carries at) learned (Some (Marked count)) = ⊥
 SaysFor over slots task Marks learned (Some (Marked count)) = Unit {0}
+SaysFor over slots task LooksOnly learned (Some (Marked count)) = ⊥

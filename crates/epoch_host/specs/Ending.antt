@@ -1,8 +1,8 @@
 -- How a task of a host ends, by what the host did: what a core of it said last, in places of all epochs.
-use Rattle.std.specs.Prelude.{◌≡◌, ◌≢◌, ◌⊎◌, ◌+◌, ◌*◌, ◌<◌, ◌≤◌, ℕ, List, [], ◌∷◌, ◌++◌, length, Option, Some, None, IsSome}
+use Rattle.std.specs.Prelude.{◌≡◌, ◌≢◌, ◌⊎◌, ◌+◌, ◌*◌, ◌<◌, ◌≤◌, ℕ, true, List, [], ◌∷◌, ◌++◌, length, Option, Some, None, IsSome}
 use Rattle.paxos_block.specs.Shape.{Shape}
 use Rattle.attempt.specs.declared.refusal.Refusal.{Refusal}
-use Rattle.attempt.specs.declared.refusal.Refusal.TheVariants.{Outrun, NoMajority, LogFull, NotLearned}
+use Rattle.attempt.specs.declared.refusal.Refusal.TheVariants.{Outrun, NoMajority, LogFull, NotLearned, BallotsSpent}
 use Rattle.lock_command.specs.declared.command.Command.{Command}
 use Rattle.lock_command.specs.declared.reply.Reply.{Reply}
 use Rattle.lock_table.specs.Apply.{table_after}
@@ -19,10 +19,10 @@ use Rattle.epoch_host.specs.declared.answer.EpochAnswer.TheVariants.{Ack, Recove
 use Rattle.epoch_host.specs.declared.task.EpochTask.{EpochTask}
 use Rattle.epoch_host.specs.declared.task.EpochTask.TheVariants.{Submit, Recover, Look, Beat, Mark}
 use Rattle.epoch_host.specs.declared.stay.Stay.{Stay}
-use Rattle.epoch_host.specs.declared.stay.Errand.TheVariants.{Works}
 use Rattle.epoch_host.specs.declared.walk.Walk.{Walk}
 use Rattle.epoch_host.specs.declared.walk.Whereabouts.TheVariants.{In}
 use Rattle.epoch_host.specs.Leading.{LeadsTo}
+use Rattle.epoch_host.specs.Staying.{shows_table_for}
 use Rattle.epoch_host.specs.Submitting.{Stands}
 
 -- PLACES
@@ -69,6 +69,10 @@ pub record Says (c : Shape) (h : ℕ) (deeds : Deeds) (e : ℕ) (memory : Memory
 abbrev pub HasTable : Shape → (h e : ℕ) → Deeds → (learned : List Command) → Type 0
 HasTable c h e deeds learned = ((over : List Command) × Carries c h e deeds over × (length over ≤ length learned)) ⊎ HasClients learned
 
+-- Some of it is not. Or it is not known what carries the table over, and no client's command is learned.
+abbrev pub LacksTable : Shape → (h e : ℕ) → Deeds → (learned : List Command) → Type 0
+LacksTable c h e deeds learned = ((over : List Command) × Carries c h e deeds over × (length learned < length over)) ⊎ (HasClients learned → ⊥)
+
 -- The core of an epoch learned the command last, in the slot that is at this place, and the lock table replies so there.
 pub record Acknowledges (c : Shape) (h : ℕ) (deeds : Deeds) (command : Command) (place : ℕ) (reply : Reply) : Type 0 where
   pub epoch : ℕ
@@ -82,13 +86,13 @@ pub record Acknowledges (c : Shape) (h : ℕ) (deeds : Deeds) (command : Command
   pub replied : reply ≡ reply_after before command
   pub whole : HasTable c h epoch deeds before
 
--- The core of an epoch ended a recovery that was not of a whole epoch, or a look. All places below this one are learned, and the table is there.
+-- The core of an epoch ended a recovery, which was not of a whole epoch, or a look. All places below this one are learned, and the table is there.
 pub record Learns (c : Shape) (h : ℕ) (deeds : Deeds) (said : ℕ → HostAnswer) (upto : ℕ) : Type 0 where
   pub epoch : ℕ
   pub memory : Memory
   pub says : Says c h deeds epoch memory (said (length memory.learned))
   pub there : upto ≡ place_in c epoch (length memory.learned)
-  pub below : length memory.learned < c.slots
+  pub below : said ≡ core.Recovered → length memory.learned < c.slots
   pub whole : HasTable c h epoch deeds memory.learned
 
 -- The core of an epoch marked so many blocks of the slot that is at this place, which it had learned.
@@ -106,19 +110,22 @@ pub record HasMarked (c : Shape) (h : ℕ) (deeds : Deeds) (place count : ℕ) :
 abbrev pub SaidSo : Shape → (h : ℕ) → Deeds → HostAnswer → Type 0
 SaidSo c h deeds said = (e : ℕ) × (memory : Memory) × Says c h deeds e memory said
 
--- no core that runs has learned the slot that is to be marked
+-- No core that runs has learned the slot that is to be marked. Of a look: none has learned its epoch whole, or it lacks what tells the table.
 abbrev pub IsUnlearned : Shape → (h : ℕ) → Deeds → EpochTask → Type 0
 IsUnlearned c h deeds (Mark place) =
     (e slot : ℕ) (memory : Memory) → core_in c h e deeds ≡ Running memory → place ≡ place_in c e slot → length memory.learned ≤ slot
+IsUnlearned c h deeds Look =
+    (e : ℕ) (memory : Memory) → core_in c h e deeds ≡ Running memory → (length memory.learned < c.slots) ⊎ LacksTable c h e deeds memory.learned
 IsUnlearned c h deeds other = ⊥
 
--- A host refuses a task by itself where the slot to be marked is not learned. So it does where a search found no majority, where the task moved as often as it may, and where an epoch has no
--- room for more than the table or is the last one: of these three the deeds say no more.
+-- A host refuses a task by itself where the slot to be marked is not learned, or marks do not tell who only looks what the table is. So it does where a search found no majority, where the task moved as often as it may, and where an epoch has no
+-- room for more than the table or is the last one: of these three the deeds say no more. A host that only looks has no ballot, and refuses what is no look.
 abbrev pub RefusesByItself : Shape → (h : ℕ) → Deeds → EpochTask → Refusal → Type 0
 RefusesByItself c h deeds task NotLearned = IsUnlearned c h deeds task
 RefusesByItself c h deeds task NoMajority = Unit {0}
 RefusesByItself c h deeds task Outrun = Unit {0}
 RefusesByItself c h deeds task LogFull = Unit {0}
+RefusesByItself c h deeds task BallotsSpent = (task ≡ Look) → ⊥
 RefusesByItself c h deeds task other = ⊥
 
 -- HOW A TASK ENDS
@@ -143,11 +150,11 @@ EndsSo c h deeds (Some task) (Some answer) = HasEnded c h deeds task answer
 abbrev pub Ends : Option EpochTask → Walk → Type 0
 Ends task w = (c : Shape) (h : ℕ) (deeds : Deeds) → LeadsTo c h deeds w → EndsSo c h deeds task w.said
 
--- The host is in an epoch to carry out its tasks, and the table is there.
+-- The host shows the table of the epoch where it is, and it is there.
 pub record IsThere (w : Walk) : Type 0 where
   pub stay : Stay
   pub is : w.is ≡ In stay
-  pub works : stay.errand ≡ Works
+  pub works : shows_table_for stay.errand ≡ true
   pub whole : Stands stay.over stay.core.prefix
 
 -- so it is where it has told how much is learned

@@ -1,5 +1,5 @@
 -- What is so at any time of a host in an epoch, and which call it has due.
-use Rattle.std.specs.Prelude.{◌≡◌, ◌<◌, ◌≤◌, ℕ, true, false, length, Option, Some, None}
+use Rattle.std.specs.Prelude.{◌≡◌, ◌⊎◌, ◌<◌, ◌≤◌, ℕ, Bool, true, false, length, Option, Some, None}
 use Rattle.disk.specs.Disk.{Call, Attach}
 use Rattle.torn_block.specs.Layout.{cluster_version}
 use Rattle.torn_block.specs.declared.layout.TheConstants.{DISKS, SLOTS}
@@ -11,7 +11,7 @@ use Rattle.coming.specs.Coming as coming
 use Rattle.host.specs.declared.answer.HostAnswer.{HostAnswer}
 use Rattle.host.specs.declared.answer.HostAnswer.TheVariants as answers
 use Rattle.host.specs.declared.task.Task.{Task}
-use Rattle.host.specs.declared.task.Task.TheVariants.{Mark}
+use Rattle.host.specs.declared.task.Task.TheVariants.{Look, Mark}
 use Rattle.host.specs.Kept as core
 use Rattle.host.specs.Kept.{is_idle}
 use Rattle.epoch_host.specs.declared.place.TheConstants.{EPOCHS}
@@ -23,9 +23,24 @@ use Rattle.epoch_host.specs.declared.stay.Errand.TheVariants as errands
 use Rattle.epoch_host.specs.declared.stay.Leave.{Leave}
 use Rattle.epoch_host.specs.declared.stay.Leave.TheVariants as leave
 use Rattle.epoch_host.specs.declared.stay.Work.{Work}
+use Rattle.epoch_host.specs.declared.stay.Work.TheVariants as work
 use Rattle.epoch_host.specs.Answering.{DoesFor, EndsTask}
-use Rattle.epoch_host.specs.Submitting.{IsAsked, SubmitsFor}
+use Rattle.epoch_host.specs.Submitting.{IsAsked, Stands, SubmitsFor}
 use Rattle.epoch_host.specs.Working.{IsKnown, IsSpelled, IsWorking, GivesTries, HasRoom}
+
+-- WHAT FOR
+
+-- a host that is there for this only looks
+abbrev pub only_looks_for : Errand → Bool
+only_looks_for errands.Works = false
+only_looks_for errands.LearnsWhole = false
+only_looks_for errands.Looks = true
+only_looks_for errands.LooksBack = true
+
+-- it shows the table of the epoch, once that is whole
+abbrev pub shows_table_for : Errand → Bool
+shows_table_for errands.LearnsWhole = false
+shows_table_for other = true
 
 abbrev pub image_of : Stay → ℕ
 image_of s = image_length cluster_version s.config.slots
@@ -73,6 +88,12 @@ IsBusy (Comes disk c) = Unit {0}
 IsBusy (Works work) = Unit {0}
 IsBusy other = ⊥
 
+-- nothing but a look is under way
+abbrev pub IsLooking : Doing → Type 0
+IsLooking (Comes disk c) = ⊥
+IsLooking (Works what) = what ≡ work.Looks
+IsLooking other = Unit {0}
+
 -- AT ANY TIME
 
 pub record IsSound (s : Stay) : Type 0 where
@@ -88,6 +109,7 @@ pub record IsSound (s : Stay) : Type 0 where
   pub asked : IsAsked s.host s.task
   pub spelled : IsSpelled s.task
   pub marks : (slot : ℕ) → s.task ≡ Mark slot → HasRoom s.task (learned_of s) s.config.slots
+  pub looks : only_looks_for s.errand ≡ true → (s.task ≡ Look) × IsLooking s.doing
   pub doing : IsDoing s s.doing
 
 -- it is the same host in the same epoch
@@ -98,28 +120,29 @@ pub record IsSame (old new : Stay) : Type 0 where
   pub errand : new.errand ≡ old.errand
   pub over : new.over ≡ old.over
 
--- what was learned is told only where the host works
-abbrev pub WorksFor : Errand → HostAnswer → Type 0
-WorksFor errand (answers.Recovered told) = errand ≡ errands.Works
-WorksFor errand (answers.Looked told) = errand ≡ errands.Works
-WorksFor errand other = Unit {0}
+-- What was learned is told only where the host shows the table, and not of a whole epoch, unless it only looks.
+abbrev pub WorksFor : Stay → HostAnswer → Type 0
+WorksFor s (answers.Recovered told) = shows_table_for s.errand ≡ true
+WorksFor s (answers.Looked told) = (shows_table_for s.errand ≡ true) × (only_looks_for s.errand ≡ false → learned_of s < s.config.slots)
+WorksFor s other = Unit {0}
 
 -- the core said this last, and so the task ends
 abbrev pub IsAnswered : Task → Stay → HostAnswer → Type 0
-IsAnswered task s said = (s.core.said ≡ Some said) × EndsTask s.over s.config.slots task s.core.prefix said × WorksFor s.errand said
+IsAnswered task s said = (s.core.said ≡ Some said) × EndsTask s.over s.config.slots task s.core.prefix said × WorksFor s said
 
--- it is a marking of a slot that is not learned
-abbrev pub IsAhead : Task → (learned : ℕ) → Type 0
-IsAhead (Mark slot) learned = learned ≤ slot
-IsAhead other learned = ⊥
+-- It is a marking of a slot that is not learned. Or it is a look, and not all slots are learned, or not all that carries the table over.
+abbrev pub IsAhead : Task → Stay → Type 0
+IsAhead (Mark slot) s = learned_of s ≤ slot
+IsAhead Look s = (learned_of s < s.config.slots) ⊎ (Stands s.over s.core.prefix → ⊥)
+IsAhead other s = ⊥
 
--- A call is due, or the host leaves, or nothing is under way. It leaves a full epoch once all slots are learned, and tells what its core said.
+-- A call is due, or the host leaves, or nothing is under way. It leaves a full epoch once all slots are learned, if it does not only look, and tells what its core said.
 abbrev pub IsSoLeft : Task → Option Leave → Stay → Type 0
 IsSoLeft task None s = IsBusy s.doing
 IsSoLeft task (Some leave.Passed) s = Unit {0}
-IsSoLeft task (Some leave.Full) s = (s.doing ≡ Nothing) × (s.config.slots ≤ learned_of s)
+IsSoLeft task (Some leave.Full) s = (s.doing ≡ Nothing) × (s.config.slots ≤ learned_of s) × (only_looks_for s.errand ≡ false)
 IsSoLeft task (Some (leave.Answered said)) s = (s.doing ≡ Nothing) × IsAnswered task s said
-IsSoLeft task (Some leave.NotLearned) s = (s.doing ≡ Nothing) × IsAhead task (learned_of s)
+IsSoLeft task (Some leave.NotLearned) s = (s.doing ≡ Nothing) × IsAhead task s
 IsSoLeft task (Some leave.NeedsBefore) s = s.doing ≡ Nothing
 
 -- THE CALL THAT IS DUE

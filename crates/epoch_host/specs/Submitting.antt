@@ -4,11 +4,11 @@ use Rattle.lock_command.specs.declared.command.Command.{Command}
 use Rattle.lock_command.specs.Command.{spelling, is_submittable}
 use Rattle.host.specs.declared.task.Task.{Task}
 use Rattle.host.specs.declared.task.Task.TheVariants.{Submit}
-use Rattle.host.specs.Host.{Operation, Submitting, Recovering, Doing, Attempts, Marks as MarksSlot}
+use Rattle.host.specs.Host.{Operation, Submitting, Recovering, Doing, Attempts, Looks as LooksOn, Marks as MarksSlot}
 use Rattle.epoch_host.specs.declared.over.Over.{Over}
 use Rattle.epoch_host.specs.declared.over.Over.TheVariants.{Unknown, Known}
 use Rattle.epoch_host.specs.declared.stay.Work.{Work}
-use Rattle.epoch_host.specs.declared.stay.Work.TheVariants.{Goes, Carries, Marks}
+use Rattle.epoch_host.specs.declared.stay.Work.TheVariants.{Goes, Carries, Marks, Looks}
 
 -- A command for which a client may ask stands only behind all that carries the table over.
 abbrev pub HasClients : List Command → Type 0
@@ -29,7 +29,7 @@ abbrev pub IsDueIn : Over → ℕ → Operation → Type 0
 IsDueIn (Known values before) slot (Submitting command) = slice_get values.items slot ≡ Some (spelling command)
 IsDueIn over slot operation = ⊥
 
--- The core that carries a part of the table over submits it in its slot; the one that marks it submits nothing; and any other submits what clients ask for, if it submits anything.
+-- The core that carries a part of the table over submits it in its slot; the one that marks it submits nothing, nor does one that only looks; and any other submits what clients ask for, if it submits anything.
 abbrev pub SubmitsFor : Over → Work → (learned : List Command) → Option Doing → Type 0
 SubmitsFor over Goes learned (Some (Attempts t)) = IsClients over learned t.operation
 SubmitsFor over Goes learned other = Unit {0}
@@ -39,6 +39,9 @@ SubmitsFor over (Carries slot) learned (Some other) = ⊥
 SubmitsFor over Marks learned None = Unit {0}
 SubmitsFor over Marks learned (Some (MarksSlot t)) = Unit {0}
 SubmitsFor over Marks learned (Some other) = ⊥
+SubmitsFor over Looks learned None = Unit {0}
+SubmitsFor over Looks learned (Some (LooksOn t)) = Unit {0}
+SubmitsFor over Looks learned (Some other) = ⊥
 
 -- it has not gone on to another slot with what was due in one
 abbrev pub StaysAt : Work → (learned : ℕ) → Type 0

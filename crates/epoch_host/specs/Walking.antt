@@ -1,5 +1,5 @@
 -- What is so at any time of a host on its way through the epochs.
-use Rattle.std.specs.Prelude.{◌≡◌, ◌≤◌, ℕ, true, Option, Some, None}
+use Rattle.std.specs.Prelude.{◌≡◌, ◌≤◌, ℕ, Bool, true, Option, Some, None}
 use Rattle.disk.specs.Disk.{Call, Attach}
 use Rattle.torn_block.specs.Layout.{cluster_version}
 use Rattle.torn_block.specs.declared.layout.TheConstants.{DISKS}
@@ -10,8 +10,7 @@ use Rattle.coming.specs.declared.found.Found.{Found}
 use Rattle.coming.specs.declared.search.Search.{Search}
 use Rattle.coming.specs.Finding as finding
 use Rattle.epoch_host.specs.declared.task.EpochTask.{EpochTask}
-use Rattle.epoch_host.specs.declared.task.EpochTask.TheVariants.{Submit, Recover}
-use Rattle.epoch_host.specs.declared.stay.Errand.TheVariants.{Works}
+use Rattle.epoch_host.specs.declared.task.EpochTask.TheVariants.{Submit, Recover, Look}
 use Rattle.epoch_host.specs.declared.stay.Leave.{Leave}
 use Rattle.epoch_host.specs.declared.stay.Leave.TheVariants as leave
 use Rattle.epoch_host.specs.declared.stay.Stay.{Stay}
@@ -29,22 +28,27 @@ MayBegin h (Submit command tries) = (1 ≤ tries) × (command.host ≡ h) × (is
 MayBegin h (Recover tries) = 1 ≤ tries
 MayBegin h other = Unit {0}
 
+-- one that only looks has no other task than to look
+abbrev pub LooksAlone : (only_looks : Bool) → Option EpochTask → Type 0
+LooksAlone only_looks under_way = only_looks ≡ true → (task : EpochTask) → under_way ≡ Some task → task ≡ Look
+
 abbrev pub image_of : Walk → ℕ
 image_of w = image_length cluster_version w.config.slots
 
 -- WHERE IT IS
 
--- it is in an epoch
+-- it is in an epoch, where it only looks if it does so everywhere
 pub record IsStaying (w : Walk) (s : Stay) : Type 0 where
   pub sound : stay.IsSound s
   pub host : s.host ≡ w.host
   pub config : s.config ≡ w.config
+  pub looks : stay.only_looks_for s.errand ≡ w.only_looks
 
--- it carries out its tasks there, and the table of that epoch is there
+-- it shows the table of that epoch, which is there
 pub record IsAtWork (w : Walk) (s : Stay) : Type 0 where
   pub is : w.is ≡ In s
   pub stays : IsStaying w s
-  pub works : s.errand ≡ Works
+  pub works : stay.shows_table_for s.errand ≡ true
   pub whole : Stands s.over s.core.prefix
 
 -- It has so left its epoch, with the task that is this one of all epochs.
@@ -101,11 +105,18 @@ HasFew w = (1 ≤ w.config.disks) × (w.config.disks ≤ DISKS) × (1 ≤ w.conf
 pub record IsSound (w : Walk) : Type 0 where
   pub few : HasFew w
   pub here : IsAt w w.task
+  pub looks : LooksAlone w.only_looks w.task
 
 -- it is the same host
 pub record IsSame (old new : Walk) : Type 0 where
   pub host : new.host ≡ old.host
   pub config : new.config ≡ old.config
+
+-- and it only looks if it did so before
+pub record IsSameWalk (old new : Walk) : Type 0 where
+  pub host : new.host ≡ old.host
+  pub config : new.config ≡ old.config
+  pub looks : new.only_looks ≡ old.only_looks
 
 -- THE CALL THAT IS DUE
 

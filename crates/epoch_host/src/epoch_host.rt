@@ -1,6 +1,7 @@
-ghost use Rattle.std.specs.Prelude.{[], ◌≡◌, ◌⊎◌, ◌<◌, Some, None, IfSome, IsSome, OnErr, OnOk, is_none};
+ghost use Rattle.std.specs.Prelude.{[], ◌≡◌, ◌⊎◌, ◌<◌, true, false, Some, None, IfSome, IsSome, OnErr, OnOk, is_none};
 ghost use Rattle.torn_block.specs.Layout.{cluster_version};
 ghost use Rattle.attempt.specs.Heard.{Fits};
+ghost use Rattle.attempt.specs.Looking.{OnlyReads};
 ghost use Rattle.attempt.specs.DeviceCalls.{IsWithin, call_of_need, device_answer, heard_of};
 ghost use Rattle.standings.specs.Epochs.{whole_length};
 ghost use Rattle.paxos_block.specs.Shape.{Shape};
@@ -49,10 +50,23 @@ impl EpochHost {
     pub fn new(alloc: Global, host: HostNumber, config: Config) -> EpochHost
         ensures idle { result.task ≡ None }
         ensures of { (result.host ≡ host) × (result.config ≡ config) }
+        ensures comes { result.only_looks ≡ false }
         ensures leads { LeadsTo config host [] result }
     {
         EpochHost {
-            walk: Walk::new(alloc, host, config),
+            walk: Walk::new(alloc, host, config, false),
+        }
+    }
+
+    /// A host that only looks, and knows of no epoch. It refuses all other tasks. Its number names no block that is written, so another host may work under it.
+    pub fn to_look(alloc: Global, host: HostNumber, config: Config) -> EpochHost
+        ensures idle { result.task ≡ None }
+        ensures of { (result.host ≡ host) × (result.config ≡ config) }
+        ensures looks { result.only_looks ≡ true }
+        ensures leads { LeadsTo config host [] result }
+    {
+        EpochHost {
+            walk: Walk::new(alloc, host, config, true),
         }
     }
 
@@ -61,6 +75,13 @@ impl EpochHost {
         ensures { result ≡ self.now.host }
     {
         self.walk.host
+    }
+
+    /// Whether the host only looks.
+    pub fn only_looks(&self) -> bool
+        ensures { result ≡ self.now.only_looks }
+    {
+        self.walk.only_looks
     }
 
     /// Whether a task may begin.
@@ -130,6 +151,7 @@ impl EpochHost {
         requires idle { self.old.task ≡ None }
         requires may { MayBegin self.old.host task }
         ensures same { IsSame self.old self.new }
+        ensures looks { self.new.only_looks ≡ self.old.only_looks }
         ensures leads { WalksOn self.old self.new }
         ensures keeps { (self.new.task ≡ None) ⊎ (self.new.task ≡ Some task) }
         ensures told { OnOk result (self.new.task ≡ None → IsSome self.new.said) }
@@ -152,6 +174,8 @@ impl EpochHost {
         ensures due { call_of_need cluster_version result ≡ call_due self.now }
         ensures disk { result.disk < self.now.config.disks }
         ensures range { IsWithin cluster_version (whole_length (image_of self.now)) result.call }
+        // One that only looks makes no call but an attach or a read.
+        ensures reads { self.now.only_looks ≡ true → OnlyReads (call_due self.now).1 }
     {
         self.walk.call()
     }
@@ -161,6 +185,7 @@ impl EpochHost {
         requires busy { IsSome self.old.task }
         requires fits { Fits (call_due self.old).1 (heard_of cluster_version heard.now) }
         ensures same { IsSame self.old self.new }
+        ensures looks { self.new.only_looks ≡ self.old.only_looks }
         ensures makes { WalksBy self.old self.new (call_due self.old) (device_answer heard.now) }
         ensures keeps { (self.new.task ≡ None) ⊎ (self.new.task ≡ self.old.task) }
         ensures told { OnOk result (self.new.task ≡ None → IsSome self.new.said) }

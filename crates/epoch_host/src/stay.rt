@@ -1,7 +1,8 @@
 // A host in one epoch.
-ghost use Rattle.std.specs.Prelude.{◌≡◌, ◌≤◌, ◌<◌, ◌↔◌, ℕ, false, Some, IfOk, IfSome, IsNone, IsTrue};
+ghost use Rattle.std.specs.Prelude.{◌≡◌, ◌≤◌, ◌<◌, ◌↔◌, ℕ, true, false, Some, IfOk, IfSome, IsNone, IsTrue};
 ghost use Rattle.torn_block.specs.Layout.{cluster_version};
 ghost use Rattle.attempt.specs.Heard.{Fits};
+ghost use Rattle.attempt.specs.Looking.{OnlyReads};
 ghost use Rattle.torn_block.specs.declared.layout.TheConstants.{DISKS, HOSTS};
 ghost use Rattle.paxos_block.specs.Places.{image_length};
 ghost use Rattle.attempt.specs.DeviceCalls.{IsWithin, call_of_need, device_answer, device_call_of, heard_of};
@@ -16,7 +17,7 @@ ghost use Rattle.host.specs.Host.{Memory, Submitting, next_in};
 ghost use Rattle.epoch_host.specs.declared.place.TheConstants.{EPOCHS};
 ghost use Rattle.epoch_host.specs.Answering.{IsFor, SaysFor};
 ghost use Rattle.epoch_host.specs.Leading.{GoesOnIn, IsReadyFor, MakesIn, StartsIn};
-ghost use Rattle.epoch_host.specs.Staying.{CoreWorks, IsBusy, IsFew, IsSame, IsSoLeft, IsSound, call_due, image_of, learned_of};
+ghost use Rattle.epoch_host.specs.Staying.{CoreWorks, IsBusy, IsFew, IsSame, IsSoLeft, IsSound, call_due, image_of, learned_of, only_looks_for, shows_table_for};
 ghost use Rattle.epoch_host.specs.Submitting.{IsAsked, IsDueIn, MayCarryOut, Stands, StaysAt};
 ghost use Rattle.epoch_host.specs.Working.{GivesTries, HasRoom, IsAnswer, IsSpelled, IsWhole, IsWorking};
 
@@ -43,6 +44,32 @@ pub enum Errand {
     Works,
     /// To learn the epoch whole: there is a later one, and what carries the table over into it is not known.
     LearnsWhole,
+    /// To look, and to do nothing else.
+    Looks,
+    /// So, and there is a later one, which does not tell the table yet.
+    LooksBack,
+}
+
+impl Errand {
+    /// Whether the host only looks, so that it does not come to the epoch.
+    pub fn only_looks(self) -> bool
+        ensures { result ≡ only_looks_for self }
+    {
+        match self {
+            Errand::Works | Errand::LearnsWhole => false,
+            Errand::Looks | Errand::LooksBack => true,
+        }
+    }
+
+    /// Whether the host shows the table of the epoch, once that is whole.
+    pub fn shows_table(self) -> bool
+        ensures { result ≡ shows_table_for self }
+    {
+        match self {
+            Errand::Works | Errand::Looks | Errand::LooksBack => true,
+            Errand::LearnsWhole => false,
+        }
+    }
 }
 
 /// To which epoch a host comes, and what for.
@@ -58,11 +85,11 @@ pub struct Arrival {
 pub enum Leave {
     /// The task has ended, as the core says.
     Answered(HostAnswer),
-    /// The slot that is to be marked is not learned here.
+    /// The slot that is to be marked is not learned here. Or the host only looks, and the table is not told here, nor in the next epoch.
     NotLearned,
     /// All slots are learned, so the table is final.
     Full,
-    /// There is a later epoch than the next one.
+    /// There may be a later epoch than the next one, or than the one where a host only looks.
     Passed,
     /// The table cannot be known here: the epoch before has to be learned.
     NeedsBefore,
@@ -77,6 +104,8 @@ pub enum Work {
     Carries { slot: u16 },
     /// It marks a slot that carries a part of the table over.
     Marks,
+    /// It looks, and does nothing else.
+    Looks,
 }
 
 /// What is under way.
@@ -102,7 +131,7 @@ pub struct Stay {
     pub over: Over,
     pub core: HostCore,
     pub window: Window,
-    /// The disks on which the host has come to the epoch.
+    /// The disks on which the host has come to the epoch. One that only looks comes on none.
     pub come: [bool; PLACES],
     pub doing: Doing,
     pub task: Task,
@@ -111,7 +140,7 @@ pub struct Stay {
 }
 
 impl Stay {
-    /// A host that has come to the epoch on no disk yet. It is there for a task, and comes to the epoch on the first disk.
+    /// A host that has come to the epoch on no disk yet. It is there for a task, and comes to the epoch on the first disk. One that only looks begins to.
     pub fn start(
         alloc: Global,
         host: HostNumber,
@@ -124,9 +153,11 @@ impl Stay {
         requires asked { IsAsked host task }
         requires spelled { IsSpelled task }
         requires learns { HasRoom task 0 config.slots }
+        requires looks { only_looks_for arrival.errand ≡ true → task ≡ Task.Look }
         ensures sound { IfOk result IsSound }
         ensures busy { IfOk result (λ stay. IsBusy stay.doing) }
         ensures of { IfOk result (λ stay. (stay.host ≡ host) × (stay.config ≡ config) × (stay.task ≡ task)) }
+        ensures errand { IfOk result (λ stay. stay.errand ≡ arrival.errand) }
         ensures starts { IfOk result (λ stay. StartsIn arrival stay) }
     {
         let Arrival {
@@ -136,20 +167,27 @@ impl Stay {
         } = arrival;
         let core = HostCore::start(alloc, host, config)?;
         let tries = tries_of(&task);
-        let coming = Coming::new(host.get(), config.slots(), Epoch::new(epoch));
-        Ok(Stay {
+        let window = Window::new(
+            host.get(),
+            config.slots(),
+            Epoch::new(epoch),
+            errand.only_looks(),
+        );
+        let mut stay = Stay {
             host,
             config,
             epoch,
             errand,
             over,
             core,
-            window: Window::new(host.get(), config.slots(), Epoch::new(epoch)),
+            window,
             come: [false; PLACES],
-            doing: Doing::Comes { disk: 0, coming },
+            doing: Doing::Nothing,
             task,
             tries,
-        })
+        };
+        stay.come_from(0);
+        Ok(stay)
     }
 
     /// How many slots of the epoch are learned.
@@ -183,6 +221,7 @@ impl Stay {
         requires asked { IsAsked self.old.host task.now }
         requires spelled { IsSpelled task.now }
         requires slot { (slot : _) → task.now ≡ Task.Mark slot → slot < self.old.config.slots }
+        requires looks { only_looks_for self.old.errand ≡ true → task.now ≡ Task.Look }
         ensures sound { IsSound self.new }
         ensures left { IsSoLeft task.now result self.new }
         ensures silent { (said : _) → result ≡ Some (Leave.Answered said) → ⊥ }
@@ -215,18 +254,32 @@ impl Stay {
                 }
             }
             _ => {
-                if self.window.has_passed() {
+                if self.window.has_passed() || self.errand == Errand::LooksBack {
                     return Some(Leave::Passed);
                 }
                 if self.is_full() {
-                    return Some(Leave::Full);
+                    return Some(self.leave_full());
                 }
             }
         }
         None
     }
 
-    // Comes to the epoch on the first disk from this one on where it has not. If there is none, it works.
+    // All slots are learned. A host that only looks goes on to no epoch but the newest one.
+    fn leave_full(&self) -> Leave
+        requires rests { self.now.doing ≡ Doing.Nothing }
+        requires all { self.now.config.slots ≤ learned_of self.now }
+        ensures left { (task : _) → IsSoLeft task (Some result) self.now }
+        ensures silent { (said : _) → result ≡ Leave.Answered said → ⊥ }
+    {
+        if self.errand.only_looks() {
+            Leave::Passed
+        } else {
+            Leave::Full
+        }
+    }
+
+    // Comes to the epoch on the first disk from this one on where it has not. If there is none, it works. One that only looks begins to.
     fn come_from(&mut self, first: u8)
         requires sound { IsSound self.old }
         requires rests { self.old.doing ≡ Doing.Nothing }
@@ -237,6 +290,10 @@ impl Stay {
         ensures same { IsSame self.old self.new }
         ensures leads { GoesOnIn self.old self.new }
     {
+        if self.errand.only_looks() {
+            self.look();
+            return;
+        }
         match self.next_missing(first) {
             Some(disk) => self.come_on(disk),
             None => self.set_out(),
@@ -261,6 +318,7 @@ impl Stay {
         requires sound { IsSound self.old }
         requires rests { self.old.doing ≡ Doing.Nothing }
         requires disk { disk < self.old.config.disks }
+        requires comes { only_looks_for self.old.errand ≡ false }
         requires room { HasRoom self.old.task (learned_of self.old) self.old.config.slots }
         ensures sound { IsSound self.new }
         ensures busy { IsBusy self.new.doing }
@@ -273,11 +331,28 @@ impl Stay {
         self.doing = Doing::Comes { disk, coming };
     }
 
+    // The core looks, and does nothing else.
+    fn look(&mut self)
+        requires sound { IsSound self.old }
+        requires rests { self.old.doing ≡ Doing.Nothing }
+        requires looks { only_looks_for self.old.errand ≡ true }
+        requires room { HasRoom self.old.task (learned_of self.old) self.old.config.slots }
+        ensures sound { IsSound self.new }
+        ensures busy { IsBusy self.new.doing }
+        ensures task { self.new.task ≡ self.old.task }
+        ensures same { IsSame self.old self.new }
+        ensures leads { GoesOnIn self.old self.new }
+    {
+        self.core.begin(Task::Look);
+        self.doing = Doing::Works(Work::Looks);
+    }
+
     // The core begins the task, or learns first what is there.
     #[tactic(auto, using(crate::proofs::Answering::itself))]
     fn set_out(&mut self)
         requires sound { IsSound self.old }
         requires rests { self.old.doing ≡ Doing.Nothing }
+        requires comes { only_looks_for self.old.errand ≡ false }
         requires room { HasRoom self.old.task (learned_of self.old) self.old.config.slots }
         ensures sound { IsSound self.new }
         ensures busy { IsBusy self.new.doing }
@@ -310,6 +385,7 @@ impl Stay {
     fn work(&mut self, task: Task)
         requires sound { IsSound self.old }
         requires rests { self.old.doing ≡ Doing.Nothing }
+        requires comes { only_looks_for self.old.errand ≡ false }
         requires may { GivesTries task }
         requires asked { IsAsked self.old.host task }
         requires spelled { IsSpelled task }
@@ -333,6 +409,7 @@ impl Stay {
         ensures due { call_of_need cluster_version result ≡ call_due self.now }
         ensures disk { result.disk < self.now.config.disks }
         ensures range { IsWithin cluster_version (whole_length (image_of self.now)) result.call }
+        ensures reads { only_looks_for self.now.errand ≡ true → OnlyReads (call_due self.now).1 }
     {
         match &self.doing {
             Doing::Nothing | Doing::Leaves => unreachable!(),
@@ -416,6 +493,7 @@ impl Stay {
         if self.core.idle() {
             self.doing = Doing::Nothing;
             return match self.core.answer() {
+                Some(said) if self.errand.only_looks() => Some(self.looked_alone(said)),
                 Some(said) => self.ended(work, said),
                 None => unreachable!(),
             };
@@ -434,7 +512,7 @@ impl Stay {
     {
         match work {
             Work::Carries { slot } => slot < self.length(),
-            Work::Goes | Work::Marks => false,
+            Work::Goes | Work::Marks | Work::Looks => false,
         }
     }
 
@@ -456,11 +534,47 @@ impl Stay {
         }
     }
 
+    // A look of a host that only looks has ended. The newest epoch may not tell the table yet. Then the one before tells it, once it is learned whole.
+    fn looked_alone(&self, said: HostAnswer) -> Leave
+        requires sound { IsSound self.now }
+        requires rests { self.now.doing ≡ Doing.Nothing }
+        requires looks { only_looks_for self.now.errand ≡ true }
+        requires says { self.now.core.said ≡ Some said }
+        requires fits { SaysFor self.now.over self.now.config.slots self.now.task Work.Looks self.now.core.prefix (Some said) }
+        ensures left { IsSoLeft self.now.task (Some result) self.now }
+    {
+        match said {
+            HostAnswer::Looked { .. } => {
+                let is_back = self.errand == Errand::LooksBack;
+                if self.is_whole() && (!is_back || self.is_full()) {
+                    Leave::Answered(said)
+                } else if is_back {
+                    Leave::NotLearned
+                } else {
+                    Leave::NeedsBefore
+                }
+            }
+            HostAnswer::Refused(_) => {
+                if self.window.has_passed() {
+                    Leave::Passed
+                } else {
+                    Leave::Answered(said)
+                }
+            }
+            // It cannot be: the core looked.
+            HostAnswer::Ack { .. }
+            | HostAnswer::Recovered { .. }
+            | HostAnswer::Beaten { .. }
+            | HostAnswer::Marked { .. } => Leave::Passed,
+        }
+    }
+
     // The core has ended what it did.
     #[tactic(auto, using(crate::proofs::Leading::stays_as))]
     fn ended(&mut self, work: Work, said: HostAnswer) -> Option<Leave>
         requires sound { IsSound self.old }
         requires rests { self.old.doing ≡ Doing.Nothing }
+        requires comes { only_looks_for self.old.errand ≡ false }
         requires told { IsAnswer self.old.config (learned_of self.old) (Some said) }
         requires says { self.old.core.said ≡ Some said }
         requires fits { SaysFor self.old.over self.old.config.slots self.old.task work self.old.core.prefix (Some said) }
@@ -480,16 +594,16 @@ impl Stay {
                     self.mark(slot);
                     None
                 }
-                Work::Marks => unreachable!(),
+                Work::Marks | Work::Looks => unreachable!(),
             },
             HostAnswer::Marked { .. } => match work {
                 Work::Goes => Some(Leave::Answered(said)),
                 Work::Marks => self.carry(),
-                Work::Carries { .. } => unreachable!(),
+                Work::Carries { .. } | Work::Looks => unreachable!(),
             },
             HostAnswer::Beaten { .. } => match work {
                 Work::Goes => Some(Leave::Answered(said)),
-                Work::Carries { .. } | Work::Marks => unreachable!(),
+                Work::Carries { .. } | Work::Marks | Work::Looks => unreachable!(),
             },
         }
     }
@@ -499,6 +613,7 @@ impl Stay {
     fn refused(&mut self, work: Work, refusal: Refusal) -> Option<Leave>
         requires sound { IsSound self.old }
         requires rests { self.old.doing ≡ Doing.Nothing }
+        requires comes { only_looks_for self.old.errand ≡ false }
         requires says { self.old.core.said ≡ Some (HostAnswer.Refused refusal) }
         ensures sound { IsSound self.new }
         ensures left { IsSoLeft self.new.task result self.new }
@@ -523,6 +638,7 @@ impl Stay {
     fn looked(&mut self, length: u16) -> Option<Leave>
         requires sound { IsSound self.old }
         requires rests { self.old.doing ≡ Doing.Nothing }
+        requires comes { only_looks_for self.old.errand ≡ false }
         requires says { self.old.core.said ≡ Some (HostAnswer.Looked length) }
         requires all { length ≡ learned_of self.old }
         ensures sound { IsSound self.new }
@@ -556,6 +672,7 @@ impl Stay {
     fn recovered(&mut self, length: u16) -> Option<Leave>
         requires sound { IsSound self.old }
         requires rests { self.old.doing ≡ Doing.Nothing }
+        requires comes { only_looks_for self.old.errand ≡ false }
         requires says { self.old.core.said ≡ Some (HostAnswer.Recovered length) }
         requires all { length ≡ learned_of self.old }
         ensures sound { IsSound self.new }
@@ -592,6 +709,7 @@ impl Stay {
     fn go_on(&mut self)
         requires sound { IsSound self.old }
         requires rests { self.old.doing ≡ Doing.Nothing }
+        requires comes { only_looks_for self.old.errand ≡ false }
         requires whole { Stands self.old.over self.old.core.prefix }
         requires room { learned_of self.old < self.old.config.slots }
         ensures sound { IsSound self.new }
@@ -609,6 +727,7 @@ impl Stay {
     fn carry(&mut self) -> Option<Leave>
         requires sound { IsSound self.old }
         requires rests { self.old.doing ≡ Doing.Nothing }
+        requires comes { only_looks_for self.old.errand ≡ false }
         ensures sound { IsSound self.new }
         ensures left { IsSoLeft self.new.task result self.new }
         ensures task { self.new.task ≡ self.old.task }
@@ -635,6 +754,7 @@ impl Stay {
     fn submit(&mut self, command: Command, slot: u16)
         requires sound { IsSound self.old }
         requires rests { self.old.doing ≡ Doing.Nothing }
+        requires comes { only_looks_for self.old.errand ≡ false }
         requires room { learned_of self.old < self.old.config.slots }
         requires next { slot ≡ learned_of self.old }
         requires spelled { decoded (spelling command) ≡ Some command }
@@ -653,6 +773,7 @@ impl Stay {
     fn mark(&mut self, slot: u16)
         requires sound { IsSound self.old }
         requires rests { self.old.doing ≡ Doing.Nothing }
+        requires comes { only_looks_for self.old.errand ≡ false }
         requires learned { (slot < learned_of self.old) × (slot < self.old.config.slots) }
         ensures sound { IsSound self.new }
         ensures busy { IsBusy self.new.doing }

@@ -1,7 +1,8 @@
 // A host on its way through the epochs.
-ghost use Rattle.std.specs.Prelude.{[], ◌≡◌, ◌⊎◌, ◌≤◌, ◌<◌, false, Some, None, IfSome, IsNone, IsSome, IsTrue, OnOk, OnErr, if◌then◌else◌};
+ghost use Rattle.std.specs.Prelude.{[], ◌≡◌, ◌⊎◌, ◌≤◌, ◌<◌, true, false, Some, None, IfSome, IsNone, IsSome, IsTrue, OnOk, OnErr, if◌then◌else◌};
 ghost use Rattle.torn_block.specs.Layout.{cluster_version};
 ghost use Rattle.attempt.specs.Heard.{Fits};
+ghost use Rattle.attempt.specs.Looking.{OnlyReads};
 ghost use Rattle.attempt.specs.DeviceCalls.{IsWithin, call_of_need, device_answer, heard_of};
 ghost use Rattle.standings.specs.Epochs.{whole_length};
 ghost use Rattle.epoch_host.specs.declared.place.TheConstants.{EPOCHS};
@@ -13,9 +14,9 @@ ghost use Rattle.host.specs.Host.{Memory, Running};
 ghost use Rattle.epoch_deeds.specs.Deeds.{Deeds, core_in};
 ghost use Rattle.epoch_host.specs.Knowing.{KnowsBefore, before_of, length_of, prefix_of, where_is};
 ghost use Rattle.epoch_host.specs.Leading.{CarriesOver, Enters, LeadsTo, WalksBy, WalksOn};
-ghost use Rattle.epoch_host.specs.Staying.{learned_of};
+ghost use Rattle.epoch_host.specs.Staying.{learned_of, only_looks_for};
 ghost use Rattle.epoch_host.specs.Submitting.{IsAsked};
-ghost use Rattle.epoch_host.specs.Walking.{HasEnded, HasFew, IsAnswering, IsAtWork, IsFresh, IsLeftFor, IsResting, IsSame, IsSound, IsStaying, MayBegin, call_due, image_of};
+ghost use Rattle.epoch_host.specs.Walking.{HasEnded, HasFew, IsAnswering, IsAtWork, IsFresh, IsLeftFor, IsResting, IsSameWalk, IsSound, IsStaying, LooksAlone, MayBegin, call_due, image_of};
 ghost use Rattle.epoch_host.specs.Working.{GivesTries, HasRoom, IsSpelled};
 
 use crate::answer::EpochAnswer;
@@ -54,6 +55,8 @@ pub struct Walk {
     pub alloc: Global,
     pub host: HostNumber,
     pub config: Config,
+    /// The host only looks, and comes to no epoch.
+    pub only_looks: bool,
     pub is: Whereabouts,
     pub task: Option<EpochTask>,
     pub moves: u8,
@@ -62,16 +65,17 @@ pub struct Walk {
 
 impl Walk {
     /// A host that knows of no epoch.
-    pub fn new(alloc: Global, host: HostNumber, config: Config) -> Walk
+    pub fn new(alloc: Global, host: HostNumber, config: Config, only_looks: bool) -> Walk
         ensures sound { IsSound result }
         ensures idle { result.task ≡ None }
-        ensures of { (result.host ≡ host) × (result.config ≡ config) }
+        ensures of { (result.host ≡ host) × (result.config ≡ config) × (result.only_looks ≡ only_looks) }
         ensures leads { LeadsTo config host [] result }
     {
         Walk {
             alloc,
             host,
             config,
+            only_looks,
             is: Whereabouts::Nowhere,
             task: None,
             moves: 0,
@@ -88,7 +92,7 @@ impl Walk {
         let Whereabouts::In(stay) = &self.is else {
             return None;
         };
-        if stay.errand == Errand::Works && stay.is_whole() {
+        if stay.errand.shows_table() && stay.is_whole() {
             Some(stay)
         } else {
             None
@@ -160,7 +164,7 @@ impl Walk {
         requires idle { self.old.task ≡ None }
         requires may { MayBegin self.old.host task }
         ensures sound { IsSound self.new }
-        ensures same { IsSame self.old self.new }
+        ensures same { IsSameWalk self.old self.new }
         ensures leads { WalksOn self.old self.new }
         ensures keeps { (self.new.task ≡ None) ⊎ (self.new.task ≡ Some task) }
         ensures told { OnOk result (self.new.task ≡ None → IsSome self.new.said) }
@@ -185,6 +189,7 @@ impl Walk {
         ensures due { call_of_need cluster_version result ≡ call_due self.now }
         ensures disk { result.disk < self.now.config.disks }
         ensures range { IsWithin cluster_version (whole_length (image_of self.now)) result.call }
+        ensures reads { self.now.only_looks ≡ true → OnlyReads (call_due self.now).1 }
     {
         match &self.is {
             Whereabouts::Nowhere => unreachable!(),
@@ -199,7 +204,7 @@ impl Walk {
         requires busy { IsSome self.old.task }
         requires fits { Fits (call_due self.old).1 (heard_of cluster_version heard.now) }
         ensures sound { IsSound self.new }
-        ensures same { IsSame self.old self.new }
+        ensures same { IsSameWalk self.old self.new }
         ensures makes { WalksBy self.old self.new (call_due self.old) (device_answer heard.now) }
         ensures keeps { (self.new.task ≡ None) ⊎ (self.new.task ≡ self.old.task) }
         ensures told { OnOk result (self.new.task ≡ None → IsSome self.new.said) }
@@ -219,7 +224,7 @@ impl Walk {
         requires fits { Fits (call_due self.old).1 (heard_of cluster_version heard.now) }
         ensures few { HasFew self.new }
         ensures sound { OnOk result (IsSound self.new) }
-        ensures same { IsSame self.old self.new }
+        ensures same { IsSameWalk self.old self.new }
         ensures makes { WalksBy self.old self.new (call_due self.old) (device_answer heard.now) }
         ensures task { OnOk result (TaskGoesOn (IsFresh self.old.is) self.old.task self.new) }
         ensures silent { OnErr result (self.new.said ≡ None) }
@@ -248,7 +253,7 @@ impl Walk {
         requires sound { OnOk went (IsSound self.old) }
         requires silent { OnErr went (self.old.said ≡ None) }
         ensures sound { IsSound self.new }
-        ensures same { IsSame self.old self.new }
+        ensures same { IsSameWalk self.old self.new }
         ensures leads { WalksOn self.old self.new }
         ensures result { result ≡ went }
         ensures kept { OnOk result (self.new ≡ self.old) }
@@ -269,11 +274,15 @@ impl Walk {
         requires rests { IsResting self.old self.old.is }
         requires silent { self.old.said ≡ None }
         ensures sound { OnOk result (IsSound self.new) }
-        ensures same { IsSame self.old self.new }
+        ensures same { IsSameWalk self.old self.new }
         ensures leads { WalksOn self.old self.new }
         ensures task { OnOk result (TaskGoesOn ⊥ self.old.task self.new) }
         ensures silent { OnErr result (self.new.said ≡ None) }
     {
+        if !self.may_do(task) {
+            self.refuse(Refusal::BallotsSpent);
+            return Ok(());
+        }
         let Whereabouts::In(stay) = &mut self.is else {
             self.find();
             return Ok(());
@@ -288,13 +297,22 @@ impl Walk {
         }
     }
 
+    // Whether the host does such tasks: one that only looks does nothing else, and has no ballot to take.
+    fn may_do(&self, task: &EpochTask) -> bool
+        ensures alone { result ≡ true → self.now.only_looks ≡ true → task.now ≡ EpochTask.Look }
+        ensures other { result ≡ false → task.now ≡ EpochTask.Look → ⊥ }
+    {
+        !self.only_looks || matches!(task, EpochTask::Look)
+    }
+
     // The host looks for the newest epoch. What it knew of another one is gone.
     fn find(&mut self)
         requires few { HasFew self.old }
         requires task { (task : _) × (self.old.task ≡ Some task) × MayBegin self.old.host task }
         requires silent { self.old.said ≡ None }
+        requires looks { LooksAlone self.old.only_looks self.old.task }
         ensures sound { IsSound self.new }
-        ensures same { IsSame self.old self.new }
+        ensures same { IsSameWalk self.old self.new }
         ensures leads { WalksOn self.old self.new }
         ensures task { TaskGoesOn ⊥ self.old.task self.new }
     {
@@ -310,7 +328,7 @@ impl Walk {
     fn may_move(&mut self) -> bool
         ensures is { self.new.is ≡ self.old.is }
         ensures task { self.new.task ≡ (if result then self.old.task else None) }
-        ensures same { IsSame self.old self.new }
+        ensures same { IsSameWalk self.old self.new }
         ensures leads { WalksOn self.old self.new }
         ensures said { IsTrue result → self.new.said ≡ self.old.said }
         ensures ends { result ≡ false → TaskGoesOn ⊥ self.old.task self.new }
@@ -329,9 +347,10 @@ impl Walk {
         requires few { HasFew self.old }
         requires task { (task : _) × (self.old.task ≡ Some task) × MayBegin self.old.host task }
         requires silent { self.old.said ≡ None }
+        requires looks { LooksAlone self.old.only_looks self.old.task }
         requires finds { (search : _) × (self.old.is ≡ Whereabouts.Finds search) × HasEnded search found }
         ensures sound { OnOk result (IsSound self.new) }
-        ensures same { IsSame self.old self.new }
+        ensures same { IsSameWalk self.old self.new }
         ensures leads { WalksOn self.old self.new }
         ensures task { OnOk result (TaskGoesOn ⊥ self.old.task self.new) }
         ensures silent { OnErr result (self.new.said ≡ None) }
@@ -341,9 +360,14 @@ impl Walk {
             self.refuse(Refusal::NoMajority);
             return Ok(());
         };
+        let errand = if self.only_looks {
+            Errand::Looks
+        } else {
+            Errand::Works
+        };
         self.enter(Arrival {
             epoch: order,
-            errand: Errand::Works,
+            errand,
             over: over_at_first(self.alloc, order),
         })
     }
@@ -353,9 +377,10 @@ impl Walk {
         requires few { HasFew self.old }
         requires task { (task : _) × (self.old.task ≡ Some task) × MayBegin self.old.host task }
         requires silent { self.old.said ≡ None }
+        requires looks { LooksAlone self.old.only_looks self.old.task }
         requires stays { (stay : _) × (self.old.is ≡ Whereabouts.In stay) × IsStaying self.old stay × IsLeftFor self.old.task stay leave }
         ensures sound { OnOk result (IsSound self.new) }
-        ensures same { IsSame self.old self.new }
+        ensures same { IsSameWalk self.old self.new }
         ensures leads { WalksOn self.old self.new }
         ensures task { OnOk result (TaskGoesOn (IsAnswering leave) self.old.task self.new) }
         ensures silent { OnErr result (self.new.said ≡ None) }
@@ -383,7 +408,7 @@ impl Walk {
         requires few { HasFew self.old }
         requires stays { (stay : _) × (self.old.is ≡ Whereabouts.In stay) × IsStaying self.old stay × IsLeftFor self.old.task stay (Leave.Answered said) }
         ensures sound { IsSound self.new }
-        ensures same { IsSame self.old self.new }
+        ensures same { IsSameWalk self.old self.new }
         ensures leads { WalksOn self.old self.new }
         ensures task { TaskGoesOn (IsAnswering (Leave.Answered said)) self.old.task self.new }
     {
@@ -400,7 +425,7 @@ impl Walk {
         requires cause { Refuses self.old.task refusal self.old }
         ensures is { self.new.is ≡ self.old.is }
         ensures idle { self.new.task ≡ None }
-        ensures same { IsSame self.old self.new }
+        ensures same { IsSameWalk self.old self.new }
         ensures leads { WalksOn self.old self.new }
         ensures task { TaskGoesOn ⊥ self.old.task self.new }
     {
@@ -413,9 +438,10 @@ impl Walk {
         requires few { HasFew self.old }
         requires task { (task : _) × (self.old.task ≡ Some task) × MayBegin self.old.host task }
         requires silent { self.old.said ≡ None }
+        requires comes { self.old.only_looks ≡ false }
         requires stays { (stay : _) × (self.old.is ≡ Whereabouts.In stay) × IsStaying self.old stay × (stay.doing ≡ Doing.Nothing) × (stay.config.slots ≤ learned_of stay) }
         ensures sound { OnOk result (IsSound self.new) }
-        ensures same { IsSame self.old self.new }
+        ensures same { IsSameWalk self.old self.new }
         ensures leads { WalksOn self.old self.new }
         ensures task { OnOk result (TaskGoesOn ⊥ self.old.task self.new) }
         ensures silent { OnErr result (self.new.said ≡ None) }
@@ -439,14 +465,15 @@ impl Walk {
         })
     }
 
-    // There is this epoch, so the one before is full, and tells what carries the table over into this one.
+    // There is this epoch, so the one before is full, and tells what carries the table over into this one, and the table.
     fn go_back(&mut self) -> Result<(), NoMemory>
         requires few { HasFew self.old }
         requires task { (task : _) × (self.old.task ≡ Some task) × MayBegin self.old.host task }
         requires silent { self.old.said ≡ None }
+        requires looks { LooksAlone self.old.only_looks self.old.task }
         requires stays { (stay : _) × (self.old.is ≡ Whereabouts.In stay) × IsStaying self.old stay × (stay.doing ≡ Doing.Nothing) }
         ensures sound { OnOk result (IsSound self.new) }
-        ensures same { IsSame self.old self.new }
+        ensures same { IsSameWalk self.old self.new }
         ensures leads { WalksOn self.old self.new }
         ensures task { OnOk result (TaskGoesOn ⊥ self.old.task self.new) }
         ensures silent { OnErr result (self.new.said ≡ None) }
@@ -455,9 +482,14 @@ impl Walk {
             unreachable!()
         };
         let epoch = stay.epoch.saturating_sub(1);
+        let errand = if self.only_looks {
+            Errand::LooksBack
+        } else {
+            Errand::LearnsWhole
+        };
         self.enter(Arrival {
             epoch,
-            errand: Errand::LearnsWhole,
+            errand,
             over: Over::Unknown,
         })
     }
@@ -467,9 +499,11 @@ impl Walk {
         requires few { HasFew self.old }
         requires task { (task : _) × (self.old.task ≡ Some task) × MayBegin self.old.host task }
         requires silent { self.old.said ≡ None }
+        requires looks { LooksAlone self.old.only_looks self.old.task }
+        requires errand { only_looks_for arrival.errand ≡ self.old.only_looks }
         requires rests { IsResting self.old self.old.is }
         ensures sound { OnOk result (IsSound self.new) }
-        ensures same { IsSame self.old self.new }
+        ensures same { IsSameWalk self.old self.new }
         ensures enters { Enters arrival self.old self.new }
         ensures task { OnOk result (TaskGoesOn ⊥ self.old.task self.new) }
         ensures silent { OnErr result (self.new.said ≡ None) }
@@ -498,6 +532,7 @@ impl Walk {
         ensures given { IfSome result (λ own. GivesTries own × IsAsked self.now.host own × IsSpelled own) }
         ensures room { IfSome result (λ own. (slots : _) → 1 ≤ slots → HasRoom own 0 slots) }
         ensures same { IfSome result (λ own. (c : Shape) (e : _) → self.now.task ≡ Some (in_epochs c e own)) }
+        ensures look { IfSome result (λ own. LooksAlone true self.now.task → own ≡ Task.Look) }
     {
         match &self.task {
             Some(task) => apart_from_marks(task),
@@ -526,6 +561,7 @@ fn task_in(config: Config, epoch: u64, task: &EpochTask) -> Option<Task>
     ensures given { IfSome result (λ own. (h : _) → MayBegin h task.now → GivesTries own × IsAsked h own × IsSpelled own) }
     ensures slot { IfSome result (λ own. (slot : _) → own ≡ Task.Mark slot → slot < config.slots) }
     ensures same { IfSome result (λ own. task.now ≡ in_epochs config epoch own) }
+    ensures look { IfSome result (λ own. task.now ≡ EpochTask.Look → own ≡ Task.Look) }
     ensures none { IsNone result → IsElsewhere config epoch task.now }
 {
     match task {
@@ -542,6 +578,7 @@ fn apart_from_marks(task: &EpochTask) -> Option<Task>
     ensures given { IfSome result (λ own. (h : _) → MayBegin h task.now → GivesTries own × IsAsked h own × IsSpelled own) }
     ensures room { IfSome result (λ own. (slots : _) → 1 ≤ slots → HasRoom own 0 slots) }
     ensures same { IfSome result (λ own. (c : Shape) (e : _) → task.now ≡ in_epochs c e own) }
+    ensures look { IfSome result (λ own. task.now ≡ EpochTask.Look → own ≡ Task.Look) }
     ensures none { IsNone result → IsMark task.now }
 {
     match task {

@@ -58,9 +58,9 @@ module _ (c : Shape) (h : ℕ) (deeds : Deeds) (IsSo : Deeds → Type 0) where
 
   module _ (IsThen : Deeds → Type 0) (made : List Made) (first : DidMore c h deeds made IsSo) where
     -- and then more
-    pub did_then : (now : List Made) → ((after : Deeds) → IsSo after → DidMore c h after now IsThen) → DidMore c h deeds (made ++ now) IsThen
+    pub did_then : (now : List Made) → ((more : Deeds) → IsSo (deeds ++ more) → DidMore c h (deeds ++ more) now IsThen) → DidMore c h deeds (made ++ now) IsThen
     did_then now then =
-        let next : DidMore c h (deeds ++ first.more) now IsThen = then (deeds ++ first.more) first.so in
+        let next : DidMore c h (deeds ++ first.more) now IsThen = then first.more first.so in
         record {
           more = first.more ++ next.more;
           may = does_both c h deeds first.more next.more first.may next.may;

@@ -1,9 +1,10 @@
 -- What a host and its disks do, one thing after another, and what is left of it between tasks.
 use Rattle.std.specs.Prelude.{is_none, IsSome, IfOk, IfErr, IsErrAnd, Result, Ok, Err}
 use Rattle.std.proofs.Common.{ℕ, ◌≡◌, ◌≤◌, true, false, List, [], ◌∷◌, ◌++◌, length, slice_get, Option, Some, None, refl, sym, ◌∙◌, ap, subst, true≢false, ◌⊎◌, inl, inr}
-use Rattle.std.proofs.lemmas.List.{append-nil}
+use Rattle.std.proofs.lemmas.List.{append_assoc, append-nil}
 use Rattle.disk.specs.Disk.{Call, Answer}
 use Rattle.paxos_block.specs.Shape.{Shape}
+use Rattle.standings.specs.Past as past
 use Rattle.standings.specs.Past.{made}
 use Rattle.epoch_deeds.specs.Deeds.{Deeds}
 use Rattle.attempt.specs.declared.refusal.Refusal.TheVariants.{Outrun}
@@ -12,22 +13,22 @@ use Rattle.epoch_host.specs.declared.answer.EpochAnswer.TheVariants.{Ack, Recove
 use Rattle.epoch_host.specs.declared.task.EpochTask.{EpochTask}
 use Rattle.epoch_host.specs.declared.task.EpochTask.TheVariants.{Submit, Recover, Look, Beat, Mark}
 use Rattle.epoch_host.specs.declared.walk.Walk.{Walk}
-use Rattle.epoch_host.specs.Ending.{EndsSo, HasEnded, TableIsThere}
+use Rattle.epoch_host.specs.Ending.{AreIdle, AreSilent, AreSilentBy, EndsSo, HasEnded, IsDone, TableIsThere}
 use Rattle.epoch_host.specs.Leading.{LeadsTo, GoesOn, MakesAndGoesOn, WalksBy, WalksOn}
 use Rattle.epoch_host.specs.Walking.{IsSame, call_due}
 use Rattle.dlm_images.specs.Operations.{Made, Gave, GaveOne}
 use Rattle.epoch_images.specs.declared.fault.EpochFault.{EpochFault}
 use Rattle.epoch_images.specs.declared.fault.EpochFault.TheVariants.{NoMemory}
-use Rattle.epoch_images.specs.Working.{Standing, DidMore, HasDone, HasWorked, IsKnown, IsOver, MayEnd, Rests, room_of, said_by, said_of}
+use Rattle.epoch_images.specs.Working.{Standing, DidMore, HasDoneSince, HasWorked, IsKnown, IsOver, MayEnd, Rests, WasSilent, room_of, said_by, said_of}
 use Rattle.epoch_images.proofs.Deeds.{did_as, did_goes, did_makes, did_then}
 
--- what is so of a host by what it did
+-- what is so of a host by what it did before, and by all that it did
 abbrev pub Sort : Type 1
-Sort = Shape → (h : ℕ) → Deeds → Type 0
+Sort = Shape → (h : ℕ) → (before all : Deeds) → Type 0
 
--- as that this leads to it
-abbrev pub leads_to : Walk → Shape → (h : ℕ) → Deeds → Type 0
-leads_to w c h deeds = LeadsTo c h deeds w
+-- as that this leads to it, and where a task was done, a core said so since then
+abbrev pub IsOnWay : Walk → Option EpochAnswer → Sort
+IsOnWay w said c h before all = LeadsTo c h all w × (IsDone said → WasSilent c h before all)
 
 -- a host that is not idle has a task
 pub is_busy : (o : Option EpochTask) → is_none o ≡ false → IsSome o
@@ -82,58 +83,94 @@ gave_more : {D : Type 0} (gives : D → Call → Answer → D → Type 0) (old n
 gave_more gives old now new [] x gave last = (new, subst (λ ds. GaveOne gives ds x new) gave last, refl)
 gave_more gives old now new (y ∷ ys) x gave last = (gave.0, gave.1, gave_more gives gave.0 now new ys x gave.2 last)
 
+-- nothing is done where a task is refused
+pub refused_way : (c : Shape) (h : ℕ) (before all : Deeds) (w : Walk) → GoesOn c h all (λ after. LeadsTo c h after w) → GoesOn c h all (IsOnWay w (Some (Refused Outrun)) c h before)
+refused_way c h before all w on = record { more = on.more; none = on.none; may = on.may; so = (on.so, λ done. absurd done) }
+
+-- what is said by a call, was said since
+makes_since : (c : Shape) (h : ℕ) (before early : Deeds) (d : ℕ) (now : past.Made) (w : Walk) → (IsDone w.said → AreSilentBy c h (before ++ early)) → MakesAndGoesOn c h (before ++ early) d now (λ all. LeadsTo c h all w)
+    → MakesAndGoesOn c h (before ++ early) d now (IsOnWay w w.said c h before)
+makes_since c h before early d now w silent by =
+    record {
+      deed = by.deed;
+      makes = by.makes;
+      may = by.may;
+      on = record {
+        more = by.on.more;
+        none = by.on.none;
+        may = by.on.may;
+        so = (
+          by.on.so,
+          λ done. record { early = early; later = by.deed ∷ by.on.more; is = append_assoc (before ++ early) (by.deed ∷ []) by.on.more; silent = silent done },
+        );
+      };
+    }
+
 module _ {D : Type 0} (gives : D → Call → Answer → D → Type 0) where
-  -- the host does something with no call
-  pub done_goes : (old new : Standing D) (IsSo : Sort) → new.disks ≡ old.disks → ((c : Shape) (h : ℕ) (deeds : Deeds) → LeadsTo c h deeds old.host → GoesOn c h deeds (IsSo c h)) → HasDone gives old new IsSo
-  done_goes old new IsSo same on = record { made = []; gave = same; leads = λ c h deeds is. did_goes c h deeds (IsSo c h) (on c h deeds is) }
-
   -- it begins a task
-  pub begun : (old new : Standing D) → new.disks ≡ old.disks → WalksOn old.host new.host → HasDone gives old new (leads_to new.host)
-  begun old new same walks = done_goes old new (leads_to new.host) same walks
+  pub begun : (old new : Standing D) → new.disks ≡ old.disks → WalksOn old.host new.host → (IsDone new.host.said → ⊥) → HasDoneSince gives old new (IsOnWay new.host new.host.said)
+  begun old new same walks silent =
+      record {
+        made = [];
+        gave = same;
+        leads = λ c h deeds is.
+            let on : GoesOn c h deeds (λ after. LeadsTo c h after new.host) = walks c h deeds is in
+            did_goes c h deeds (IsOnWay new.host new.host.said c h deeds) (record { more = on.more; none = on.none; may = on.may; so = (on.so, λ done. absurd (silent done)) });
+      }
 
-  module _ (old now new : Standing D) (IsSo IsThen : Sort) (before : HasDone gives old now IsSo) where
+  module _ (old now new : Standing D) (IsSo IsThen : Sort) (before : HasDoneSince gives old now IsSo) where
     -- and then a call
     pub done_more : (due : ℕ × Call) (answer : Answer) → GaveOne gives now.disks (record { disk = due.0; call = due.1; answer = answer }) new.disks
-        → ((c : Shape) (h : ℕ) (deeds : Deeds) → IsSo c h deeds → MakesAndGoesOn c h deeds due.0 (made due.1 answer) (IsThen c h)) → HasDone gives old new IsThen
+        → ((c : Shape) (h : ℕ) (deeds more : Deeds) → IsSo c h deeds (deeds ++ more) → MakesAndGoesOn c h (deeds ++ more) due.0 (made due.1 answer) (IsThen c h deeds)) → HasDoneSince gives old new IsThen
     done_more due answer gave makes =
         let x : Made = record { disk = due.0; call = due.1; answer = answer } in
         record {
           made = before.made ++ x ∷ [];
           gave = gave_more gives old.disks now.disks new.disks before.made x before.gave gave;
           leads = λ c h deeds is.
-              did_then c h deeds (IsSo c h) (IsThen c h) before.made (before.leads c h deeds is) (x ∷ []) (λ after so. did_makes c h after (IsThen c h) due.0 (made due.1 answer) (makes c h after so));
+              did_then c h deeds (IsSo c h deeds) (IsThen c h deeds) before.made (before.leads c h deeds is) (x ∷ [])
+              (λ more so. did_makes c h (deeds ++ more) (IsThen c h deeds) due.0 (made due.1 answer) (makes c h deeds more so));
         }
 
     -- and then something with no call
-    pub done_and_goes : new.disks ≡ now.disks → ((c : Shape) (h : ℕ) (deeds : Deeds) → IsSo c h deeds → GoesOn c h deeds (IsThen c h)) → HasDone gives old new IsThen
+    pub done_and_goes : new.disks ≡ now.disks → ((c : Shape) (h : ℕ) (deeds more : Deeds) → IsSo c h deeds (deeds ++ more) → GoesOn c h (deeds ++ more) (IsThen c h deeds)) → HasDoneSince gives old new IsThen
     done_and_goes same on =
         record {
           made = before.made;
           gave = subst (λ (ds : List D). Gave gives old.disks before.made ds) (sym same) before.gave;
           leads = λ c h deeds is.
-              subst (λ (l : List Made). DidMore c h deeds l (IsThen c h)) (append-nil before.made)
-              (did_then c h deeds (IsSo c h) (IsThen c h) before.made (before.leads c h deeds is) [] (λ after so. did_goes c h after (IsThen c h) (on c h after so)));
+              subst (λ (l : List Made). DidMore c h deeds l (IsThen c h deeds)) (append-nil before.made)
+              (did_then c h deeds (IsSo c h deeds) (IsThen c h deeds) before.made (before.leads c h deeds is) []
+              (λ more so. did_goes c h (deeds ++ more) (IsThen c h deeds) (on c h deeds more so)));
         }
 
     -- and then nothing
-    pub done_as : new.disks ≡ now.disks → ((c : Shape) (h : ℕ) (deeds : Deeds) → IsSo c h deeds → IsThen c h deeds) → HasDone gives old new IsThen
+    pub done_as : new.disks ≡ now.disks → ((c : Shape) (h : ℕ) (deeds : Deeds) → LeadsTo c h deeds old.host → (all : Deeds) → IsSo c h deeds all → IsThen c h deeds all) → HasDoneSince gives old new IsThen
     done_as same as_then =
-        record { made = before.made; gave = subst (λ (ds : List D). Gave gives old.disks before.made ds) (sym same) before.gave; leads = λ c h deeds is. did_as c h deeds (IsSo c h) (IsThen c h) before.made (before.leads c h deeds is) (as_then c h) }
+        record {
+          made = before.made;
+          gave = subst (λ (ds : List D). Gave gives old.disks before.made ds) (sym same) before.gave;
+          leads = λ c h deeds is. did_as c h deeds (IsSo c h deeds) (IsThen c h deeds) before.made (before.leads c h deeds is) (as_then c h deeds is);
+        }
 
   -- a call of the task, heard with its answer
-  pub heard_one : (old now new : Standing D) (due : ℕ × Call) (answer : Answer) → due ≡ call_due now.host → HasDone gives old now (leads_to now.host)
-      → GaveOne gives now.disks (record { disk = due.0; call = due.1; answer = answer }) new.disks → WalksBy now.host new.host (call_due now.host) answer
-      → HasDone gives old new (leads_to new.host)
-  heard_one old now new due answer is before gave walks =
-      done_more old now new (leads_to now.host) (leads_to new.host) before due answer gave
-      (λ c h deeds so. subst (λ (p : ℕ × Call). MakesAndGoesOn c h deeds p.0 (made p.1 answer) (leads_to new.host c h)) (sym is) (walks c h deeds so))
+  pub heard_one : (old now new : Standing D) (due : ℕ × Call) (answer : Answer) → due ≡ call_due now.host → HasDoneSince gives old now (IsOnWay now.host now.host.said)
+      → GaveOne gives now.disks (record { disk = due.0; call = due.1; answer = answer }) new.disks → WalksBy now.host new.host (call_due now.host) answer → (IsDone new.host.said → AreSilent now.host)
+      → HasDoneSince gives old new (IsOnWay new.host new.host.said)
+  heard_one old now new due answer is before gave walks fresh =
+      done_more old now new (IsOnWay now.host now.host.said) (IsOnWay new.host new.host.said) before due answer gave
+      (λ c h deeds more so.
+      subst (λ (p : ℕ × Call). MakesAndGoesOn c h (deeds ++ more) p.0 (made p.1 answer) (IsOnWay new.host new.host.said c h deeds)) (sym is)
+      (makes_since c h deeds more (call_due now.host).0 (made (call_due now.host).1 answer) new.host (λ done. fresh done c h (deeds ++ more) so.0) (walks c h (deeds ++ more) so.0)))
 
   -- A TASK IS OVER
 
-  pub has_worked : (task : EpochTask) (said : Option EpochAnswer) (old new : Standing D) → HasDone gives old new (leads_to new.host)
+  -- where it is told as done, it was done
+  pub has_worked : (task : EpochTask) (said told : Option EpochAnswer) (old new : Standing D) → HasDoneSince gives old new (IsOnWay new.host told) → AreIdle old.host → (IsDone said → IsDone told)
       → ((c : Shape) (h : ℕ) (deeds : Deeds) → LeadsTo c h deeds new.host → EndsSo c h deeds (Some task) said) → HasWorked gives task said old new
-  has_worked task said old new done ends =
-      done_as old new new (leads_to new.host) (λ c h deeds. IsOver c h deeds task said new.host) done refl (λ c h deeds is. record { leads = is; ended = ends c h deeds is })
+  has_worked task said told old new done idle so ends =
+      done_as old new new (IsOnWay new.host told) (λ c h before all. IsOver c h before all task said new.host) done refl
+      (λ c h deeds is all led. record { leads = led.0; ended = ends c h all led.0; idle = idle c h deeds is; silent = λ was. led.1 (so was) })
 
   -- on the disks that were given and are kept
   pub worked_as : (task : EpochTask) (said : Option EpochAnswer) (host new : Walk) (disks given left kept : List D) → given ≡ disks → kept ≡ left
@@ -157,7 +194,7 @@ module _ {D : Type 0} (gives : D → Call → Answer → D → Type 0) where
 
     pub fits_so : IsKnown old.host → (result : Result EpochAnswer EpochFault) → HasWorked gives task (said_of result) old new → IfOk result (MayEnd task)
     fits_so known (Ok answer) worked =
-        let did : DidMore known.shape known.host known.deeds worked.made (λ after. IsOver known.shape known.host after task (Some answer) new.host) = worked.leads known.shape known.host known.deeds known.leads in
+        let did : DidMore known.shape known.host known.deeds worked.made (λ after. IsOver known.shape known.host known.deeds after task (Some answer) new.host) = worked.leads known.shape known.host known.deeds known.leads in
         fits known.shape known.host (known.deeds ++ did.more) task answer did.so.ended
     fits_so known (Err fault) worked = tt
 
@@ -165,7 +202,7 @@ module _ {D : Type 0} (gives : D → Call → Answer → D → Type 0) where
 
   pub known_then : (task : EpochTask) (said : Option EpochAnswer) (old new : Standing D) → IsKnown old.host → HasWorked gives task said old new → IsKnown new.host
   known_then task said old new known worked =
-      let did : DidMore known.shape known.host known.deeds worked.made (λ after. IsOver known.shape known.host after task said new.host) = worked.leads known.shape known.host known.deeds known.leads in
+      let did : DidMore known.shape known.host known.deeds worked.made (λ after. IsOver known.shape known.host known.deeds after task said new.host) = worked.leads known.shape known.host known.deeds known.leads in
       record { shape = known.shape; host = known.host; deeds = known.deeds ++ did.more; leads = did.so.leads }
 
   pub rests_then : (size : D → ℕ) (config : Shape) (task : EpochTask) (said : Option EpochAnswer) (old new : Standing D) → Rests size config old → HasWorked gives task said old new

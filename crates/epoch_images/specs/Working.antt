@@ -13,7 +13,7 @@ use Rattle.epoch_host.specs.declared.answer.EpochAnswer.TheVariants as answer
 use Rattle.epoch_host.specs.declared.task.EpochTask.{EpochTask}
 use Rattle.epoch_host.specs.declared.task.EpochTask.TheVariants.{Submit, Recover, Look, Beat, Mark}
 use Rattle.epoch_host.specs.declared.walk.Walk.{Walk}
-use Rattle.epoch_host.specs.Ending.{EndsSo}
+use Rattle.epoch_host.specs.Ending.{AreIdleBy, AreSilentBy, EndsSo, IsDone}
 use Rattle.epoch_host.specs.Leading.{LeadsTo, GoesOn}
 use Rattle.dlm_images.specs.Operations.{Made, Gave}
 use Rattle.epoch_images.specs.declared.fault.EpochFault.{EpochFault}
@@ -47,11 +47,15 @@ pub record DidMore (c : Shape) (h : ℕ) (deeds : Deeds) (made : List Made) (IsS
   pub so : IsSo (deeds ++ more)
 
 -- From old to new the host made calls. Its disks gave the answers, and each disk changed only so. Whatever list of deeds led to the old host goes on with
--- deeds that make just these calls, and then this is so.
-pub record HasDone {D : Type 0} (gives : D → Call → Answer → D → Type 0) (old new : Standing D) (IsSo : Shape → (h : ℕ) → Deeds → Type 0) : Type 0 where
+-- deeds that make just these calls, and then this is so of what it did before, and of all that it did.
+pub record HasDoneSince {D : Type 0} (gives : D → Call → Answer → D → Type 0) (old new : Standing D) (IsSo : Shape → (h : ℕ) → (before all : Deeds) → Type 0) : Type 0 where
   pub made : List Made
   pub gave : Gave gives old.disks made new.disks
-  pub leads : (c : Shape) (h : ℕ) (deeds : Deeds) → LeadsTo c h deeds old.host → DidMore c h deeds made (IsSo c h)
+  pub leads : (c : Shape) (h : ℕ) (deeds : Deeds) → LeadsTo c h deeds old.host → DidMore c h deeds made (IsSo c h deeds)
+
+-- the same, where this is of all that it did
+abbrev pub HasDone : {D : Type 0} → (D → Call → Answer → D → Type 0) → (old new : Standing D) → (Shape → (h : ℕ) → Deeds → Type 0) → Type 0
+HasDone gives old new IsSo = HasDoneSince gives old new (λ c h before all. IsSo c h all)
 
 -- with no call: what leads to the old host leads, with more, to the new one
 abbrev pub LeadsOn : (old new : Walk) → Type 0
@@ -59,14 +63,23 @@ LeadsOn old new = (c : Shape) (h : ℕ) (deeds : Deeds) → LeadsTo c h deeds ol
 
 -- A TASK
 
--- These deeds lead to the host, and by them the task ended as the host said.
-pub record IsOver (c : Shape) (h : ℕ) (deeds : Deeds) (task : EpochTask) (said : Option EpochAnswer) (host : Walk) : Type 0 where
-  pub leads : LeadsTo c h deeds host
-  pub ended : EndsSo c h deeds (Some task) said
+-- Behind those before, after these, no core that ran had said anything since it was given something to do.
+pub record WasSilent (c : Shape) (h : ℕ) (before all : Deeds) : Type 0 where
+  pub early : Deeds
+  pub later : Deeds
+  pub is : all ≡ (before ++ early) ++ later
+  pub silent : AreSilentBy c h (before ++ early)
+
+-- All deeds lead to the host, and by them the task ended as the host said. Before it no core had anything under way; and where it was done, a core said so since then.
+pub record IsOver (c : Shape) (h : ℕ) (before all : Deeds) (task : EpochTask) (said : Option EpochAnswer) (host : Walk) : Type 0 where
+  pub leads : LeadsTo c h all host
+  pub ended : EndsSo c h all (Some task) said
+  pub idle : AreIdleBy c h before
+  pub silent : IsDone said → WasSilent c h before all
 
 -- From old to new the host carried a task out, and said this last. Where it said nothing, memory was refused, and it gave the task up.
 abbrev pub HasWorked : {D : Type 0} → (D → Call → Answer → D → Type 0) → EpochTask → Option EpochAnswer → (old new : Standing D) → Type 0
-HasWorked gives task said old new = HasDone gives old new (λ c h deeds. IsOver c h deeds task said new.host)
+HasWorked gives task said old new = HasDoneSince gives old new (λ c h before all. IsOver c h before all task said new.host)
 
 -- what the host said last, where a task ended without what it was begun for
 abbrev pub said_by : EpochFault → Option EpochAnswer

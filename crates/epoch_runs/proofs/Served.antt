@@ -395,7 +395,6 @@ module _ (crashing : Crashing) (sound : IsSound crashing) (c : Shape) where
                 between = [];
                 is = shown_is;
                 clear = is.shows.shown.clear;
-                inside = is.shows.shown.inside;
                 told = is.shows.shown.told;
               };
               here = sym begins_is;

@@ -145,7 +145,6 @@ module _ (IsCrash : DiskState → DiskState → Type 0) (c : Shape) (k n size ho
         between = [];
         is = ap (λ (p : Past). p ++ reads_row ∷ reads_again ∷ []) past_three;
         clear = λ g is_g. (let none = none_second g is_g in (omega (arith, none), λ own. none_first g is_g));
-        inside = none_second host is_host;
         told = refl;
       }
 

@@ -31,13 +31,13 @@ use Rattle.endless.proofs.Logs.{carried_by_not}
 use Rattle.endless.proofs.Places.{now_rises, now_next}
 use Rattle.endless.proofs.Puts.{chosen_fits}
 use Rattle.epoch_deeds.specs.Deeds.{Deeds, core_in}
-use Rattle.epoch_host.specs.Ending.{place_in, HasTable, Acknowledges, Learns, HasLearnedUpto}
+use Rattle.epoch_host.specs.Ending.{place_in, AreIdleBy, AreSilentBy, HasTable, Acknowledges, Learns, HasLearnedUpto}
 use Rattle.epoch_runs.specs.Living.{lived_of, place_of as place_in_order, deeds_from}
 use Rattle.epoch_runs.specs.World.{Entry, no_deeds, Crashing, model_crashes, power_losses, Goes}
 use Rattle.epoch_runs.proofs.Carrying.{carries_into}
 use Rattle.epoch_runs.proofs.Order.{order_is_kept}
 use Rattle.epoch_runs.proofs.Places.{core_place}
-use Rattle.epochs_at_once.specs.Joined.{deeds_by, ShowsTable, AreIdle, AreSilent, HasRecovered, IsSubmitted, HasOneLog, HostsHaveOneLog, HostsHaveOneLogOverLosses}
+use Rattle.epochs_at_once.specs.Joined.{deeds_by, ShowsTable, HasRecovered, IsSubmitted, HasOneLog, HostsHaveOneLog, HostsHaveOneLogOverLosses}
 use Rattle.epochs_at_once.proofs.Counting.{counted, counted_at, rises}
 use Rattle.epochs_at_once.proofs.Few.{few_lived}
 use Rattle.epochs_at_once.proofs.Given.{given_by}
@@ -345,8 +345,8 @@ module _ (crashing : Crashing) (c : Shape) (entries : List Entry) (goes : Goes c
       abbrev many : ℕ
       many = length learns.memory.learned
 
-      idle : AreIdle c h (deeds i h)
-      idle = subst (AreIdle c h) (sym (own_deeds h i no_deeds entries)) recovers.idle
+      idle : AreIdleBy c h (deeds i h)
+      idle = subst (AreIdleBy c h) (sym (own_deeds h i no_deeds entries)) recovers.idle
 
       ends_at : IsBetween crashing c entries goes i j h
       ends_at = core_between crashing c entries goes i j h (let low = recovers.since in let high = recovers.until in omega (arith, low, high)) idle
@@ -370,8 +370,8 @@ module _ (crashing : Crashing) (c : Shape) (entries : List Entry) (goes : Goes c
       silent_at : IsBetween crashing c entries goes i recovers.between h
       silent_at = core_between crashing c entries goes i recovers.between h recovers.since idle
 
-      silent : AreSilent c h (deeds recovers.between h)
-      silent = subst (AreSilent c h) (sym (own_deeds h recovers.between no_deeds entries)) recovers.silent
+      silent : AreSilentBy c h (deeds recovers.between h)
+      silent = subst (AreSilentBy c h) (sym (own_deeds h recovers.between no_deeds entries)) recovers.silent
 
       not_said : (host : Host) → core_in c h learns.epoch (deeds recovers.between h) ≡ host → said_of host ≡ Some (core.Recovered many) → ⊥
       not_said Stopped is says = absurd (cc)
@@ -444,9 +444,9 @@ module _ (crashing : Crashing) (c : Shape) (entries : List Entry) (goes : Goes c
 
       holds_so : before place < before upto
       holds_so =
-          let less = lives.one.holds begins_at.0 told.place learns.epoch acks.epoch h many acks.slot command recovery learns.below acked_earlier asked in
+          let less = lives.one.holds begins_at.0 told.place learns.epoch acks.epoch h many acks.slot command recovery (learns.below refl) acked_earlier asked in
           let one = acked_before k g place command reply acks in
-          let fits = learns.below in
+          let fits = learns.below refl in
           let other = before_is learns.epoch many upto (in_last ends_at.place learns.epoch h learns.memory teller_runs) (omega (arith, fits)) learns.there in
           omega (arith, less, one, other)
 
@@ -487,5 +487,5 @@ hosts_have_one_log_over_losses c entries long is few =
     let goes = over_losses_goes c entries is in
     has_one_log power_losses c entries goes (lived_by_losses c entries long goes (λ e. let less = few_lived c e no_deeds entries in omega (arith, less, few))) (omega (arith, long))
 
-pub at_start : (c : Shape) (h : ℕ) → AreIdle c h [] × AreSilent c h []
+pub at_start : (c : Shape) (h : ℕ) → AreIdleBy c h [] × AreSilentBy c h []
 at_start c h = (λ e memory runs. absurd (let clash : Stopped ≡ Running memory = runs in cc), λ e memory runs. absurd (let clash : Stopped ≡ Running memory = runs in cc))

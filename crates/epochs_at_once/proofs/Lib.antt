@@ -7,6 +7,7 @@ pub mod Joined
 pub mod Lives
 pub mod Parting
 pub mod Places
+pub mod Recovering
 pub mod Runs
 pub mod Serving
 pub mod Tasks

@@ -12,6 +12,7 @@ use Rattle.endless.specs.Lived.{part, now}
 use Rattle.endless.specs.WithoutEnd.{host_by}
 use Rattle.epoch_deeds.specs.Deeds.{Deed, Deeds, Calls, core_in}
 use Rattle.epoch_deeds.specs.Knowing.{image_of}
+use Rattle.epoch_host.specs.Ending.{AreIdleBy}
 use Rattle.epoch_runs.specs.Laws.{KeepsOrder}
 use Rattle.epoch_runs.specs.Living.{Showing, showing_next, lived_of, place_of, deeds_from, shown_to}
 use Rattle.epoch_runs.specs.World.{Entry, Does, Breaks, BreaksIn, Ends, Crashes, Loses, World, opening, no_deeds, deeds_after, after, Crashing, GoesFrom, Goes}
@@ -19,7 +20,6 @@ use Rattle.epoch_runs.proofs.Lists.{last_same, first_same, not_nil, core_more, s
 use Rattle.epoch_runs.proofs.Order.{order_is_kept}
 use Rattle.epoch_runs.proofs.Pending.{IsPending, pending}
 use Rattle.epochs_at_once.specs.AtOnce.{is_of, deeds_with}
-use Rattle.epochs_at_once.specs.Joined.{AreIdle}
 use Rattle.epochs_at_once.proofs.Parting.{deeds_own, deeds_there}
 use Rattle.epochs_at_once.proofs.Runs.{IsIdle}
 
@@ -125,7 +125,7 @@ module _ (crashing : Crashing) (c : Shape) (entries : List Entry) (goes : Goes c
       subst (λ (deeds : ℕ → Deeds). IsPending c h (deeds h) s) there.1 (pending crashing c h (drop i entries) there.0 s there.2 shows)
 
   -- an idle host has no row to show
-  not_idle : (h : ℕ) (deeds : Deeds) (s : Showing) → IsPending c h deeds s → AreIdle c h deeds → ⊥
+  not_idle : (h : ℕ) (deeds : Deeds) (s : Showing) → IsPending c h deeds s → AreIdleBy c h deeds → ⊥
   not_idle h deeds s is idle =
       let due = is.due in
       let nothing = idle s.epoch due.memory due.runs in
@@ -134,7 +134,7 @@ module _ (crashing : Crashing) (c : Shape) (entries : List Entry) (goes : Goes c
       let clash : None ≡ Some there = sym none ∙ due.next in
       absurd (cc)
 
-  idle_unshown : (i h : ℕ) → AreIdle c h (deeds_at entries h i) → showing_next h (drop i entries) ≡ None
+  idle_unshown : (i h : ℕ) → AreIdleBy c h (deeds_at entries h i) → showing_next h (drop i entries) ≡ None
   idle_unshown i h idle = either (showing_next h (drop i entries)) refl
     where
       either : (o : Option Showing) → showing_next h (drop i entries) ≡ o → showing_next h (drop i entries) ≡ None
@@ -142,7 +142,7 @@ module _ (crashing : Crashing) (c : Shape) (entries : List Entry) (goes : Goes c
       either (Some s) shows = absurd (not_idle h (deeds_at entries h i) s (pending_at i h s shows) idle)
 
   -- so its cores are idle at the place
-  pub idle_there : (i e h : ℕ) → AreIdle c h (deeds_at entries h i) → IsIdle (core_at i e h)
+  pub idle_there : (i e h : ℕ) → AreIdleBy c h (deeds_at entries h i) → IsIdle (core_at i e h)
   idle_there i e h idle = subst IsIdle (sym (core_unshown i e h (idle_unshown i h idle))) (by_host (core_in c h e (deeds_at entries h i)) refl)
     where
       by_host : (host : Host) → core_in c h e (deeds_at entries h i) ≡ host → IsIdle host
@@ -157,7 +157,7 @@ module _ (crashing : Crashing) (c : Shape) (entries : List Entry) (goes : Goes c
     pub still : (k : ℕ) → place < k → k ≤ j → deeds_at entries h k ≡ deeds_at entries h j
     pub cores : (e : ℕ) → core_at place e h ≡ core_in c h e (deeds_at entries h j)
 
-  pub core_between : (i j h : ℕ) → i ≤ j → AreIdle c h (deeds_at entries h i) → IsBetween i j h
+  pub core_between : (i j h : ℕ) → i ≤ j → AreIdleBy c h (deeds_at entries h i) → IsBetween i j h
   core_between i j h order idle = either (showing_next h (drop j entries)) refl
     where
       either : (o : Option Showing) → showing_next h (drop j entries) ≡ o → IsBetween i j h
@@ -180,5 +180,5 @@ module _ (crashing : Crashing) (c : Shape) (entries : List Entry) (goes : Goes c
                   ∙ sym (core_more c h e Stopped it.shows.before read)
                   ∙ sym (ap (core_in c h e) it.shows.last);
             }
-            | inl earlier ↦ absurd (not_idle h (deeds_at entries h j) s it (subst (AreIdle c h) (last.still i earlier order) idle))
+            | inl earlier ↦ absurd (not_idle h (deeds_at entries h j) s it (subst (AreIdleBy c h) (last.still i earlier order) idle))
           ]

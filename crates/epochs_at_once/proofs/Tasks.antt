@@ -6,7 +6,7 @@ use Rattle.torn_block.specs.declared.layout.TheConstants.{HOSTS}
 use Rattle.paxos_block.specs.Shape.{Shape}
 use Rattle.epoch_deeds.specs.Deeds.{Deed, Deeds, Calls, CallsIn, Starts as StartsIn, Begins, Stops}
 use Rattle.epoch_deeds.specs.Knowing.{DoesFrom}
-use Rattle.epoch_host.specs.Ending.{EndsSo}
+use Rattle.epoch_host.specs.Ending.{AreSilentBy, EndsSo}
 use Rattle.epoch_host.specs.Leading.{LeadsTo}
 use Rattle.epoch_runs.specs.World.{Entry, Does, Breaks, BreaksIn, Ends}
 use Rattle.epochs_at_once.specs.AtOnce.{deeds_with, deeds_behind, deeds_since, MayDoNext, DoesAlone}
@@ -25,6 +25,11 @@ behind_done h deeds (deed ∷ more) = behind_done h (deeds ++ deed ∷ []) more 
 -- what was done since, and then these
 pub since_done : (h : ℕ) (entries : List Entry) (more : Deeds) → deeds_since (entries ++ done_by h more) ≡ deeds_since entries ++ more
 since_done h entries more = behind_both [] entries (done_by h more) ∙ behind_done h (deeds_since entries) more
+
+-- behind the same deeds the same ones
+same_rest : {A : Type 0} (first one other : List A) → first ++ one ≡ first ++ other → one ≡ other
+same_rest [] one other same = same
+same_rest (x ∷ first) one other same = let rest : first ++ one ≡ first ++ other = cc in same_rest first one other rest
 
 module _ (c : Shape) (h : ℕ) where
   alone_both : (deeds : Deeds) (first more : List Entry) → DoesAlone c h deeds first → DoesAlone c h (deeds_behind deeds first) more → DoesAlone c h deeds (first ++ more)
@@ -88,6 +93,15 @@ works gives c h entries task said old new before worked =
           leads = subst (λ (l : Deeds). LeadsTo c h l new.host) since did.so.leads;
         };
         ended = subst (λ (l : Deeds). EndsSo c h l (Some task) said) since did.so.ended;
+        idle = did.so.idle;
+        silent = λ done.
+            (let was = did.so.silent done in
+            record {
+              early = was.early;
+              later = was.later;
+              is = same_rest (deeds_since entries) did.more (was.early ++ was.later) (was.is ∙ append_assoc (deeds_since entries) was.early was.later);
+              silent = subst (AreSilentBy c h) (sym (since_done h entries was.early)) was.silent;
+            });
       },
     )
 

@@ -1,5 +1,5 @@
 -- One log without an end of what hosts over the same disks tell, each of which did its own part of what was done at once.
-use Rattle.std.specs.Prelude.{◌≡◌, ◌+◌, ◌<◌, ◌≤◌, ◌^◌, ℕ, suc, true, List, length, take, slice_get, Some, None}
+use Rattle.std.specs.Prelude.{◌≡◌, ◌+◌, ◌<◌, ◌≤◌, ◌^◌, ◌++◌, ℕ, suc, true, List, length, take, slice_get, Some}
 use Rattle.lock_command.specs.declared.command.Command.{Command}
 use Rattle.lock_command.specs.Command.{is_submittable}
 use Rattle.lock_command.specs.declared.reply.Reply.{Reply}
@@ -9,15 +9,17 @@ use Rattle.lock_table.specs.Apply.{table_after}
 use Rattle.lock_table.specs.Picture.{Shown, IsPictureOf}
 use Rattle.paxos_block.specs.Shape.{Shape}
 use Rattle.host.specs.declared.task.Task.TheVariants as core
-use Rattle.host.specs.Host.{Memory, Running, reply_after}
-use Rattle.epoch_deeds.specs.Deeds.{Deeds, Begins, core_in}
+use Rattle.host.specs.Host.{reply_after}
+use Rattle.epoch_deeds.specs.Deeds.{Deeds, Begins}
 use Rattle.epoch_host.specs.declared.answer.EpochAnswer.{EpochAnswer}
 use Rattle.epoch_host.specs.declared.answer.EpochAnswer.TheVariants.{Ack, Recovered, Looked}
 use Rattle.epoch_host.specs.declared.task.EpochTask.{EpochTask}
 use Rattle.epoch_host.specs.declared.task.EpochTask.TheVariants.{Submit, Recover, Look}
-use Rattle.epoch_host.specs.Ending.{HasEnded, IsTableOf}
+use Rattle.epoch_host.specs.declared.walk.Walk.{Walk}
+use Rattle.epoch_host.specs.Ending.{AreIdleBy, AreSilentBy, HasEnded, IsTableOf}
 use Rattle.epoch_runs.specs.World.{Entry, Does}
 use Rattle.epochs_at_once.specs.AtOnce.{of_host, deeds_since, IsAtOnce, IsOverLosses}
+use Rattle.epochs_at_once.specs.Tasks.{done_by, HasGoneOn}
 
 -- WHAT HOSTS TELL
 
@@ -33,23 +35,27 @@ Tells c entries i h task said = HasEnded c h (deeds_by entries i h) task said
 abbrev pub ShowsTable : Shape → List Entry → (i h upto : ℕ) → Shown → Type 0
 ShowsTable c entries i h upto table = IsTableOf c h (deeds_by entries i h) upto table
 
--- None of its cores that run has anything under way,
-abbrev pub AreIdle : Shape → (h : ℕ) → Deeds → Type 0
-AreIdle c h deeds = (e : ℕ) (memory : Memory) → core_in c h e deeds ≡ Running memory → memory.doing ≡ None
-
--- or has said anything since it was given something to do. Both are so of a host that has just started.
-abbrev pub AreSilent : Shape → (h : ℕ) → Deeds → Type 0
-AreSilent c h deeds = (e : ℕ) (memory : Memory) → core_in c h e deeds ≡ Running memory → memory.said ≡ None
-
 -- At place i the host had nothing under way, so its recovery began there or later. By place j it has told that all places below this one are learned; in between it was silent once, so
 -- it had not told that before.
 pub record HasRecovered (c : Shape) (entries : List Entry) (i j h tries upto : ℕ) : Type 0 where
-  pub idle : AreIdle c h (deeds_by entries i h)
+  pub idle : AreIdleBy c h (deeds_by entries i h)
   pub between : ℕ
   pub since : i ≤ between
   pub until : between ≤ j
-  pub silent : AreSilent c h (deeds_by entries between h)
+  pub silent : AreSilentBy c h (deeds_by entries between h)
   pub tells : Tells c entries j h (Recover tries) (Recovered upto)
+
+-- All that the host did between these places was a task: a recovery, which told that all places below this one are learned.
+pub record IsRecoveryBetween (c : Shape) (entries : List Entry) (i j h tries upto : ℕ) : Type 0 where
+  pub order : i ≤ j
+  pub host : Walk
+  pub more : Deeds
+  pub is : of_host h (take j entries) ≡ of_host h (take i entries) ++ done_by h more
+  pub task : HasGoneOn c h (Recover tries) (Some (Recovered upto)) host (of_host h (take i entries)) more
+
+-- So such a recovery began no earlier than that, also where its host had been open before.
+abbrev pub TasksRecover : Type 0
+TasksRecover = (c : Shape) (entries : List Entry) (i j h tries upto : ℕ) → IsRecoveryBetween c entries i j h tries upto → HasRecovered c entries i j h tries upto
 
 -- ONE LOG
 

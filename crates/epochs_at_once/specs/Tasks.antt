@@ -7,7 +7,7 @@ use Rattle.epoch_deeds.specs.Deeds.{Deed, Deeds, Calls, CallsIn}
 use Rattle.epoch_host.specs.declared.answer.EpochAnswer.{EpochAnswer}
 use Rattle.epoch_host.specs.declared.task.EpochTask.{EpochTask}
 use Rattle.epoch_host.specs.declared.walk.Walk.{Walk}
-use Rattle.epoch_host.specs.Ending.{EndsSo}
+use Rattle.epoch_host.specs.Ending.{AreIdleBy, AreSilentBy, EndsSo, IsDone}
 use Rattle.epoch_host.specs.Leading.{LeadsTo}
 use Rattle.epoch_images.specs.Working.{Standing, HasWorked, calls_of}
 use Rattle.epoch_runs.specs.World.{Entry, Does, Breaks, BreaksIn, Ends}
@@ -27,10 +27,20 @@ pub record HasDone (c : Shape) (h : ℕ) (host : Walk) (entries : List Entry) : 
 abbrev pub Starts : Type 0
 Starts = (c : Shape) (h : ℕ) (host : Walk) (entries : List Entry) → h < HOSTS → DoesAlone c h [] entries → deeds_since entries ≡ [] → LeadsTo c h [] host → HasDone c h host entries
 
--- A task of it is over, and these deeds made its calls; by all that it did since its start the task ended as it said. So it is where it said nothing, as memory was refused.
+-- After some of these deeds no core of it had said anything since it was given something to do. So what is said behind all of them was said since.
+pub record IsSaidSince (c : Shape) (h : ℕ) (before : List Entry) (more : Deeds) : Type 0 where
+  pub early : Deeds
+  pub later : Deeds
+  pub is : more ≡ early ++ later
+  pub silent : AreSilentBy c h (deeds_since (before ++ done_by h early))
+
+-- A task of it is over, and these deeds made its calls; by all that it did since its start the task ended as it said. So it is where it said nothing, as memory was refused. As the task
+-- began no core of it had anything under way; and where it was done, a core said so since then.
 pub record HasGoneOn (c : Shape) (h : ℕ) (task : EpochTask) (said : Option EpochAnswer) (host : Walk) (before : List Entry) (more : Deeds) : Type 0 where
   pub done : HasDone c h host (before ++ done_by h more)
   pub ended : EndsSo c h (deeds_since (before ++ done_by h more)) (Some task) said
+  pub idle : AreIdleBy c h (deeds_since before)
+  pub silent : IsDone said → IsSaidSince c h before more
 
 abbrev pub Works : {D : Type 0} → (D → Call → Answer → D → Type 0) → Type 0
 Works {D = D} gives = (c : Shape) (h : ℕ) (entries : List Entry) (task : EpochTask) (said : Option EpochAnswer) (old new : Standing D) →

@@ -4,7 +4,8 @@ ghost use Rattle.epochs.specs.Acts.{IsModelCrash};
 ghost use Rattle.epochs_at_once.specs.AtOnce.{AtOnceGoes, GoesAtOnce, GoesOverLosses, OverLossesGoes};
 ghost use Rattle.epochs_at_once.specs.Disks.{GivingServes};
 ghost use Rattle.epochs_at_once.specs.Images.{ImagesAreAtOnce, ImagesAreOverLosses, ImagesHaveOneLog, ImagesHaveOneLogOverLosses, LaidOutIsBlank};
-ghost use Rattle.epochs_at_once.specs.Joined.{AreIdle, AreSilent, HostsHaveOneLog, HostsHaveOneLogOverLosses};
+ghost use Rattle.epoch_host.specs.Ending.{AreIdleBy, AreSilentBy};
+ghost use Rattle.epochs_at_once.specs.Joined.{HostsHaveOneLog, HostsHaveOneLogOverLosses, TasksRecover};
 ghost use Rattle.epochs_at_once.specs.Tasks.{Starts, StopsLast, StopsMidway, Works};
 ghost use Rattle.paxos_block.specs.Shape.{Shape};
 ghost use Rattle.std.specs.Prelude.{[], ℕ};
@@ -45,7 +46,9 @@ pub fn hosts_at_once_have_one_log()
     // So it is over losses of power.
     ensures one_log_on { HostsHaveOneLogOverLosses }
     // A host that has just started is idle and silent, so its recovery is later than all that was acknowledged before.
-    ensures fresh { (c : Shape) (h : ℕ) → AreIdle c h [] × AreSilent c h [] }
+    ensures fresh { (c : Shape) (h : ℕ) → AreIdleBy c h [] × AreSilentBy c h [] }
+    // A host that had been open before is idle as its recovery's task begins, and silent once after that; so this recovery is later, too.
+    ensures recovers { TasksRecover }
 {}
 
 /// Disks may begin as images that a format laid out, which have a header. What is done to images behind their headers is done at once to disks of

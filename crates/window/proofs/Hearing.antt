@@ -74,7 +74,7 @@ module _ (w : Window) (disk : ℕ) (answer : Answer) where
   pub attach_hears : (sights : List (Option Sight)) → Fits Attach (heard_in cluster_version answer)
       → ((past : Past) → KnowsOf n w.standpoint.epoch w.standpoint.host past (sight_of w disk) → KnowsOf n w.standpoint.epoch w.standpoint.host (past ++ made Attach answer ∷ []) (sight_in sights disk))
       → ((other : ℕ) → other ≢ disk → sight_in sights other ≡ sight_of w other)
-      → SeesOn Attach answer (Some outcome.AsHeard) (sight_of w disk) (sight_in sights disk)
+      → SeesOn w.standpoint.only_looks Attach answer (Some outcome.AsHeard) (sight_of w disk) (sight_in sights disk)
       → Hears w (record w { sights = sights; reading = None }) disk Attach answer (Some outcome.AsHeard)
   attach_hears sights fits knows others sees =
       record {
@@ -97,7 +97,7 @@ module _ (w : Window) (disk : ℕ) (answer : Answer) where
   pub sync_hears : (boot : ℕ) (sights : List (Option Sight)) → Fits (Sync boot) (heard_in cluster_version answer)
       → ((past : Past) → KnowsOf n w.standpoint.epoch w.standpoint.host past (sight_of w disk) → KnowsOf n w.standpoint.epoch w.standpoint.host (past ++ made (Sync boot) answer ∷ []) (sight_in sights disk))
       → ((other : ℕ) → other ≢ disk → sight_in sights other ≡ sight_of w other)
-      → SeesOn (Sync boot) answer (Some outcome.AsHeard) (sight_of w disk) (sight_in sights disk)
+      → SeesOn w.standpoint.only_looks (Sync boot) answer (Some outcome.AsHeard) (sight_of w disk) (sight_in sights disk)
       → Hears w (record w { sights = sights; reading = None }) disk (Sync boot) answer (Some outcome.AsHeard)
   sync_hears boot sights fits knows others sees =
       record {
@@ -266,7 +266,7 @@ module _ (w : Window) (disk at : ℕ) (boot : Boot) where
           fewer =
               subst (λ (s : Step). left_at s + 1 ≡ left_at (step_of w disk boot.number at)) (sym (begun (sight_of w disk) disk at boot (Second first is_last)))
               (subst (λ (s : Step). left_at (Second first is_last) + 1 ≡ left_at s) (sym at_row) (fewer_left is_last));
-          cause = subst (λ (s : Step). IsAfterReading w.standpoint.epoch w.standpoint.host s bytes None) (sym at_row) tt;
+          cause = subst (λ (s : Step). IsAfterReading w.standpoint s bytes None) (sym at_row) tt;
           sights = record { here = keeps_same (sight_of w disk); others = λ other off. refl };
           notices = record { now = subst (λ (s : Step). NoticesAt w.standpoint.epoch s bytes w.has_passed) (sym at_row) tt; before = λ so. so };
           rests = λ told. over told;
@@ -297,15 +297,15 @@ module _ (w : Window) (disk at : ℕ) (boot : Boot) where
             why = inr (refl, (bytes, refl));
           })
 
-      shows_later : (why : Hidden) (sofar : Bool) → IsHiddenBy w.standpoint.epoch w.standpoint.host bytes why → passed_by why sofar ≡ true → (before : Past) → (sofar ≡ true) ⊎ ShowsLater image w.standpoint.epoch (before ++ made due (Told bytes) ∷ [])
+      shows_later : (why : Hidden) (sofar : Bool) → IsHiddenBy w.standpoint bytes why → passed_by why sofar ≡ true → (before : Past) → (sofar ≡ true) ⊎ ShowsLater image w.standpoint.epoch (before ++ made due (Told bytes) ∷ [])
       shows_later hidden.Damaged sofar is so before = inl so
       shows_later hidden.Outside sofar is so before = inl so
       shows_later hidden.Passed sofar is so before =
           inr (record { boot = boot.number; row = bytes; before = before; behind = []; is = ap (λ (c : Call). before ++ made c (Told bytes) ∷ []) is_due; passed = is.1 })
 
-      notices_by : (why : Hidden) (sofar : Bool) → IsHiddenBy w.standpoint.epoch w.standpoint.host bytes why → (¬ IsDamagedArea bytes) → HasPassed w.standpoint.epoch (numbers_in bytes) → passed_by why sofar ≡ true
+      notices_by : (why : Hidden) (sofar : Bool) → IsHiddenBy w.standpoint bytes why → (¬ IsDamagedArea bytes) → HasPassed w.standpoint.epoch (numbers_in bytes) → passed_by why sofar ≡ true
       notices_by hidden.Damaged sofar is sound passed = absurd (sound is)
-      notices_by hidden.Outside sofar is sound passed = absurd (is.0 passed)
+      notices_by hidden.Outside sofar is sound passed = absurd (is.1 passed)
       notices_by hidden.Passed sofar is sound passed = refl
 
       stays_noticed : (why : Hidden) (sofar : Bool) → sofar ≡ true → passed_by why sofar ≡ true
@@ -314,8 +314,8 @@ module _ (w : Window) (disk at : ℕ) (boot : Boot) where
       stays_noticed hidden.Passed sofar so = refl
 
       -- it is hidden
-      pub hidden_hears : (why : Hidden) → IsHiddenBy w.standpoint.epoch w.standpoint.host bytes why
-          → FailsAt w.standpoint.epoch w.standpoint.host (step_of w disk boot.number at) bytes
+      pub hidden_hears : (why : Hidden) → IsHiddenBy w.standpoint bytes why
+          → FailsAt w.standpoint (step_of w disk boot.number at) bytes
           → ((has_passed : Bool) → ((¬ IsDamagedArea bytes) → HasPassed w.standpoint.epoch (numbers_in bytes) → has_passed ≡ true) → NoticesAt w.standpoint.epoch (step_of w disk boot.number at) bytes has_passed)
           → Hears w (record w { reading = None; has_passed = passed_by why w.has_passed }) disk wanted (Told bytes) (Some outcome.Failed)
       hidden_hears why is fails notes =
@@ -338,9 +338,9 @@ module _ (w : Window) (disk at : ℕ) (boot : Boot) where
           }
 
       -- it is good
-      module _ (sights : List (Option Sight)) (numbers : List ℕ) (says : AreSaid bytes numbers) (good : IsGood w.standpoint.epoch w.standpoint.host bytes)
+      module _ (sights : List (Option Sight)) (numbers : List ℕ) (says : AreSaid bytes numbers) (good : IsGood w.standpoint bytes)
           (others : (other : ℕ) → other ≢ disk → sight_in sights other ≡ sight_of w other)
-          (sure : IsSyncedUnder boot.number (sight_of w disk) → IsSureUnder boot.number (sight_in sights disk))
+          (sure : w.standpoint.only_looks ≡ false → IsSyncedUnder boot.number (sight_of w disk) → IsSureUnder boot.number (sight_in sights disk))
           (seen : IsUnder boot.number (sight_of w disk) → IsKnownUnder boot.number (sight_in sights disk)) (keeps : Keeps (sight_of w disk) (sight_in sights disk))
           (knows : (past : Past) → KnowsOf image w.standpoint.epoch w.standpoint.host past (sight_of w disk) → KnowsOf image w.standpoint.epoch w.standpoint.host (past ++ reading image w.standpoint.epoch.area boot.number bytes ∷ []) (sight_in sights disk)) where
         knows_so : (past : Past) → KnowsOf image w.standpoint.epoch w.standpoint.host past (sight_of w disk) → KnowsOf image w.standpoint.epoch w.standpoint.host (past ++ made due (Told bytes) ∷ []) (sight_in sights disk)
@@ -355,7 +355,7 @@ module _ (w : Window) (disk at : ℕ) (boot : Boot) where
             (knows_so (before disk)) others (no_read _) (λ so. inl so)
 
         -- the row is read next
-        pub good_hears : (is_last : Bool) → GoesOnAt w.standpoint.epoch w.standpoint.host (step_of w disk boot.number at) bytes
+        pub good_hears : (is_last : Bool) → GoesOnAt w.standpoint (step_of w disk boot.number at) bytes
             → NoticesAt w.standpoint.epoch (step_of w disk boot.number at) bytes w.has_passed
             → left_at (Row numbers is_last) + 1 ≡ left_at (step_of w disk boot.number at)
             → Hears w (record w { sights = sights; reading = Some (record { disk = disk; boot = boot; at = at; step = Row numbers is_last }) }) disk wanted (Told bytes) None
@@ -381,7 +381,7 @@ module _ (w : Window) (disk at : ℕ) (boot : Boot) where
             }
 
         -- no row is shown, for it was the last try
-        pub last_hears : FailsAt w.standpoint.epoch w.standpoint.host (step_of w disk boot.number at) bytes
+        pub last_hears : FailsAt w.standpoint (step_of w disk boot.number at) bytes
             → NoticesAt w.standpoint.epoch (step_of w disk boot.number at) bytes w.has_passed
             → Hears w (record w { sights = sights; reading = None }) disk wanted (Told bytes) (Some outcome.Failed)
         last_hears fails notes =
@@ -411,7 +411,7 @@ module _ (w : Window) (disk at : ℕ) (boot : Boot) where
                   λ before after follows adds. inl (shown_by_both before after follows adds).shown;
               fits = tt;
               fewer = tt;
-              cause = subst (λ (s : Step). IsAfterReading w.standpoint.epoch w.standpoint.host s bytes (Some outcome.Row)) (sym at_second) (good, clear_by_second);
+              cause = subst (λ (s : Step). IsAfterReading w.standpoint s bytes (Some outcome.Row)) (sym at_second) (good, clear_by_second);
               sights = record { here = (keeps, sure, seen); others = others };
               notices = record { now = subst (λ (s : Step). NoticesAt w.standpoint.epoch s bytes w.has_passed) (sym at_second) (quiet w.has_passed); before = λ so. so };
               rests = λ told. refl;
@@ -456,7 +456,6 @@ module _ (w : Window) (disk at : ℕ) (boot : Boot) where
                     between = [];
                     is = read_so before after adds ∙ ap (λ (p : Past). p ++ reading image w.standpoint.epoch.area boot.number bytes ∷ []) has.is;
                     clear = clear_of has.standings has.says;
-                    inside = good.inside;
                     told = ap Told (is_masked ∙ masked_of has.standings has.says);
                   };
                   at_once = refl;

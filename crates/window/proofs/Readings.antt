@@ -31,7 +31,7 @@ use Rattle.window.proofs.Hearing.{fault_hears, good_hears, hidden_hears, last_he
 pub record Sees (w new : Window) (disk boot : ℕ) (standings : List ℕ) : Type 0 where
   pub rest : new ≡ record w { sights = new.sights }
   pub others : (other : ℕ) → other ≢ disk → sight_of new other ≡ sight_of w other
-  pub sure : IsSyncedUnder boot (sight_of w disk) → IsSureUnder boot (sight_of new disk)
+  pub sure : w.standpoint.only_looks ≡ false → IsSyncedUnder boot (sight_of w disk) → IsSureUnder boot (sight_of new disk)
   pub known : IsUnder boot (sight_of w disk) → IsKnownUnder boot (sight_of new disk)
   pub keeps : Keeps (sight_of w disk) (sight_of new disk)
   pub knows : (past : Past) → KnowsOf (length_of w) w.standpoint.epoch w.standpoint.host past (sight_of w disk) → KnowsOf (length_of w) w.standpoint.epoch w.standpoint.host (past ++ reading (length_of w) w.standpoint.epoch.area boot standings ∷ []) (sight_of new disk)
@@ -62,45 +62,45 @@ module _ (w : Window) (disk at : ℕ) (boot : Boot) where
     due_at : (s : Step) → step ≡ s → due_for w disk wanted ≡ read_due (length_of w) w.standpoint.epoch.area boot.number at ROW_LENGTH s
     due_at s is = ap (read_due (length_of w) w.standpoint.epoch.area boot.number at ROW_LENGTH) is
 
-    quiet : IsGood w.standpoint.epoch w.standpoint.host standings → (has_passed : Bool) → (¬ IsDamagedArea standings) → HasPassed w.standpoint.epoch (numbers_in standings) → has_passed ≡ true
+    quiet : IsGood w.standpoint standings → (has_passed : Bool) → (¬ IsDamagedArea standings) → HasPassed w.standpoint.epoch (numbers_in standings) → has_passed ≡ true
     quiet good has_passed sound passed = absurd (good.nobody passed)
 
     -- BEFORE THE ROW
 
     module _ (at_first : step ≡ First) where
-      pub first_hidden : (new : Window) (told : Option Outcome) (why : Hidden) → IsHiddenBy w.standpoint.epoch w.standpoint.host standings why
+      pub first_hidden : (new : Window) (told : Option Outcome) (why : Hidden) → IsHiddenBy w.standpoint standings why
           → new ≡ record w { reading = None; has_passed = passed_by why w.has_passed } → told ≡ Some outcome.Failed
           → Hears w new disk wanted (Told standings) told
       first_hidden new told why is becomes fails =
           subst (λ (v : Window). Hears w v disk wanted (Told standings) told) (sym becomes)
           (subst (λ (t : Option Outcome). Hears w (record w { reading = None; has_passed = passed_by why w.has_passed }) disk wanted (Told standings) t) (sym fails)
           (hidden_hears w disk at boot standings (due_at First at_first) why is
-          (subst (λ (s : Step). FailsAt w.standpoint.epoch w.standpoint.host s standings) (sym at_first) (why, is))
+          (subst (λ (s : Step). FailsAt w.standpoint s standings) (sym at_first) (why, is))
           (λ has_passed noted. subst (λ (s : Step). NoticesAt w.standpoint.epoch s standings has_passed) (sym at_first) noted)))
 
-      pub first_good : (new : Window) (first : List ℕ) → Sees w new disk boot.number standings → AreSaid standings first → IsGood w.standpoint.epoch w.standpoint.host standings
+      pub first_good : (new : Window) (first : List ℕ) → Sees w new disk boot.number standings → AreSaid standings first → IsGood w.standpoint standings
           → Hears w (record new { reading = Some (record { disk = disk; boot = boot; at = at; step = Row first false }) }) disk wanted (Told standings) None
       first_good new first sees says good =
           subst (λ (v : Window). Hears w (record v { reading = Some (record { disk = disk; boot = boot; at = at; step = Row first false }) }) disk wanted (Told standings) None) (sym sees.rest)
           (good_hears w disk at boot standings (due_at First at_first) new.sights first says good sees.others sees.sure sees.known sees.keeps sees.knows false
-          (subst (λ (s : Step). GoesOnAt w.standpoint.epoch w.standpoint.host s standings) (sym at_first) good)
+          (subst (λ (s : Step). GoesOnAt w.standpoint s standings) (sym at_first) good)
           (subst (λ (s : Step). NoticesAt w.standpoint.epoch s standings w.has_passed) (sym at_first) (quiet good w.has_passed))
           (subst (λ (s : Step). left_at (Row first false) + 1 ≡ left_at s) (sym at_first) refl))
 
     -- BEHIND IT
 
     module _ (first : List ℕ) (is_last : Bool) (at_second : step ≡ Second first is_last) where
-      pub second_hidden : (new : Window) (told : Option Outcome) (why : Hidden) → IsHiddenBy w.standpoint.epoch w.standpoint.host standings why
+      pub second_hidden : (new : Window) (told : Option Outcome) (why : Hidden) → IsHiddenBy w.standpoint standings why
           → new ≡ record w { reading = None; has_passed = passed_by why w.has_passed } → told ≡ Some outcome.Failed
           → Hears w new disk wanted (Told standings) told
       second_hidden new told why is becomes fails =
           subst (λ (v : Window). Hears w v disk wanted (Told standings) told) (sym becomes)
           (subst (λ (t : Option Outcome). Hears w (record w { reading = None; has_passed = passed_by why w.has_passed }) disk wanted (Told standings) t) (sym fails)
           (hidden_hears w disk at boot standings (due_at (Second first is_last) at_second) why is
-          (subst (λ (s : Step). FailsAt w.standpoint.epoch w.standpoint.host s standings) (sym at_second) (inl (why, is)))
+          (subst (λ (s : Step). FailsAt w.standpoint s standings) (sym at_second) (inl (why, is)))
           (λ has_passed noted. subst (λ (s : Step). NoticesAt w.standpoint.epoch s standings has_passed) (sym at_second) noted)))
 
-      module _ (new : Window) (second : List ℕ) (sees : Sees w new disk boot.number standings) (says : AreSaid standings second) (good : IsGood w.standpoint.epoch w.standpoint.host standings) where
+      module _ (new : Window) (second : List ℕ) (sees : Sees w new disk boot.number standings) (says : AreSaid standings second) (good : IsGood w.standpoint standings) where
         by_numbers : AreClear w.standpoint.epoch (slice_index first) (numbers_in standings) → AreClear new.standpoint.epoch (slice_index first) (slice_index second)
         by_numbers clear =
             subst (λ (v : Window). AreClear v.standpoint.epoch (slice_index first) (slice_index second)) (sym sees.rest)
@@ -124,12 +124,12 @@ module _ (w : Window) (disk at : ℕ) (boot : Boot) where
         second_last unclear last =
             subst (λ (v : Window). Hears w (record v { reading = None }) disk wanted (Told standings) (Some outcome.Failed)) (sym sees.rest)
             (last_hears w disk at boot standings (due_at (Second first is_last) at_second) new.sights second says good sees.others sees.sure sees.known sees.keeps sees.knows
-            (subst (λ (s : Step). FailsAt w.standpoint.epoch w.standpoint.host s standings) (sym at_second) (inr (last, λ clear. unclear (by_numbers clear)))) noted)
+            (subst (λ (s : Step). FailsAt w.standpoint s standings) (sym at_second) (inr (last, λ clear. unclear (by_numbers clear)))) noted)
 
         pub second_again : (AreClear new.standpoint.epoch (slice_index first) (slice_index second) → ⊥) → is_last ≡ false
             → Hears w (record new { reading = Some (record { disk = disk; boot = boot; at = at; step = Row second true }) }) disk wanted (Told standings) None
         second_again unclear not_last =
             subst (λ (v : Window). Hears w (record v { reading = Some (record { disk = disk; boot = boot; at = at; step = Row second true }) }) disk wanted (Told standings) None) (sym sees.rest)
             (good_hears w disk at boot standings (due_at (Second first is_last) at_second) new.sights second says good sees.others sees.sure sees.known sees.keeps sees.knows true
-            (subst (λ (s : Step). GoesOnAt w.standpoint.epoch w.standpoint.host s standings) (sym at_second) (good, not_last, λ clear. unclear (by_numbers clear))) noted
+            (subst (λ (s : Step). GoesOnAt w.standpoint s standings) (sym at_second) (good, not_last, λ clear. unclear (by_numbers clear))) noted
             (subst (λ (s : Step). left_at (Row second true) + 1 ≡ left_at s) (sym at_second) (subst (λ (b : Bool). left_at (Row second true) + 1 ≡ left_at (Second first b)) (sym not_last) refl)))

@@ -76,9 +76,9 @@ module _ (n : ℕ) (e : Epoch) (host : ℕ) (past : Past) where
         numbers = numbers_of_more n e host past m s.boot.number s.numbers is.numbers;
       }
 
-  module _ (row numbers : List ℕ) (says : AreSaid row numbers) (inside : numbers_in row host ≡ e.number) where
-    pub now_sure : (boot : ℕ) → IsSynced n e.area host boot past → IsSureOf n e.area host e.number (past ++ reading n e.area boot row ∷ [])
-    now_sure boot is =
+  module _ (row numbers : List ℕ) (says : AreSaid row numbers) where
+    pub now_sure : (boot : ℕ) → numbers_in row host ≡ e.number → IsSynced n e.area host boot past → IsSureOf n e.area host e.number (past ++ reading n e.area boot row ∷ [])
+    now_sure boot inside is =
         record {
           boot = boot;
           row = row;
@@ -90,7 +90,7 @@ module _ (n : ℕ) (e : Epoch) (host : ℕ) (past : Past) where
           still = subst (AllSpare (number_place n e.area host) BLOCK_LENGTH) (sym (append-nil is.behind)) is.still;
         }
 
-    pub read_knows : (s : Sight) (is_sure : Bool) → (is_sure ≡ true → (s.is_sure ≡ true) ⊎ (s.is_synced ≡ true)) → Knows n e host past s →
+    pub read_knows : (s : Sight) (is_sure : Bool) → (is_sure ≡ true → (s.is_sure ≡ true) ⊎ ((s.is_synced ≡ true) × (numbers_in row host ≡ e.number))) → Knows n e host past s →
         Knows n e host (past ++ reading n e.area s.boot.number row ∷ []) (record s { is_sure = is_sure; numbers = Some numbers })
     read_knows s is_sure why is =
         let m = reading n e.area s.boot.number row in
@@ -101,7 +101,7 @@ module _ (n : ℕ) (e : Epoch) (host : ℕ) (past : Past) where
               λ so.
               elim (why so) [
                 | inl before ↦ sure_more n e host past m tt (is.sure before)
-                | inr synced ↦ now_sure s.boot.number (is.synced synced)
+                | inr synced ↦ now_sure s.boot.number synced.1 (is.synced synced.0)
               ];
           numbers = record { row = row; early = past; later = []; is = refl; says = says };
         }

@@ -1,5 +1,5 @@
 -- What follows when a window hears the answer to the device call that was due for a call of the core.
-use Rattle.std.specs.Prelude.{◌≡◌, ◌≢◌, ◌+◌, ℕ, Bool, true, List, [], ◌∷◌, ◌++◌, Option, Some, None, IsSome, IsNone}
+use Rattle.std.specs.Prelude.{◌≡◌, ◌≢◌, ◌+◌, ℕ, Bool, true, false, List, [], ◌∷◌, ◌++◌, Option, Some, None, IsSome, IsNone}
 use Rattle.disk.specs.Disk.{Call, Attach, Read, Write, Sync, Answer, Booted, Told, Done}
 use Rattle.torn_block.specs.Layout.{cluster_version}
 use Rattle.torn_block.specs.declared.layout.TheConstants.{ROW_LENGTH}
@@ -21,12 +21,13 @@ use Rattle.window.specs.Outcomes.{answer_by, IsAfterReading, NoticesAt}
 
 -- WHAT A SIGHT TELLS
 
--- what is seen of a disk behind an answered call of the core
-abbrev pub SeesOn : Call → Answer → Option Outcome → (old new : Option Sight) → Type 0
-SeesOn Attach (Booted boot) told old new = IsUnder boot new × (IsKnownUnder boot old → IsKnownUnder boot new)
-SeesOn (Sync boot) Done told old new = Keeps old new × (IsUnder boot old → IsSyncedUnder boot new)
-SeesOn (Read boot at len) answer (Some outcome.Row) old new = Keeps old new × (IsSyncedUnder boot old → IsSureUnder boot new) × (IsUnder boot old → IsKnownUnder boot new)
-SeesOn wanted answer told old new = Keeps old new
+-- What is seen of a disk behind an answered call of the core. A disk is never sure for a host that only looks.
+abbrev pub SeesOn : (only_looks : Bool) → Call → Answer → Option Outcome → (old new : Option Sight) → Type 0
+SeesOn only_looks Attach (Booted boot) told old new = IsUnder boot new × (IsKnownUnder boot old → IsKnownUnder boot new)
+SeesOn only_looks (Sync boot) Done told old new = Keeps old new × (IsUnder boot old → IsSyncedUnder boot new)
+SeesOn only_looks (Read boot at len) answer (Some outcome.Row) old new =
+    Keeps old new × (only_looks ≡ false → IsSyncedUnder boot old → IsSureUnder boot new) × (IsUnder boot old → IsKnownUnder boot new)
+SeesOn only_looks wanted answer told old new = Keeps old new
 
 -- A write of the core is made only where the host's number is surely the epoch's.
 abbrev pub IsReady : Call → Option Sight → Type 0
@@ -63,12 +64,12 @@ HasOneFewer old new disk wanted (Some told) = Unit {0}
 
 -- What the core is to hear has its cause. Only what was read by a read is not told as it is.
 abbrev pub HasCause : Window → (disk : ℕ) → Call → Answer → Option Outcome → Type 0
-HasCause w disk (Read boot at len) (Told bytes) told = IsAfterReading w.standpoint.epoch w.standpoint.host (step_of w disk boot at) bytes told
+HasCause w disk (Read boot at len) (Told bytes) told = IsAfterReading w.standpoint (step_of w disk boot at) bytes told
 HasCause w disk wanted answer told = told ≡ Some outcome.AsHeard
 
 -- what was seen of its disk goes on, and what was seen of others stays
 pub record SightsGoOn (old new : Window) (disk : ℕ) (wanted : Call) (answer : Answer) (told : Option Outcome) : Type 0 where
-  pub here : SeesOn wanted answer told (sight_of old disk) (sight_of new disk)
+  pub here : SeesOn old.standpoint.only_looks wanted answer told (sight_of old disk) (sight_of new disk)
   pub others : (other : ℕ) → other ≢ disk → sight_of new other ≡ sight_of old other
 
 -- Somebody who has left the epoch is noticed, and not forgotten.

@@ -9,6 +9,7 @@ use Rattle.window.specs.declared.outcome.Outcome.{Outcome}
 use Rattle.window.specs.declared.outcome.Outcome.TheVariants as outcome
 use Rattle.window.specs.declared.standing.Hidden.{Hidden}
 use Rattle.window.specs.declared.standing.Hidden.TheVariants as hidden
+use Rattle.window.specs.declared.standpoint.Standpoint.{Standpoint}
 use Rattle.window.specs.declared.step.Step.{Step}
 use Rattle.window.specs.declared.step.Step.TheVariants.{First, Row, Second}
 
@@ -18,44 +19,45 @@ answer_by row outcome.AsHeard answer = answer
 answer_by row outcome.Row answer = Told row
 answer_by row outcome.Failed answer = Fault Failed
 
--- The row of standings is sound, nobody has left the epoch, and the host itself is inside.
-pub record IsGood (e : Epoch) (host : ℕ) (standings : List ℕ) : Type 0 where
+-- The row of standings is sound, and nobody has left the epoch. The host itself is inside, unless it only looks.
+pub record IsGood (from : Standpoint) (standings : List ℕ) : Type 0 where
   pub sound : ¬ IsDamagedArea standings
-  pub nobody : ¬ HasPassed e (numbers_in standings)
-  pub inside : numbers_in standings host ≡ e.number
+  pub nobody : ¬ HasPassed from.epoch (numbers_in standings)
+  pub inside : from.only_looks ≡ false → numbers_in standings from.host ≡ from.epoch.number
 
 -- why it is not so
-abbrev pub IsHiddenBy : Epoch → (host : ℕ) → List ℕ → Hidden → Type 0
-IsHiddenBy e host standings hidden.Damaged = IsDamagedArea standings
-IsHiddenBy e host standings hidden.Passed = (¬ IsDamagedArea standings) × HasPassed e (numbers_in standings)
-IsHiddenBy e host standings hidden.Outside = (¬ HasPassed e (numbers_in standings)) × (numbers_in standings host ≢ e.number)
+abbrev pub IsHiddenBy : Standpoint → List ℕ → Hidden → Type 0
+IsHiddenBy from standings hidden.Damaged = IsDamagedArea standings
+IsHiddenBy from standings hidden.Passed = (¬ IsDamagedArea standings) × HasPassed from.epoch (numbers_in standings)
+IsHiddenBy from standings hidden.Outside =
+    (from.only_looks ≡ false) × (¬ HasPassed from.epoch (numbers_in standings)) × (numbers_in standings from.host ≢ from.epoch.number)
 
-abbrev pub IsHidden : Epoch → (host : ℕ) → List ℕ → Type 0
-IsHidden e host standings = (why : Hidden) × IsHiddenBy e host standings why
+abbrev pub IsHidden : Standpoint → List ℕ → Type 0
+IsHidden from standings = (why : Hidden) × IsHiddenBy from standings why
 
 -- In a read these bytes were read, and another call is due.
-abbrev pub GoesOnAt : Epoch → (host : ℕ) → Step → List ℕ → Type 0
-GoesOnAt e host First bytes = IsGood e host bytes
-GoesOnAt e host (Row first is_last) bytes = Unit {0}
-GoesOnAt e host (Second first is_last) bytes = IsGood e host bytes × (is_last ≡ false) × ¬ AreClear e (slice_index first) (numbers_in bytes)
+abbrev pub GoesOnAt : Standpoint → Step → List ℕ → Type 0
+GoesOnAt from First bytes = IsGood from bytes
+GoesOnAt from (Row first is_last) bytes = Unit {0}
+GoesOnAt from (Second first is_last) bytes = IsGood from bytes × (is_last ≡ false) × ¬ AreClear from.epoch (slice_index first) (numbers_in bytes)
 
 -- or the row is shown
-abbrev pub ShowsAt : Epoch → (host : ℕ) → Step → List ℕ → Type 0
-ShowsAt e host First bytes = ⊥
-ShowsAt e host (Row first is_last) bytes = ⊥
-ShowsAt e host (Second first is_last) bytes = IsGood e host bytes × AreClear e (slice_index first) (numbers_in bytes)
+abbrev pub ShowsAt : Standpoint → Step → List ℕ → Type 0
+ShowsAt from First bytes = ⊥
+ShowsAt from (Row first is_last) bytes = ⊥
+ShowsAt from (Second first is_last) bytes = IsGood from bytes × AreClear from.epoch (slice_index first) (numbers_in bytes)
 
 -- or the core hears that the read failed
-abbrev pub FailsAt : Epoch → (host : ℕ) → Step → List ℕ → Type 0
-FailsAt e host First bytes = IsHidden e host bytes
-FailsAt e host (Row first is_last) bytes = ⊥
-FailsAt e host (Second first is_last) bytes = IsHidden e host bytes ⊎ ((is_last ≡ true) × ¬ AreClear e (slice_index first) (numbers_in bytes))
+abbrev pub FailsAt : Standpoint → Step → List ℕ → Type 0
+FailsAt from First bytes = IsHidden from bytes
+FailsAt from (Row first is_last) bytes = ⊥
+FailsAt from (Second first is_last) bytes = IsHidden from bytes ⊎ ((is_last ≡ true) × ¬ AreClear from.epoch (slice_index first) (numbers_in bytes))
 
-abbrev pub IsAfterReading : Epoch → (host : ℕ) → Step → List ℕ → Option Outcome → Type 0
-IsAfterReading e host step bytes None = GoesOnAt e host step bytes
-IsAfterReading e host step bytes (Some outcome.AsHeard) = ⊥
-IsAfterReading e host step bytes (Some outcome.Row) = ShowsAt e host step bytes
-IsAfterReading e host step bytes (Some outcome.Failed) = FailsAt e host step bytes
+abbrev pub IsAfterReading : Standpoint → Step → List ℕ → Option Outcome → Type 0
+IsAfterReading from step bytes None = GoesOnAt from step bytes
+IsAfterReading from step bytes (Some outcome.AsHeard) = ⊥
+IsAfterReading from step bytes (Some outcome.Row) = ShowsAt from step bytes
+IsAfterReading from step bytes (Some outcome.Failed) = FailsAt from step bytes
 
 -- It is noticed that somebody has left the epoch.
 abbrev pub NoticesAt : Epoch → Step → List ℕ → (has_passed : Bool) → Type 0

@@ -1,5 +1,5 @@
 // What a host has seen of a disk since the disk told its boot number last.
-ghost use Rattle.std.specs.Prelude.{◌≡◌, ◌++◌, ◌∷◌, [], ℕ, List, Some};
+ghost use Rattle.std.specs.Prelude.{◌≡◌, ◌++◌, ◌∷◌, [], ℕ, false, List, Some};
 ghost use Rattle.disk.specs.Disk.{Attach, Booted, Sync, Done};
 
 use disk::Boot;
@@ -63,13 +63,18 @@ impl Sight {
         })
     }
 
-    /// After a reading of the standings under this boot number, by which the host is inside of the epoch.
-    pub fn read(before: &Option<Sight>, boot: Boot, numbers: &[u64; HOSTS]) -> Option<Sight>
-        ensures sure { IsSyncedUnder boot.number before.now → IsSureUnder boot.number result }
+    /// After a reading of the standings under this boot number, by which the host is inside of the epoch, unless it only looks.
+    pub fn read(
+        before: &Option<Sight>,
+        boot: Boot,
+        numbers: &[u64; HOSTS],
+        only_looks: bool,
+    ) -> Option<Sight>
+        ensures sure { only_looks ≡ false → IsSyncedUnder boot.number before.now → IsSureUnder boot.number result }
         ensures known { IsUnder boot.number before.now → IsKnownUnder boot.number result }
         ensures keeps { Keeps before.now result }
         ensures knows { (n host : ℕ) (e : Epoch) (past : Past) (row : List ℕ) → AreSaid row numbers.now →
-            numbers_in row host ≡ e.number → KnowsOf n e host past before.now →
+            (only_looks ≡ false → numbers_in row host ≡ e.number) → KnowsOf n e host past before.now →
             KnowsOf n e host (past ++ reading n e.area boot.number row ∷ []) result }
     {
         let sight = (*before)?;
@@ -77,7 +82,7 @@ impl Sight {
             return Some(sight);
         }
         Some(Sight {
-            is_sure: sight.is_sure || sight.is_synced,
+            is_sure: sight.is_sure || (sight.is_synced && !only_looks),
             numbers: Some(*numbers),
             ..sight
         })

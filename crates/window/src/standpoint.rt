@@ -10,6 +10,8 @@ pub struct Standpoint {
     pub host: u8,
     pub slots: u16,
     pub epoch: Epoch,
+    /// The host only looks: rows are shown to it from outside of the epoch, too.
+    pub only_looks: bool,
     ghost host_in_range: { host < HOSTS },
     ghost area_in_range: { epoch.area < 2 },
 }

@@ -49,20 +49,26 @@ impl Window {
     ghost use Rattle.window.specs.Sights.{IsKnownUnder, IsSureUnder, IsSyncedUnder, IsUnder, Keeps};
     ghost use Rattle.window.specs.Hearing.{AnswersBy, FitsAs, FollowsOn, ForgetsOn, GoesOnWith, HasCause, HasOneFewer, Hears, MayWant, Notices, RestsAfter, ShowsAtOnce, SightsGoOn};
 
-    /// A window that has seen nothing: of a host, on disks whose areas have so many slots.
-    pub fn new(host: u8, slots: u16, epoch: Epoch) -> Window
+    /// A window that has seen nothing: of a host, on disks whose areas have so many slots. To a host that only looks it shows rows from outside of the epoch, too.
+    pub fn new(host: u8, slots: u16, epoch: Epoch, only_looks: bool) -> Window
         requires host { host < HOSTS }
         requires area { epoch.area < 2 }
         ensures host { result.standpoint.host ≡ host }
         ensures slots { result.standpoint.slots ≡ slots }
         ensures epoch { result.standpoint.epoch ≡ epoch }
+        ensures looks { result.standpoint.only_looks ≡ only_looks }
         ensures nothing { (disk : ℕ) → sight_of result disk ≡ None }
         ensures passed { result.has_passed ≡ false }
         ensures rests { result.reading ≡ None }
         ensures follows { (pasts : Pasts) → Follows result pasts }
     {
         Window {
-            standpoint: Standpoint { host, slots, epoch },
+            standpoint: Standpoint {
+                host,
+                slots,
+                epoch,
+                only_looks,
+            },
             sights: [None; PLACES],
             reading: None,
             row: [0; ROW_LENGTH],
@@ -257,7 +263,7 @@ impl Window {
         ensures { Hears self.old self.new disk (device.Read boot.number at ROW_LENGTH)
             (device.Told standings.now) result }
     {
-        match judge(&self.standpoint.epoch, self.standpoint.host, standings) {
+        match judge(&self.standpoint, standings) {
             Ok(first) => {
                 self.see(disk, boot, &first);
                 self.reading = Some(Reading {
@@ -290,7 +296,7 @@ impl Window {
         ensures { Hears self.old self.new disk (device.Read boot.number at ROW_LENGTH)
             (device.Told standings.now) result }
     {
-        let second = match judge(&self.standpoint.epoch, self.standpoint.host, standings) {
+        let second = match judge(&self.standpoint, standings) {
             Ok(second) => second,
             Err(hidden) => return self.hide(hidden),
         };
@@ -331,24 +337,25 @@ impl Window {
         Some(Outcome::Failed)
     }
 
-    // These numbers were read on a disk, and the host is inside by them.
+    // These numbers were read on a disk. A host that does not only look is inside by them.
     fn see(&mut self, disk: u8, boot: Boot, numbers: &[u64; HOSTS])
         requires { disk < DISKS }
         ensures rest { self.new ≡ record self.old { sights = self.new.sights } }
         ensures others { (other : ℕ) → other ≢ disk → sight_of self.new other ≡ sight_of self.old
             other }
-        ensures sure { IsSyncedUnder boot.number (sight_of self.old disk) → IsSureUnder
+        ensures sure { self.old.standpoint.only_looks ≡ false → IsSyncedUnder boot.number (sight_of self.old disk) → IsSureUnder
             boot.number (sight_of self.new disk) }
         ensures known { IsUnder boot.number (sight_of self.old disk) → IsKnownUnder boot.number
             (sight_of self.new disk) }
         ensures keeps { Keeps (sight_of self.old disk) (sight_of self.new disk) }
         ensures knows { (n host : ℕ) (e : Epoch) (past : Past) (row : List ℕ) → AreSaid row
             numbers.now →
-            numbers_in row host ≡ e.number → KnowsOf n e host past (sight_of self.old disk) →
+            (self.old.standpoint.only_looks ≡ false → numbers_in row host ≡ e.number) → KnowsOf n e host past (sight_of self.old disk) →
             KnowsOf n e host (past ++ reading n e.area boot.number row ∷ []) (sight_of self.new disk) }
     {
         let disk = usize::from(disk);
-        let sight = Sight::read(&self.sights[disk], boot, numbers);
+        let only_looks = self.standpoint.only_looks;
+        let sight = Sight::read(&self.sights[disk], boot, numbers, only_looks);
         self.sights[disk] = sight;
     }
 

@@ -1,4 +1,4 @@
-use Rattle.std.proofs.Common.{◌≡◌, ◌≤◌, ℕ, [], Option, Some, None, refl, sym, ◌∙◌, subst, arith, ap}
+use Rattle.std.proofs.Common.{◌≡◌, ◌≤◌, ◌++◌, ℕ, [], Option, Some, None, refl, sym, ◌∙◌, subst, arith, ap}
 use Rattle.torn_block.specs.Layout.{cluster_version}
 use Rattle.paxos_block.specs.Shape.{Shape}
 use Rattle.attempt.specs.DeviceCalls.{IsWithin, call_of_need, device_answer}
@@ -11,12 +11,12 @@ use Rattle.epoch_host.specs.Ending.{Ends, TableIsThere}
 use Rattle.epoch_host.specs.Leading.{LeadsTo}
 use Rattle.epoch_images.specs.Working.{HasWorked, Standing, room_of}
 use Rattle.epoch_images.proofs.Anew.{started_anew}
-use Rattle.epoch_images.proofs.Doing.{begun, done_and_goes, has_task, has_worked, heard_one, is_busy, is_idle, keeps_then, leads_to, no_memory, outrun_ends, same_then}
+use Rattle.epoch_images.proofs.Doing.{begun, done_and_goes, has_task, has_worked, heard_one, is_busy, is_idle, keeps_then, no_memory, IsOnWay, outrun_ends, refused_way, same_then}
 use Rattle.epoch_images.proofs.operation.drive.Goals as goal
 
 pub loop-made-init : goal.loop-made-init
 loop-made-init g c = record {
-  done = begun g.D.Disk.gives (record { host = c.args.host.now; disks = c.args.disks.now }) (record { host = c.begin.new.self; disks = c.args.disks.now }) refl c.begin.ensures.leads;
+  done = begun g.D.Disk.gives (record { host = c.args.host.now; disks = c.args.disks.now }) (record { host = c.begin.new.self; disks = c.args.disks.now }) refl c.begin.ensures.leads c.begin.ensures.silent;
   same = c.begin.ensures.same;
   keeps = c.begin.ensures.keeps;
   told = c.in_ok-begin.ensures.told;
@@ -52,7 +52,7 @@ loop-made-preserved g c =
       done =
           heard_one g.D.Disk.gives (record { host = c.args.host.now; disks = c.args.disks.now }) (record { host = c.loop-made.host; disks = c.loop-made.disks })
           (record { host = c.hear.new.self; disks = c.answer_among-heard.new.disks }) (call_of_need cluster_version c.call-need.result) (device_answer c.answer_among-heard.result)
-          c.call-need.ensures.due c.loop-made.invariant.done c.answer_among-heard.ensures.gave c.hear.ensures.makes;
+          c.call-need.ensures.due c.loop-made.invariant.done c.answer_among-heard.ensures.gave c.hear.ensures.makes c.hear.ensures.fresh;
       same = same_then c.args.host.now c.loop-made.host c.hear.new.self c.loop-made.invariant.same c.hear.ensures.same;
       keeps = keeps_then c.args.task c.loop-made.host.task c.hear.new.self.task had c.hear.ensures.keeps;
       told = c.in_ok-hear.ensures.told;
@@ -67,24 +67,25 @@ returns-in_err-begin-clause-worked g c =
     let old : Standing g.row.D.Denot = record { host = c.args.host.now; disks = c.args.disks.now } in
     let new : Standing g.row.D.Denot = record { host = c.begin.new.self; disks = c.args.disks.now } in
     subst (λ (said : Option EpochAnswer). HasWorked g.D.Disk.gives c.args.task said old new) (sym (no_memory c.from_residual.result c.from_residual.ensures.1))
-    (has_worked g.D.Disk.gives c.args.task None old new (begun g.D.Disk.gives old new refl c.begin.ensures.leads) (λ s h deeds is. tt))
+    (has_worked g.D.Disk.gives c.args.task None c.begin.new.self.said old new (begun g.D.Disk.gives old new refl c.begin.ensures.leads c.begin.ensures.silent) c.begin.ensures.rests
+    (λ none. absurd none) (λ s h deeds is. tt))
 
 pub returns-in_err-hear-clause-worked : goal.returns-in_err-hear-clause-worked
 returns-in_err-hear-clause-worked g c =
     let old : Standing g.row.D.Denot = record { host = c.args.host.now; disks = c.args.disks.now } in
     let new : Standing g.row.D.Denot = record { host = c.hear.new.self; disks = c.answer_among-heard.new.disks } in
     subst (λ (said : Option EpochAnswer). HasWorked g.D.Disk.gives c.args.task said old new) (sym (no_memory c.from_residual-in_err-hear.result c.from_residual-in_err-hear.ensures.1))
-    (has_worked g.D.Disk.gives c.args.task None old new
+    (has_worked g.D.Disk.gives c.args.task None c.hear.new.self.said old new
     (heard_one g.D.Disk.gives old (record { host = c.loop-made.host; disks = c.loop-made.disks }) new (call_of_need cluster_version c.call-need.result)
-    (device_answer c.answer_among-heard.result) c.call-need.ensures.due c.loop-made.invariant.done c.answer_among-heard.ensures.gave c.hear.ensures.makes)
-    (λ s h deeds is. tt))
+    (device_answer c.answer_among-heard.result) c.call-need.ensures.due c.loop-made.invariant.done c.answer_among-heard.ensures.gave c.hear.ensures.makes c.hear.ensures.fresh)
+    c.begin.ensures.rests (λ none. absurd none) (λ s h deeds is. tt))
 
 pub returns-then-idle-clause-worked : goal.returns-then-idle-clause-worked
 returns-then-idle-clause-worked g c =
     let old : Standing g.row.D.Denot = record { host = c.args.host.now; disks = c.args.disks.now } in
     let new : Standing g.row.D.Denot = record { host = c.loop-made.host; disks = c.loop-made.disks } in
     subst (λ (said : Option EpochAnswer). HasWorked g.D.Disk.gives c.args.task said old new) c.answered.ensures
-    (has_worked g.D.Disk.gives c.args.task c.loop-made.host.said old new c.loop-made.invariant.done c.loop-made.invariant.ends)
+    (has_worked g.D.Disk.gives c.args.task c.loop-made.host.said c.loop-made.host.said old new c.loop-made.invariant.done c.begin.ensures.rests (λ done. done) c.loop-made.invariant.ends)
 
 pub returns-then-idle-clause-there : goal.returns-then-idle-clause-there
 returns-then-idle-clause-there g c = subst (λ (said : Option EpochAnswer). TableIsThere c.loop-made.host said) c.answered.ensures c.loop-made.invariant.there
@@ -109,6 +110,7 @@ returns-clause-worked g c =
     let config = c.requires.config ∙ sym c.loop-made.invariant.same.config in
     let fresh : LeadsTo c.loop-made.host.config c.loop-made.host.host [] c.new.result =
     subst (λ (k : Shape). LeadsTo k c.loop-made.host.host [] c.new.result) config (subst (λ (n : ℕ). LeadsTo c.args.config n [] c.new.result) c.host-number.ensures c.new.ensures.leads) in
-    has_worked g.D.Disk.gives c.args.task (Some (Refused Outrun)) old new
-    (done_and_goes g.D.Disk.gives old now new (leads_to now.host) (leads_to new.host) c.loop-made.invariant.done refl (started_anew now.host new.host fresh))
-    (λ s h deeds is. outrun_ends s h deeds c.args.task)
+    has_worked g.D.Disk.gives c.args.task (Some (Refused Outrun)) (Some (Refused Outrun)) old new
+    (done_and_goes g.D.Disk.gives old now new (IsOnWay now.host now.host.said) (IsOnWay new.host (Some (Refused Outrun))) c.loop-made.invariant.done refl
+    (λ s h deeds more so. refused_way s h deeds (deeds ++ more) new.host (started_anew now.host new.host fresh s h (deeds ++ more) so.0)))
+    c.begin.ensures.rests (λ done. done) (λ s h deeds is. outrun_ends s h deeds c.args.task)

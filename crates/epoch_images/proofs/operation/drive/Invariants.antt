@@ -2,13 +2,13 @@ use Rattle.std.specs.Prelude.{IsSome}
 use Rattle.std.proofs.Common.{◌≡◌, ◌≤◌, ◌⊎◌, ℕ, length, slice_get, Some, None}
 use Rattle.epoch_host.specs.Ending.{Ends, TableIsThere}
 use Rattle.epoch_host.specs.Walking.{IsSame}
-use Rattle.epoch_images.specs.Working.{HasDone, room_of}
-use Rattle.epoch_images.proofs.Doing.{leads_to}
+use Rattle.epoch_images.specs.Working.{HasDoneSince, room_of}
+use Rattle.epoch_images.proofs.Doing.{IsOnWay}
 use Rattle.epoch_images.proofs.operation.drive.Given as goal
 
 abbrev pub invariant-loop-made : goal.invariant-loop-made
 invariant-loop-made g l = record {
-  done : HasDone g.D.Disk.gives (record { host = l.fn.host; disks = l.fn.disks }) (record { host = l.host; disks = l.disks }) (leads_to l.host);
+  done : HasDoneSince g.D.Disk.gives (record { host = l.fn.host; disks = l.fn.disks }) (record { host = l.host; disks = l.disks }) (IsOnWay l.host l.host.said);
   same : IsSame l.fn.host l.host;
   keeps : (l.host.task ≡ None) ⊎ (l.host.task ≡ Some l.fn.task);
   told : l.host.task ≡ None → IsSome l.host.said;

@@ -1,5 +1,5 @@
 use Rattle.std.specs.Prelude.{slice_index}
-use Rattle.std.proofs.Common.{◌≡◌, List, ℕ, refl, subst, sym, ◌∙◌, ap}
+use Rattle.std.proofs.Common.{◌≡◌, List, ℕ, refl, subst, sym, ◌∙◌}
 use Rattle.heartbeat.specs.Beat.{counters_in}
 use Rattle.standings.specs.declared.epoch.Epoch.{Epoch}
 use Rattle.standings.specs.Reading.{HasPassed, numbers_in}
@@ -15,21 +15,23 @@ by_numbers e row numbers exact passed = subst (λ (l : List ℕ). HasPassed e (s
 pub returns-then-has_passed-clause-hidden : goal.returns-then-has_passed-clause-hidden
 returns-then-has_passed-clause-hidden c = (
   (λ damaged. absurd (let none = c.in-Some.ensures.damaged.1 damaged in cc)),
-  by_row c.args.epoch.now c.args.standings.now c.in-Some.numbers c.in-Some.ensures.exact (c.if-has_passed.ensures.0 refl),
+  by_row c.args.from.now.epoch c.args.standings.now c.in-Some.numbers c.in-Some.ensures.exact (c.if-has_passed.ensures.0 refl),
 )
 
-pub returns-then-numbers-from-clause-hidden : goal.returns-then-numbers-from-clause-hidden
-returns-then-numbers-from-clause-hidden c = (
-  (λ passed. absurd (let wrong = c.if-has_passed.ensures.1 (by_numbers c.args.epoch.now c.args.standings.now c.in-Some.numbers c.in-Some.ensures.exact passed) in cc)),
-  (λ own. let each = c.in-Some.ensures.each c.args.host c.requires in c.if-numbers-from.true (ap (slice_index c.in-Some.numbers) c.from.ensures ∙ each ∙ own)),
-)
+pub returns-then-not-may_see-clause-hidden : goal.returns-then-not-may_see-clause-hidden
+returns-then-not-may_see-clause-hidden c =
+    let outside = c.if-not-may_see.ensures.outside refl in (
+      outside.0,
+      (λ passed. absurd (let wrong = c.if-has_passed.ensures.1 (by_numbers c.args.from.now.epoch c.args.standings.now c.in-Some.numbers c.in-Some.ensures.exact passed) in cc)),
+      (λ own. let each = c.in-Some.ensures.each c.args.from.now.host c.args.from.now.host_in_range in outside.1 (each ∙ own)),
+    )
 
 pub returns-clause-good : goal.returns-clause-good
 returns-clause-good c =
     record {
       sound = λ damaged. absurd (let none = c.in-Some.ensures.damaged.1 damaged in cc);
-      nobody = λ passed. absurd (let wrong = c.if-has_passed.ensures.1 (by_numbers c.args.epoch.now c.args.standings.now c.in-Some.numbers c.in-Some.ensures.exact passed) in cc);
-      inside = (let each = c.in-Some.ensures.each c.args.host c.requires in sym each ∙ ap (slice_index c.in-Some.numbers) (sym c.from.ensures) ∙ c.if-numbers-from.false);
+      nobody = λ passed. absurd (let wrong = c.if-has_passed.ensures.1 (by_numbers c.args.from.now.epoch c.args.standings.now c.in-Some.numbers c.in-Some.ensures.exact passed) in cc);
+      inside = λ comes. (let each = c.in-Some.ensures.each c.args.from.now.host c.args.from.now.host_in_range in sym each ∙ c.if-not-may_see.ensures.sees refl comes);
     }
 
 pub returns-clause-numbers : goal.returns-clause-numbers

@@ -1,5 +1,5 @@
 use Rattle.std.specs.Prelude.{is_some}
-use Rattle.std.proofs.Common.{◌<◌, Option, ap, sym, ◌∙◌, subst}
+use Rattle.std.proofs.Common.{◌≡◌, ◌<◌, true, Option, Some, ap, sym, ◌∙◌, subst}
 use Rattle.attempt.specs.DeviceCalls.{device_answer, device_call_of}
 use Rattle.torn_block.specs.Layout.{cluster_version}
 use Rattle.paxos_block.specs.Shape.{Shape}
@@ -14,7 +14,9 @@ use Rattle.epoch_host.proofs.Going.{makes_then}
 use Rattle.epoch_host.proofs.Hearing.{leads_by, leaves_led, own_here, rests_led, waits_led, works_led}
 use Rattle.host.specs.Kept.{due_call}
 use Rattle.epoch_host.specs.declared.stay.Doing.{Doing}
-use Rattle.epoch_host.specs.Staying.{IsSound}
+use Rattle.epoch_host.specs.declared.stay.Work.{Work}
+use Rattle.epoch_host.specs.declared.stay.Work.TheVariants as work
+use Rattle.epoch_host.specs.Staying.{IsLooking, IsSound, only_looks_for}
 use Rattle.epoch_host.specs.Answering.{SaysFor}
 use Rattle.epoch_host.specs.Working.{IsAnswer}
 use Rattle.epoch_host.proofs.Staying.{few_heard, heard_answer, heard_leaves, heard_rests, heard_says, heard_silent, heard_working, heard_works, waits_sound}
@@ -42,6 +44,40 @@ ended-requires-clause-fits c =
     subst (SaysFor c.args.self.now.over c.args.self.now.config.slots c.args.self.now.task c.args.work c.hear-2.new.self.prefix) (sym c.answer.ensures.said ∙ c.in-Some.is)
     (heard_says c.args.self.now c.args.work c.hear.new.self c.hear-2.new.self c.requires.sound c.requires.works c.hear.ensures.same (due_call c.args.self.now.core).0 (device_answer c.answer-told.result)
     c.hear-2.ensures.leads c.is_whole.ensures (sym c.idle.ensures.idle ∙ c.if-idle.true))
+
+-- A LOOK ALONE
+
+pub looked_alone-requires-clause-sound : goal.looked_alone-requires-clause-sound
+looked_alone-requires-clause-sound c =
+    heard_rests c.args.self.now c.args.work c.hear.new.self c.hear-2.new.self c.requires.sound c.requires.works c.hear.ensures.same (due_call c.args.self.now.core).0 (device_answer c.answer-told.result)
+    c.hear-2.ensures.leads c.is_whole.ensures (sym c.idle.ensures.idle ∙ c.if-idle.true)
+
+pub looked_alone-requires-clause-fits : goal.looked_alone-requires-clause-fits
+looked_alone-requires-clause-fits c =
+    let s = c.args.self.now in
+    let only : only_looks_for s.errand ≡ true = sym c.only_looks.ensures ∙ c.if-only_looks.true in
+    let alone : c.args.work ≡ work.Looks = subst IsLooking c.requires.works (c.requires.sound.looks only).1 in
+    subst (λ (w : Work). SaysFor s.over s.config.slots s.task w c.hear-2.new.self.prefix (Some c.in-Some.said)) alone
+    (subst (SaysFor s.over s.config.slots s.task c.args.work c.hear-2.new.self.prefix) (sym c.answer.ensures.said ∙ c.in-Some.is)
+    (heard_says s c.args.work c.hear.new.self c.hear-2.new.self c.requires.sound c.requires.works c.hear.ensures.same (due_call s.core).0 (device_answer c.answer-told.result)
+    c.hear-2.ensures.leads c.is_whole.ensures (sym c.idle.ensures.idle ∙ c.if-idle.true)))
+
+pub returns-in-Some-clause-sound : goal.returns-in-Some-clause-sound
+returns-in-Some-clause-sound c =
+    heard_rests c.args.self.now c.args.work c.hear.new.self c.hear-2.new.self c.requires.sound c.requires.works c.hear.ensures.same (due_call c.args.self.now.core).0 (device_answer c.answer-told.result)
+    c.hear-2.ensures.leads c.is_whole.ensures (sym c.idle.ensures.idle ∙ c.if-idle.true)
+
+pub returns-in-Some-clause-makes : goal.returns-in-Some-clause-makes
+returns-in-Some-clause-makes c k h deeds led =
+    let s = c.args.self.now in
+    let need = c.wanted.result in
+    let call = device_call_of cluster_version need.call in
+    rests_led k h deeds s led c.requires.sound c.args.work c.requires.works need.disk call c.wanted.ensures.due (device_answer c.args.heard.now)
+    c.hear.new.self c.in_ok-outcome.outcome c.hear.result c.in_ok-outcome.was c.hear.ensures.follows c.hear.ensures.answered c.hear.ensures.cause c.hear.ensures.at_once c.hear.ensures.rests
+    (may_want s.window need.disk need.call (own_here s call c.requires.sound c.wanted.ensures.own)) (c.wanted.ensures.next k h)
+    c.hear-2.new.self (leads_by s.core c.hear-2.new.self need.disk call c.wanted.ensures.due (device_answer c.answer-told.result) _ c.answer-told.ensures.device c.hear-2.ensures.leads)
+
+-- ELSE
 
 pub unreachable-requires : goal.unreachable-requires
 unreachable-requires c =
@@ -74,8 +110,8 @@ returns-in_err-outcome-clause-makes c k h deeds led =
     c.hear.new.self c.hear.ensures.follows (c.hear.ensures.last (ap (λ (o : Option Outcome). is_some o) c.in_err-outcome.was))
     (subst (λ (x : Shape). need.disk < x.disks) c.requires.sound.shape c.wanted.ensures.disk) (c.wanted.ensures.next k h)
 
-pub returns-then-idle-clause-makes : goal.returns-then-idle-clause-makes
-returns-then-idle-clause-makes c k h deeds led =
+pub returns-in-Some-2-clause-makes : goal.returns-in-Some-2-clause-makes
+returns-in-Some-2-clause-makes c k h deeds led =
     let s = c.args.self.now in
     let need = c.wanted.result in
     let answer = device_answer c.args.heard.now in

@@ -7,7 +7,7 @@ use Rattle.epoch_host.proofs.stay.Stay.submit.Goals as goal
 pub returns-clause-sound : goal.returns-clause-sound
 returns-clause-sound c =
     submit_sound c.args.self.now c.requires.sound c.requires.rests c.submit.new.self (task.Submit c.args.command c.args.self.now.tries) c.submit.ensures c.requires.spelled c.requires.room
-    c.args.slot c.args.self.now.tries c.args.command refl c.requires.next c.requires.due
+    c.requires.comes c.args.slot c.args.self.now.tries c.args.command refl c.requires.next c.requires.due
 
 pub returns-clause-leads : goal.returns-clause-leads
 returns-clause-leads c k h deeds led =

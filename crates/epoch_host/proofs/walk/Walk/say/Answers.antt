@@ -6,7 +6,7 @@ use Rattle.epoch_host.proofs.walk.Walk.say.Goals as goal
 
 pub returns-clause-sound : goal.returns-clause-sound
 returns-clause-sound c =
-    let s = c.requires.stays in rests_sound c.args.self.now _ s.0 c.requires.few (record { host = refl; config = refl }) s.1 s.2 refl s.3.2.0
+    let s = c.requires.stays in rests_sound c.args.self.now _ s.0 c.requires.few (record { host = refl; config = refl; looks = refl }) s.1 s.2 refl s.3.2.0
 
 pub returns-clause-leads : goal.returns-clause-leads
 returns-clause-leads c = same_place c.args.self.now _ refl refl refl

@@ -5,7 +5,7 @@ use Rattle.coming.specs.Finding as finding
 use Rattle.epoch_host.specs.declared.stay.Leave.{Leave}
 use Rattle.epoch_host.specs.declared.walk.Whereabouts.TheVariants.{Finds, In}
 use Rattle.epoch_host.specs.Staying as stay
-use Rattle.epoch_host.specs.Staying.{IsSoLeft}
+use Rattle.epoch_host.specs.Staying.{IsSoLeft, only_looks_for}
 use Rattle.epoch_host.specs.Walking.{IsAnswering, IsFinding, IsFresh, IsGoing, due_in}
 use Rattle.epoch_host.specs.declared.walk.Whereabouts.{Whereabouts}
 use Rattle.epoch_host.specs.Leading.{WalksBy}
@@ -32,7 +32,7 @@ take_leave-requires-clause-stays c =
     let stays = (subst (IsGoing c.args.self.now) c.in-In.is under.going).0 in (
       c.hear-in-In.new.self,
       refl,
-      record { sound = c.hear-in-In.ensures.sound; host = c.hear-in-In.ensures.same.host ∙ stays.host; config = c.hear-in-In.ensures.same.config ∙ stays.config },
+      record { sound = c.hear-in-In.ensures.sound; host = c.hear-in-In.ensures.same.host ∙ stays.host; config = c.hear-in-In.ensures.same.config ∙ stays.config; looks = ap only_looks_for c.hear-in-In.ensures.same.errand ∙ stays.looks },
       left_for c.args.self.now.task under.task c.hear-in-In.new.self.task c.in-In.stay c.hear-in-In.new.self c.in-Some-hear.leave c.hear-in-In.ensures.same under.is
           (still_for c.args.self.now under c.in-In.stay c.hear-in-In.new.self.task c.in-In.is c.hear-in-In.ensures.task) (subst (λ (o : Option Leave). IsSoLeft c.hear-in-In.new.self.task o c.hear-in-In.new.self) c.in-Some-hear.is c.hear-in-In.ensures.left),
     )
@@ -87,14 +87,20 @@ take_found-requires-clause-silent c = (is_under_way c.args.self.now c.requires.s
 pub take_leave-requires-clause-silent : goal.take_leave-requires-clause-silent
 take_leave-requires-clause-silent c = (is_under_way c.args.self.now c.requires.sound c.requires.busy).silent
 
+pub take_found-requires-clause-looks : goal.take_found-requires-clause-looks
+take_found-requires-clause-looks c = c.requires.sound.looks
+
+pub take_leave-requires-clause-looks : goal.take_leave-requires-clause-looks
+take_leave-requires-clause-looks c = c.requires.sound.looks
+
 pub returns-in-None-hear-clause-sound : goal.returns-in-None-hear-clause-sound
 returns-in-None-hear-clause-sound c =
     let old = c.args.self.now in
     let under = is_under_way old c.requires.sound c.requires.busy in
     let stays = (subst (IsGoing old) c.in-In.is under.going).0 in
     let new = c.hear-in-In.new.self in
-    goes_sound old _ new c.requires.sound.few (record { host = refl; config = refl }) refl
-    (record { sound = c.hear-in-In.ensures.sound; host = c.hear-in-In.ensures.same.host ∙ stays.host; config = c.hear-in-In.ensures.same.config ∙ stays.config }) under.task under.is under.may
+    goes_sound old _ new c.requires.sound.few (record { host = refl; config = refl; looks = refl }) refl
+    (record { sound = c.hear-in-In.ensures.sound; host = c.hear-in-In.ensures.same.host ∙ stays.host; config = c.hear-in-In.ensures.same.config ∙ stays.config; looks = ap only_looks_for c.hear-in-In.ensures.same.errand ∙ stays.looks }) under.task under.is (λ only. c.requires.sound.looks only under.task under.is) under.may
     (subst (λ (o : Option Leave). IsSoLeft new.task o new) c.in-None-hear.is c.hear-in-In.ensures.left)
     (same_epochs under.task new.task c.in-In.stay new c.hear-in-In.ensures.same (still_for old under c.in-In.stay new.task c.in-In.is c.hear-in-In.ensures.task))
     under.silent

@@ -23,6 +23,12 @@ go_on-requires-clause-stays c =
     let left : IsLeftFor c.args.self.now.task s.0 leave.Full = subst (IsLeftFor c.args.self.now.task s.0) c.in-Full.is s.3 in
     (s.0, s.1, s.2, left.2.0, left.2.1)
 
+pub go_on-requires-clause-comes : goal.go_on-requires-clause-comes
+go_on-requires-clause-comes c =
+    let s = c.requires.stays in
+    let left : IsLeftFor c.args.self.now.task s.0 leave.Full = subst (IsLeftFor c.args.self.now.task s.0) c.in-Full.is s.3 in
+    sym s.2.looks ∙ left.2.2
+
 pub go_back-requires-clause-stays : goal.go_back-requires-clause-stays
 go_back-requires-clause-stays c =
     let s = c.requires.stays in

@@ -28,8 +28,8 @@ returns-in-Booted c =
     (subst (KnowsOf n w.standpoint.epoch w.standpoint.host (past ++ made Attach (Booted c.in-Booted.boot.number) ∷ [])) here
     (c.attached-sight.ensures.knows n w.standpoint.host w.standpoint.epoch past (subst (λ (k : ℕ). KnowsOf n w.standpoint.epoch w.standpoint.host past (sight_in w.sights k)) (sym same) known))))
     (changed_others w.sights c.args.disk i s same)
-    (subst (λ (a : Answer). SeesOn Attach a (Some AsHeard) (sight_of w c.args.disk) (sight_in (changed w.sights c.args.disk i s same) c.args.disk)) (sym is)
-    (subst (SeesOn Attach (Booted c.in-Booted.boot.number) (Some AsHeard) (sight_of w c.args.disk)) here (c.attached-sight.ensures.under, λ known. c.attached-sight.ensures.known (subst (λ (k : ℕ). IsKnownUnder c.in-Booted.boot.number (sight_in w.sights k)) (sym same) known))))
+    (subst (λ (a : Answer). SeesOn w.standpoint.only_looks Attach a (Some AsHeard) (sight_of w c.args.disk) (sight_in (changed w.sights c.args.disk i s same) c.args.disk)) (sym is)
+    (subst (SeesOn w.standpoint.only_looks Attach (Booted c.in-Booted.boot.number) (Some AsHeard) (sight_of w c.args.disk)) here (c.attached-sight.ensures.under, λ known. c.attached-sight.ensures.known (subst (λ (k : ℕ). IsKnownUnder c.in-Booted.boot.number (sight_in w.sights k)) (sym same) known))))
 
 pub returns-in_default : goal.returns-in_default
 returns-in_default c = attach_fault_hears c.args.self.now c.args.disk c.args.heard.now c.requires.fits c.in_default.not-Booted

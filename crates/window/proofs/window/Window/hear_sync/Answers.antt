@@ -28,9 +28,9 @@ returns-in-Done c =
     (subst (KnowsOf n w.standpoint.epoch w.standpoint.host (past ++ made (Sync b) Done ∷ [])) here
     (c.synced-sight.ensures.knows n w.standpoint.host w.standpoint.epoch past (subst (λ (k : ℕ). KnowsOf n w.standpoint.epoch w.standpoint.host past (sight_in w.sights k)) (sym same) known))))
     (changed_others w.sights c.args.disk i s same)
-    (subst (λ (a : Answer). SeesOn (Sync b) a (Some AsHeard) (sight_of w c.args.disk) (sight_in (changed w.sights c.args.disk i s same) c.args.disk)) (sym is)
-    (subst (SeesOn (Sync b) Done (Some AsHeard) (sight_of w c.args.disk)) here
-    (subst (λ (k : ℕ). SeesOn (Sync b) Done (Some AsHeard) (sight_in w.sights k) s) same (c.synced-sight.ensures.keeps, c.synced-sight.ensures.synced))))
+    (subst (λ (a : Answer). SeesOn w.standpoint.only_looks (Sync b) a (Some AsHeard) (sight_of w c.args.disk) (sight_in (changed w.sights c.args.disk i s same) c.args.disk)) (sym is)
+    (subst (SeesOn w.standpoint.only_looks (Sync b) Done (Some AsHeard) (sight_of w c.args.disk)) here
+    (subst (λ (k : ℕ). SeesOn w.standpoint.only_looks (Sync b) Done (Some AsHeard) (sight_in w.sights k) s) same (c.synced-sight.ensures.keeps, c.synced-sight.ensures.synced))))
 
 pub returns-in_default : goal.returns-in_default
 returns-in_default c = sync_fault_hears c.args.self.now c.args.disk c.args.heard.now c.args.boot.number c.requires.fits c.in_default.not-Done
