@@ -1,13 +1,15 @@
 ghost use Rattle.std.specs.Prelude.{◌≡◌, ◌≢◌, ◌≤◌, ◌↔◌, ℕ, List, OnOk, is_ok, if◌then◌else◌};
 ghost use Rattle.std.specs.Io.KnownBytes.{Keeps};
 ghost use Rattle.dlm_words.specs.Asked.{MayBeAsked};
-ghost use Rattle.dlm_tasks.specs.Printed.{WritesRun, WritesSweep};
+ghost use Rattle.dlm_tasks.specs.AnyRun.{WritesRun};
+ghost use Rattle.dlm_tasks.specs.Printed.{WritesSweep};
 ghost use Rattle.dlm.specs.Tasks.{HasPrinted};
 
 use crate::racing;
 use crate::refusal_line::refusal_line;
-use dlm_tasks::{CommandFailure, Fault, images, made_endless, print_sweep, run_script};
+use dlm_tasks::{CommandFailure, Fault, images, made_endless, print_sweep, run_any_script};
 use dlm_words::{Subcommand, WordsFault, task_of};
+use epoch_script::read_any_script;
 use folders::TryLock;
 use simulator::read_script;
 use std::alloc::Global;
@@ -129,8 +131,8 @@ fn run_file<R: Files + Input + AllocGlobal, O: Write>(
 fn run_bytes<O: Write>(alloc: Global, bytes: &[u8], out: &mut O) -> Result<(), CommandFailure>
     ensures { OnOk result (WritesRun bytes.now (O.contents out.old) (O.contents out.new)) }
 {
-    let script = read_script(alloc, bytes).map_err(Fault::from)?;
-    let end = run_script(alloc, &script, out);
+    let script = read_any_script(alloc, bytes).map_err(Fault::from)?;
+    let end = run_any_script(alloc, &script, out);
     out.flush()?;
     end
 }

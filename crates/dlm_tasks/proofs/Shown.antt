@@ -17,6 +17,10 @@ use Rattle.lock_script.specs.declared.show.Show.{Show}
 use Rattle.simulator.specs.Events.{event_of, events_of}
 use Rattle.simulator.specs.Kept.{Kept, LeadsTo}
 use Rattle.simulator.proofs.Entries.{happen_on, answers_on}
+use Rattle.epoch_script.specs.declared.any_script.AnyScript.{AnyScript}
+use Rattle.epoch_script.specs.declared.any_script.AnyScript.TheVariants.{Ending, Endless}
+use Rattle.epoch_script.specs.Scripts.{IsAnyScript}
+use Rattle.dlm_tasks.specs.AnyRun.{HasRoom, WritesAnyScript}
 use Rattle.dlm_tasks.specs.Printed.{WritesAnswers, WritesPart, WritesScript, WritesText, IsText, IsShowOf, IsFrom, line_text, lines_text}
 
 plus_none : (n : ℕ) → n + 0 ≡ n
@@ -325,3 +329,22 @@ kept (Some xs) (Some ys) (Some zs) text written keeps = keeps ∙ written
 -- what was written stays when nothing more is
 pub flushed : (script : Script) (p q r : Option (List ℕ)) → WritesScript script p q → Keeps q r → WritesScript script p r
 flushed script p q r (text, is_text, written) keeps = (text, is_text, kept p q r text written keeps)
+
+pub flushed_any : (script : AnyScript) (p q r : Option (List ℕ)) → WritesAnyScript script p q → Keeps q r → WritesAnyScript script p r
+flushed_any (Ending script) p q r written keeps = flushed script p q r written keeps
+flushed_any (Endless script) p q r written keeps =
+    let plays = written.plays in
+    record {
+      old = written.old;
+      new = written.new;
+      shape = written.shape;
+      hosts = written.hosts;
+      leads = written.leads;
+      plays = record { text = plays.text; played = plays.played; written = kept p q r plays.text plays.written keeps };
+      one_log = written.one_log;
+    }
+
+-- a log that ends has a slot for each command that it begins with
+pub room_of : (lines : List (List ℕ)) (script : AnyScript) → IsAnyScript lines script → HasRoom script
+room_of lines (Ending script) (none, is) = is.short
+room_of lines (Endless script) is = tt

@@ -20,6 +20,8 @@ use Rattle.folder_migration.specs.declared.renew_fault.NewFault.{NewFault}
 use Rattle.folder_migration.specs.declared.renew_fault.NewFault.TheVariants as new
 use Rattle.folder_migration.specs.declared.renew_fault.RenewFault.{RenewFault}
 use Rattle.folder_migration.specs.declared.renew_fault.RenewFault.TheVariants as renew
+use Rattle.epoch_player.specs.declared.failure.PlayFailure.{PlayFailure}
+use Rattle.epoch_player.specs.declared.failure.PlayFailure.TheVariants as play
 use Rattle.dlm_tasks.specs.declared.command_failure.CommandFailure.{CommandFailure}
 use Rattle.dlm_tasks.specs.declared.command_failure.CommandFailure.TheVariants.{Output, Refused}
 use Rattle.dlm_tasks.specs.declared.fault.Fault.{Fault}
@@ -78,8 +80,6 @@ of_filling (fill.Refused refusal) = of_refusal refusal
 
 -- the new images of a renewal are not made
 abbrev pub of_new : NewFault → Fault
-of_new new.RenewedElsewhere = RenewedElsewhere
-of_new new.NotNamed = Unreadable
 of_new (new.Folder fault) = of_folder fault
 of_new (new.Lock fault) = of_lock fault
 
@@ -100,3 +100,8 @@ of_renewal renew.RenewalFailed = MigrationFailed
 abbrev pub IfRefused : CommandFailure → (Fault → Type 0) → Type 0
 IfRefused (Refused fault) P = P fault
 IfRefused (Output error) P = Unit {0}
+
+-- a script over a log without an end was not run to its end
+abbrev pub of_play : PlayFailure → CommandFailure
+of_play play.NoMemory = Refused NoMemory
+of_play (play.Output error) = Output error

@@ -1,3 +1,4 @@
+pub mod AnyRun
 pub mod Checking
 pub mod Endless
 pub mod Faults

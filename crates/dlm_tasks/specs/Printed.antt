@@ -116,12 +116,6 @@ WritesScript script before after = WritesText script.config (begun (opening_of s
 abbrev pub IsFrom : ℕ → List Show → Type 0
 IsFrom place shows = IfSome (slice_get shows 0) (λ show. place ≤ show.place)
 
--- The bytes are a script, which was run.
-pub record WritesRun (bytes : List ℕ) (before after : Option (List ℕ)) : Type 0 where
-  pub script : Script
-  pub is_script : IsScript (lines_of bytes) (content_of script)
-  pub written : WritesScript script before after
-
 -- Events happened, after so many others, and tables were shown between them, of which these are left. What is written further on makes the text of all.
 pub record WritesPart (log : List Filled) (events : List happens.Event) (first : ℕ) (shows left : List Show) (old new : Kept) (before after : Option (List ℕ)) : Type 0 where
   pub shape : new.shape ≡ old.shape

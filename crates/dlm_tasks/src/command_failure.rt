@@ -1,7 +1,9 @@
 ghost use Rattle.std.specs.Prelude.{◌≡◌};
 ghost use Rattle.dlm_tasks.specs.declared.command_failure.CommandFailure.TheVariants.{Output, Refused};
+ghost use Rattle.dlm_tasks.specs.Faults.{of_play};
 
 use crate::fault::Fault;
+use epoch_player::PlayFailure;
 use std::io;
 use thiserror::Error;
 
@@ -27,5 +29,16 @@ impl From<io::Error> for CommandFailure {
 
     fn from(error: io::Error) -> Self {
         CommandFailure::Output(error)
+    }
+}
+
+impl From<PlayFailure> for CommandFailure {
+    ghost from_gives = { λ of failure. failure ≡ of_play of };
+
+    fn from(failure: PlayFailure) -> Self {
+        match failure {
+            PlayFailure::NoMemory => CommandFailure::Refused(Fault::NoMemory),
+            PlayFailure::Output(error) => CommandFailure::Output(error),
+        }
     }
 }

@@ -34,7 +34,7 @@ pub enum Fault {
     /// The number of the script's first bad line, from 1.
     #[error("23 BadLine {0}")]
     BadLine(usize),
-    /// The script cannot be read, or the file that names a folder's successor cannot be read or written.
+    /// The script cannot be read.
     #[error("26 Unreadable")]
     Unreadable,
     #[error("27 SeatTaken")]
@@ -68,7 +68,7 @@ pub enum Fault {
     /// A log that is to be filled knows no client.
     #[error("40 NoClient")]
     NoClient,
-    /// The folder that is to be renewed names another successor, or the one that is to be made endless names any.
+    /// An earlier program renewed the folder that is to be made endless.
     #[error("41 RenewedElsewhere")]
     RenewedElsewhere,
     /// The number of a client that a renewal is to leave out, and that has a lock.
@@ -199,8 +199,6 @@ impl From<NewFault> for Fault {
 
     fn from(fault: NewFault) -> Self {
         match fault {
-            NewFault::RenewedElsewhere => Fault::RenewedElsewhere,
-            NewFault::NotNamed => Fault::Unreadable,
             NewFault::Folder(fault) => Fault::from(fault),
             NewFault::Lock(fault) => Fault::from(fault),
         }

@@ -11,7 +11,7 @@ ghost use Rattle.dlm_tasks.specs.Printed.{WritesFilling, WritesMove, WritesRenew
 use crate::command_failure::CommandFailure;
 use crate::fault::Fault;
 use crate::folder_text::{print_formatted, print_moved, print_renewed, print_sound};
-use crate::{ending, endless};
+use crate::{ending, without_end};
 use endless_image::Kind;
 use folder_migration::{migrate_folder, renew_folder};
 use folders::{
@@ -69,7 +69,7 @@ where
     let (images, _lock) = locked_log(rt, folder.as_str(), command.host)?;
     match images {
         LogFolder::Ending(images) => ending::submit(rt, folder.as_str(), images, command, out),
-        LogFolder::Endless(images) => endless::submit(rt, images, command, out),
+        LogFolder::Endless(images) => without_end::submit(rt, images, command, out),
     }
 }
 
@@ -88,7 +88,7 @@ where
     let (images, _lock) = locked_log(rt, folder.as_str(), host)?;
     match images {
         LogFolder::Ending(images) => ending::table(rt.alloc(), images, host, out),
-        LogFolder::Endless(images) => endless::table(rt.alloc(), images, host, out),
+        LogFolder::Endless(images) => without_end::table(rt.alloc(), images, host, out),
     }
 }
 
@@ -108,7 +108,7 @@ where
     let (images, _lock) = locked_log(rt, folder.as_str(), host)?;
     match images {
         LogFolder::Ending(images) => ending::mark(rt.alloc(), images, host, out),
-        LogFolder::Endless(images) => endless::mark(rt.alloc(), images, host, out),
+        LogFolder::Endless(images) => without_end::mark(rt.alloc(), images, host, out),
     }
 }
 

@@ -1,16 +1,18 @@
 //! What `dlm` does: it runs and sweeps scripts, and works over the images of a folder, and prints what that comes to. Races stand above it.
 #![tactic(auto)]
 
+mod any_run;
 mod command_failure;
 mod ending;
-mod endless;
 mod fault;
 mod folder_text;
 pub mod images;
 pub mod made_endless;
 mod run;
 mod sweeping;
+mod without_end;
 
+pub use any_run::run_any_script;
 pub use command_failure::CommandFailure;
 pub use fault::Fault;
 pub use run::run_script;

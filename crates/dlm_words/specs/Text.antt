@@ -6,7 +6,7 @@ use Rattle.lock_command.specs.declared.state.LockState.TheVariants.{Granted as H
 use Rattle.lock_command.specs.declared.reply.Answer as done
 use Rattle.lock_command.specs.declared.reply.LockValue.{LockValue}
 use Rattle.lock_command.specs.declared.reply.Reply.{Reply}
-use Rattle.lock_command.specs.declared.reply.Answer.TheVariants.{Granted, Queued, Released, Cancelled, Purged, State, Refused}
+use Rattle.lock_command.specs.declared.reply.Answer.TheVariants.{Granted, Queued, Released, Cancelled, Purged, Forgotten, State, Refused}
 use Rattle.lock_command.specs.declared.reply.Refusal as table
 use Rattle.lock_command.specs.Refusals as of_table
 use Rattle.attempt.specs.declared.refusal.Refusal as operation
@@ -52,6 +52,7 @@ done_text Queued value = codes "Queued"
 done_text Released value = codes "Released"
 done_text Cancelled value = codes "Cancelled"
 done_text (Purged count) value = codes "Purged(" ++ decimal count ++ codes ")"
+done_text Forgotten value = codes "Forgotten"
 done_text (State state) None = codes "State(" ++ modes_text state ++ codes ")"
 done_text (State state) (Some value) = codes "State(" ++ modes_text state ++ codes ", value=" ++ value_text value ++ codes ")"
 done_text (Refused refusal) value = table_refusal_text refusal

@@ -24,6 +24,7 @@ impl fmt::Display for ReplyText {
             (Answer::Released, _) => f.write_str("Released"),
             (Answer::Cancelled, _) => f.write_str("Cancelled"),
             (Answer::Purged(count), _) => write!(f, "Purged({count})"),
+            (Answer::Forgotten, _) => f.write_str("Forgotten"),
             (Answer::State(state), None) => {
                 let (held, wanted) = modes_of(state);
                 write!(f, "State(held={held}, wanted={wanted})")

@@ -1,0 +1,3 @@
+pub mod Happening
+pub mod Playing
+pub mod Text
