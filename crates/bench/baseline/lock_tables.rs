@@ -51,6 +51,7 @@ pub enum Action {
     Cancel(u16),
     Status(u16),
     Purge(u8),
+    Forget(u8),
 }
 
 #[derive(Clone, Copy)]
@@ -82,6 +83,7 @@ pub enum Reply {
     Released,
     Cancelled,
     Purged(u16),
+    Forgotten,
     State(State),
     Refused(Refusal),
 }
@@ -214,6 +216,8 @@ impl Flat {
                 }
                 Ok(Reply::Purged(count as u16))
             }
+            Action::Forget(gone) if self.records.iter().any(|record| record.client == gone) => Err(Reply::Refused(Refusal::LockInUse)),
+            Action::Forget(_) => Ok(Reply::Forgotten),
         }
     }
 }
@@ -230,6 +234,9 @@ impl Table for Flat {
         let reply = self.act(command).unwrap_or_else(|refused| refused);
         self.clients.retain(|last| last.0 != command.client);
         self.clients.push((command.client, command.request, reply));
+        if let (Action::Forget(gone), Reply::Forgotten) = (command.action, reply) {
+            self.clients.retain(|last| last.0 != gone);
+        }
         reply
     }
 }
@@ -410,6 +417,8 @@ impl Maps {
                 }
                 Ok(Reply::Purged(gone.len() as u16))
             }
+            Action::Forget(gone) if self.records.values().any(|record| record.client == gone) => Err(Reply::Refused(Refusal::LockInUse)),
+            Action::Forget(_) => Ok(Reply::Forgotten),
         }
     }
 }
@@ -424,6 +433,9 @@ impl Table for Maps {
         }
         let reply = self.act(command).unwrap_or_else(|refused| refused);
         self.clients.insert(command.client, (command.request, reply));
+        if let (Action::Forget(gone), Reply::Forgotten) = (command.action, reply) {
+            self.clients.remove(&gone);
+        }
         reply
     }
 }

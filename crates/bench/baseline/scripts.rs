@@ -371,6 +371,7 @@ impl Command {
             Action::Cancel(lock) => (4, lock),
             Action::Status(lock) => (5, lock),
             Action::Purge(_) => (6, 0),
+            Action::Forget(_) => (10, 0),
         };
         value[..3].copy_from_slice(&[kind, self.host, self.client]);
         value[6..8].copy_from_slice(&lock.to_be_bytes());
@@ -386,7 +387,7 @@ impl Command {
                 value[3] = mode as u8;
                 value[4] = u8::from(no_queue);
             }
-            Action::Purge(host) => value[16] = host,
+            Action::Purge(gone) | Action::Forget(gone) => value[16] = gone,
             _ => {}
         }
         value
@@ -403,7 +404,8 @@ impl Command {
             3 => Action::Release(lock),
             4 => Action::Cancel(lock),
             5 => Action::Status(lock),
-            _ => Action::Purge(value[16]),
+            6 => Action::Purge(value[16]),
+            _ => Action::Forget(value[16]),
         };
         Command { host: value[1], client: value[2], request: number(&value[8..]), action }
     }
@@ -417,7 +419,7 @@ impl fmt::Display for Reply {
             Reply::State(State::Waiting(wanted)) => write!(f, "State(held=-, wanted={})", text(*wanted)),
             Reply::State(State::Converting(held, wanted)) => write!(f, "State(held={}, wanted={})", text(*held), text(*wanted)),
             Reply::Refused(refusal) => write!(f, "{} {refusal:?}", 11 + *refusal as u8),
-            Reply::Granted | Reply::Queued | Reply::Released | Reply::Cancelled => write!(f, "{self:?}"),
+            Reply::Granted | Reply::Queued | Reply::Released | Reply::Cancelled | Reply::Forgotten => write!(f, "{self:?}"),
         }
     }
 }
@@ -586,6 +588,7 @@ fn command_in(host: usize, words: &[&str]) -> Option<Command> {
         ("cancel", [l]) => Action::Cancel(lock(l)?),
         ("status", [l]) => Action::Status(lock(l)?),
         ("purge", [h]) => Action::Purge(host_in(h)? as u8),
+        ("forget", [gone]) => Action::Forget(number_in(gone, 0, 255)? as u8),
         _ => return None,
     };
     Some(Command { host: host as u8, client: number_in(client, 0, 255)? as u8, request: number_in(request, 1, LAST)?, action })

@@ -46,25 +46,24 @@ MayTake numbers name mode wanted = MayAsk numbers × IsName name × (mode_number
 abbrev pub IsNewOf : AskerNumbers → List ℕ → ℕ → Bool → Claim → Type 0
 IsNewOf numbers name mode waits c = (wanted : Mode) × MayTake numbers name mode wanted × IsNewClaim (asker_of numbers) name wanted waits c
 
--- The claim is to this lock, which a former run left in these images. No operation on it is under way.
-pub record IsLeftClaim (asking number : ℕ) (bytes : List ℕ) (wanted : Mode) (images : ℕ) (c : Claim) : Type 0 where
+-- The claim is to this lock, which a former run left. No operation on it is under way.
+pub record IsLeftClaim (asking number : ℕ) (bytes : List ℕ) (wanted : Mode) (c : Claim) : Type 0 where
   pub host : c.host ≡ asking
   pub shares : c.shares ≡ false
   pub lock : c.lock ≡ number
   pub name : c.name ≡ bytes
   pub mode : c.mode ≡ wanted
-  pub set : c.set ≡ images
   pub standing : c.standing ≡ Left
   pub unknown : (c.asked ≡ None) × (c.slot ≡ None) × (c.release ≡ None)
   pub idle : c.step ≡ step.Ended (Failed Waits)
-  pub nothing : (c.value ≡ None) × (c.over ≡ None) × (c.since ≡ 0) × (c.newest ≡ 0) × (c.request ≡ 0)
+  pub nothing : (c.value ≡ None) × (c.over ≡ None) × (c.since ≡ 0) × (c.request ≡ 0)
 
 -- there are such an asker, such a lock and such a name, and this is the mode of that number
 abbrev pub MayBeLeft : AskerNumbers → ℕ → List ℕ → ℕ → Mode → Type 0
 MayBeLeft numbers lock name mode wanted = IsLock lock × MayTake numbers name mode wanted
 
-abbrev pub IsLeftOf : AskerNumbers → ℕ → List ℕ → ℕ → ℕ → Claim → Type 0
-IsLeftOf numbers lock name mode set c = (wanted : Mode) × MayBeLeft numbers lock name mode wanted × IsLeftClaim numbers.host lock name wanted set c
+abbrev pub IsLeftOf : AskerNumbers → ℕ → List ℕ → ℕ → Claim → Type 0
+IsLeftOf numbers lock name mode c = (wanted : Mode) × MayBeLeft numbers lock name mode wanted × IsLeftClaim numbers.host lock name wanted c
 
 -- AN OPERATION ON IT BEGINS
 

@@ -60,7 +60,6 @@ standing_number standing.Leaving = 5
 
 -- The view shows this claim.
 pub record ShowsClaim (view : ClaimView) (c : Claim) : Type 0 where
-  pub set : view.set ≡ c.set
   pub request : view.request ≡ c.request
   pub lock : view.lock ≡ c.lock
   pub slot : view.slot ≡ slot_number c.slot

@@ -35,9 +35,8 @@ IsTableOf host table = IsPictureOf table (table_after host.core.prefix)
 abbrev pub LacksTable : ℤ → Type 0
 LacksTable status = status ≡ no_memory
 
--- The host has learned this, from its images.
+-- The host has learned this.
 pub record IsLearnedBy (host : OpenHost) (l : Learned) : Type 0 where
-  pub set : l.set ≡ host.cluster
   pub first : l.first ≡ 0
   pub before : l.before.now ≡ []
   pub log : l.log.now ≡ host.core.prefix
@@ -56,7 +55,7 @@ IsSaid other said = said ≡ Err Broken
 abbrev pub MovesOver : OpenHost → Bool → Event → Claim → Claim → Type 0
 MovesOver host told event old new =
     ((l : Learned) × IsLearnedBy host l × (l.left_over ≡ told) × MovesBy event l old new)
-    ⊎ MovesUnread event host.cluster NoMemory old new
+    ⊎ MovesUnread event NoMemory old new
 
 -- The claim hears what C says by this number and status.
 pub record Hears (number : ℕ) (status : ℤ) (told : Bool) (host : OpenHost) (old new : Claim) : Type 0 where

@@ -57,9 +57,8 @@ LacksTable host status = (fault : ShowFault) × (status ≡ show_number fault) �
 abbrev pub first_known : Walk → ℕ
 first_known w = (length_of w - length (prefix_of w)) - length (before_of w)
 
--- The host has learned this, from its images, and the table is there.
+-- The host has learned this, and the table is there.
 pub record IsLearnedBy (host : OpenEpochs) (l : Learned) : Type 0 where
-  pub set : l.set ≡ host.cluster
   pub first : l.first ≡ first_known host.host
   pub before : l.before.now ≡ before_of host.host
   pub log : l.log.now ≡ prefix_of host.host
@@ -78,7 +77,7 @@ IsSaid other said = said ≡ Err Broken
 abbrev pub MovesOver : OpenEpochs → Bool → Event → Claim → Claim → Type 0
 MovesOver host told event old new =
     ((l : Learned) × IsLearnedBy host l × (l.left_over ≡ told) × MovesBy event l old new)
-    ⊎ ((fault : ShowFault) × MayLack host fault × MovesUnread event host.cluster (unread_as fault) old new)
+    ⊎ ((fault : ShowFault) × MayLack host fault × MovesUnread event (unread_as fault) old new)
 
 -- The claim hears what C says by this number and status.
 pub record Hears (number : ℕ) (status : ℤ) (told : Bool) (host : OpenEpochs) (old new : Claim) : Type 0 where

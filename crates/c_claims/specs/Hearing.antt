@@ -25,20 +25,19 @@ use Rattle.c_claims.specs.Failures.{IsFailureOf}
 
 -- BY WHAT A HOST HAS LEARNED
 
--- The folder is open. Its images are those that were opened last.
+-- The folder is open.
 pub record Opens (l : Learned) (old new : Claim) : Type 0 where
   pub borne_out : IsBorneOut l new
   pub nearer : ComesNearer old new
-  pub moves : MovesOn l (record old { newest = l.set }) new
+  pub moves : MovesOn l old new
   pub goal : KeepsGoal old new
   pub value : KeepsValue old new
-  pub keeps : Keeps (record old { newest = l.set }) new
+  pub keeps : Keeps old new
   pub release : KeepsReleaseUntilOut l old new
 
--- So much is learned. A number may be chosen to ask by. It pauses only where no process that is gone holds the name, or where the log is full.
+-- So much is learned. A number may be chosen to ask by. It pauses only where no process that is gone holds the name, and the log is not full.
 pub record Learns (l : Learned) (old new : Claim) : Type 0 where
   pub borne_out : IsBorneOut l new
-  pub follows : l.set ≢ old.newest → IsUnheard new
   pub nearer : ComesNearer old new
   pub pauses : IsPause new.step → MayPause l
   pub moves : MovesOn l old new ⊎ Chooses l old new
@@ -50,7 +49,6 @@ pub record Learns (l : Learned) (old new : Claim) : Type 0 where
 -- The command was carried out, with this reply. It may be told at which place the command stands that asked for the lock. It pauses only as above.
 pub record IsReplied (reply : Reply) (l : Learned) (old new : Claim) : Type 0 where
   pub borne_out : IsBorneOut l new
-  pub follows : l.set ≢ old.newest → IsUnheard new
   pub nearer : ComesNearer old new
   pub slot : (new.slot ≡ old.slot) ⊎ IfSome new.slot (IsSlotOf l old)
   pub pauses : IsPause new.step → MayPause l
@@ -84,15 +82,14 @@ pub record Signs (l : Learned) (old new : Claim) : Type 0 where
   pub out_of_turn : ((choice : Choice) → old.step ≡ Signing choice → ⊥) → BreaksOff old new
   pub same : IsOnSame old new
 
--- The sign of life is somebody else's. The lock is asked for by another number; or, where the folder was being opened, it is gone.
+-- The sign of life is somebody else's. The lock is asked for by another number.
 pub record MeetsSign (l : Learned) (old new : Claim) : Type 0 where
+  pub unheard : IsUnheard new
   pub nearer : ComesNearer old new
   pub again : (choice : Choice) → old.step ≡ Signing choice → AsksOn l (record old { standing = Unasked }) new
-  pub gone : IsOpening old.step → new ≡ record old { step = Ended (NotHeld why.Gone) }
-  pub out_of_turn : ((choice : Choice) → old.step ≡ Signing choice → ⊥) → (IsOpening old.step → ⊥) → BreaksOff old new
+  pub out_of_turn : ((choice : Choice) → old.step ≡ Signing choice → ⊥) → BreaksOff old new
   pub goal : KeepsGoal old new
   pub value : KeepsValue old new
-  pub other : (IsOpening old.step → ⊥) → IsUnheard new
   pub same : IsOnSame old new
 
 -- The sign of life is given up. The operation ends as was borne out when that was ordered, or the lock is asked for by another number.
@@ -120,19 +117,19 @@ pub record Closes (failed : Failure) (old new : Claim) : Type 0 where
   pub release : KeepsRelease old new
   pub told : IsOpening old.step → old.over ≡ None → TellsWhy new (why.Failed failed)
 
--- The folder of these images is open, and its host does not know the table yet. So the log is read next, unless the operation is to end soon. A lock that is to
+-- The folder is open, and its host does not know the table yet. So the log is read next, unless the operation is to end soon. A lock that is to
 -- be released is looked for all the same.
-pub record OpensUnread (set : ℕ) (old new : Claim) : Type 0 where
+pub record OpensUnread (old new : Claim) : Type 0 where
   pub unheard : IsUnheard new
   pub reads : IsOpening old.step → old.over ≡ None → IsReading new.step
   pub leaves : old.step ≡ Opening → old.standing ≡ Leaving → new.step ≡ Looking
   pub told : (reason : Why) → IsOpening old.step → old.over ≡ Some reason → old.standing ≢ Leaving → TellsWhy new reason
   pub out_of_turn : (IsOpening old.step → ⊥) → EndsIn new (InDoubt (why.Failed Broken))
   pub nearer : ComesNearer old new
-  pub moves : GoesOn (record old { newest = set }) new
+  pub moves : GoesOn old new
   pub goal : KeepsGoal old new
   pub value : KeepsValue old new
-  pub keeps : Keeps (record old { newest = set }) new
+  pub keeps : Keeps old new
   pub release : KeepsRelease old new
 
 -- What was ordered could not be done, for this reason. A command that was outrun is put into the log once more, after a pause.
@@ -147,11 +144,6 @@ pub record IsRefusedUnread (failed : Failure) (old new : Claim) : Type 0 where
   pub told : IsReading old.step → old.over ≡ None → TellsWhy new (why.Failed failed)
   pub yields : IsSubmitting old.step → old.over ≡ None → failed ≡ Outrun → new.step ≡ Yielding
   pub out_of_turn : (IsSubmitting old.step → ⊥) → (IsReading old.step → ⊥) → BreaksOff old new
-
--- The sign of life is somebody else's. Where the folder was being opened, the lock is gone. Else no other number is chosen.
-pub record MeetsSignUnread (failed : Failure) (old new : Claim) : Type 0 where
-  pub gone : IsOpening old.step → new ≡ record old { step = Ended (NotHeld why.Gone) }
-  pub other : (IsOpening old.step → ⊥) → Closes failed old new
 
 -- The sign of life is given up. The operation ends as was borne out when that was ordered, or tells this failure, since the lock is asked for by no other number.
 pub record DropsUnread (failed : Failure) (old new : Claim) : Type 0 where
@@ -178,16 +170,16 @@ MovesBy event.SignHeld l old new = MeetsSign l old new
 MovesBy event.SignDropped l old new = DropsSign l old new
 MovesBy event.Unknown l old new = Closes Broken old new
 
--- The same of a host over these images whose lock table cannot be read, for this reason.
-abbrev pub MovesUnread : Event → (set : ℕ) → (unread : Failure) → Claim → Claim → Type 0
-MovesUnread event.Opened set unread old new = OpensUnread set old new
-MovesUnread event.Learned set unread old new = IsRefusedUnread unread old new
-MovesUnread (event.Replied reply) set unread old new = IsRefusedUnread unread old new
-MovesUnread (event.Refused failed) set unread old new = IsRefusedUnread failed old new
-MovesUnread event.Signed set unread old new = Closes unread old new
-MovesUnread event.SignHeld set unread old new = MeetsSignUnread unread old new
-MovesUnread event.SignDropped set unread old new = DropsUnread unread old new
-MovesUnread event.Unknown set unread old new = Closes Broken old new
+-- The same of a host whose lock table cannot be read, for this reason.
+abbrev pub MovesUnread : Event → (unread : Failure) → Claim → Claim → Type 0
+MovesUnread event.Opened unread old new = OpensUnread old new
+MovesUnread event.Learned unread old new = IsRefusedUnread unread old new
+MovesUnread (event.Replied reply) unread old new = IsRefusedUnread unread old new
+MovesUnread (event.Refused failed) unread old new = IsRefusedUnread failed old new
+MovesUnread event.Signed unread old new = Closes unread old new
+MovesUnread event.SignHeld unread old new = Closes unread old new
+MovesUnread event.SignDropped unread old new = DropsUnread unread old new
+MovesUnread event.Unknown unread old new = Closes Broken old new
 
 -- WHERE NO HOST IS OPEN
 

@@ -24,9 +24,9 @@ pub fn take(asker: &AskerNumbers, name: &[u8], mode: u32, waits: bool) -> Option
     Some(Claim::take(&asker, LockName::new(name)?, mode_of(mode)?, waits))
 }
 
-/// A claim to a lock that a former run left in these images. None if there is no such asker, lock, name or mode.
-pub fn left(asker: &AskerNumbers, lock: u32, name: &[u8], mode: u32, set: u64) -> Option<Claim>
-    ensures some { IfSome result (IsLeftOf asker.now lock name.now mode set) }
+/// A claim to a lock that a former run left. None if there is no such asker, lock, name or mode.
+pub fn left(asker: &AskerNumbers, lock: u32, name: &[u8], mode: u32) -> Option<Claim>
+    ensures some { IfSome result (IsLeftOf asker.now lock name.now mode) }
     ensures none { result ≡ None → (wanted : Mode) → MayBeLeft asker.now lock name.now mode wanted → ⊥ }
 {
     let asker = asker.asker()?;
@@ -35,7 +35,6 @@ pub fn left(asker: &AskerNumbers, lock: u32, name: &[u8], mode: u32, set: u64) -
         lock_of(lock)?,
         LockName::new(name)?,
         mode_of(mode)?,
-        set,
     ))
 }
 

@@ -42,7 +42,7 @@ pub fn hear(
     let event = Event::of(event, status, said(host.core.answer()));
     match host.core.table().picture(alloc) {
         Ok(table) => hear_by(claim, event, &learned_of(host, &table, left_over)),
-        Err(_) => hear_unread(claim, event, host.cluster, Failure::NoMemory),
+        Err(_) => hear_unread(claim, event, Failure::NoMemory),
     }
 }
 
@@ -64,7 +64,6 @@ fn learned_of<'a>(host: &'a OpenHost, table: &'a Picture, left_over: bool) -> Le
     ensures told { result.left_over ≡ left_over }
 {
     Learned {
-        set: host.cluster,
         first: 0,
         before: &[],
         log: host.core.prefix(),

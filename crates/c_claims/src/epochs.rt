@@ -64,7 +64,7 @@ pub fn hear(
     let event = Event::of(event, status, said(host.host.answer()));
     match picture(alloc, host) {
         Ok(table) => hear_by(claim, event, &learned_of(host, &table, left_over)),
-        Err(fault) => hear_unread(claim, event, host.cluster, unread(fault)),
+        Err(fault) => hear_unread(claim, event, unread(fault)),
     }
 }
 
@@ -109,7 +109,6 @@ fn learned_of<'a>(host: &'a OpenEpochs, table: &'a Picture, left_over: bool) -> 
     let log = host.host.prefix();
     let upto = host.host.length().unwrap_or(0);
     Learned {
-        set: host.cluster,
         first: upto
             .saturating_sub(log.len() as u64)
             .saturating_sub(before.len() as u64),

@@ -1,9 +1,9 @@
 //! What a claim hears.
-ghost use Rattle.c_claims.specs.Hearing.{HearsAlone, MeetsSignUnread, MovesBy, MovesUnread};
+ghost use Rattle.c_claims.specs.Hearing.{HearsAlone, MovesBy, MovesUnread};
 
 use crate::event::Event;
 use crate::failures::failure_of;
-use session::{Claim, Failure, Learned, Outcome, Step, Why};
+use session::{Claim, Failure, Learned};
 
 /// Hears what came of the order, by what a host has learned.
 pub fn hear_by(claim: &mut Claim, event: Event, learned: &Learned<'_>)
@@ -21,30 +21,17 @@ pub fn hear_by(claim: &mut Claim, event: Event, learned: &Learned<'_>)
     }
 }
 
-/// Hears what came of the order, of a host over these images whose lock table cannot be read, for this reason.
-pub fn hear_unread(claim: &mut Claim, event: Event, set: u64, unread: Failure)
-    ensures { MovesUnread event set unread claim.old claim.new }
+/// Hears what came of the order, of a host whose lock table cannot be read, for this reason.
+pub fn hear_unread(claim: &mut Claim, event: Event, unread: Failure)
+    ensures { MovesUnread event unread claim.old claim.new }
 {
     match event {
-        Event::Opened => claim.opened_unread(set),
+        Event::Opened => claim.opened_unread(),
         Event::Learned | Event::Replied(_) => claim.refused_unread(unread),
         Event::Refused(failure) => claim.refused_unread(failure),
-        Event::Signed => claim.closed(unread),
-        Event::SignHeld => meet_sign_unread(claim, unread),
+        Event::Signed | Event::SignHeld => claim.closed(unread),
         Event::SignDropped => claim.dropped_unread(unread),
         Event::Unknown => claim.closed(Failure::Broken),
-    }
-}
-
-/// The sign of life is somebody else's. Where the folder was being opened, the lock is gone, whatever the table shows. Else another number would be chosen.
-fn meet_sign_unread(claim: &mut Claim, unread: Failure)
-    ensures { MeetsSignUnread unread claim.old claim.new }
-{
-    match claim.step {
-        Step::Opening | Step::OpeningToLook => {
-            claim.step = Step::Ended(Outcome::NotHeld(Why::Gone));
-        }
-        _ => claim.closed(unread),
     }
 }
 

@@ -7,8 +7,6 @@ use session::{Claim, Standing};
 #[repr(C)]
 #[derive(Clone, Copy, Drop)]
 pub struct ClaimView {
-    /// The images in whose log the place is.
-    pub set: u64,
     /// The last request of the session.
     pub request: u64,
     pub lock: u32,
@@ -24,7 +22,6 @@ impl ClaimView {
         ensures { ShowsClaim result claim.now }
     {
         ClaimView {
-            set: claim.set,
             request: claim.request,
             lock: u32::from(claim.lock.get()),
             standing: match claim.standing {

@@ -2,7 +2,7 @@
 use Rattle.std.proofs.Common.{◌≡◌, ℕ, true, List, Option, Some, None, refl}
 use Rattle.lock_command.specs.declared.command.Command.{Command}
 use Rattle.lock_command.specs.declared.command.Action.{Action}
-use Rattle.lock_command.specs.declared.command.Action.TheVariants.{Enqueue, Convert, Release, Cancel, Status, Purge, QuietPurge, CarryLock, CarryClient}
+use Rattle.lock_command.specs.declared.command.Action.TheVariants.{Enqueue, Convert, Release, Cancel, Status, Purge, QuietPurge, Forget, CarryLock, CarryClient}
 use Rattle.lock_command.specs.Command.{Fits, is_submittable}
 use Rattle.epoch_host.specs.declared.task.EpochTask.{EpochTask}
 use Rattle.epoch_host.specs.declared.task.EpochTask.TheVariants.{Submit}
@@ -18,6 +18,7 @@ asked_action r name command (Cancel lock) asks = refl
 asked_action r name command (Status lock) asks = refl
 asked_action r name command (Purge host) asks = refl
 asked_action r name command (QuietPurge host) asks = absurd asks
+asked_action r name command (Forget client) asks = refl
 asked_action r name command (CarryLock lock on state value) asks = absurd asks
 asked_action r name command (CarryClient reply) asks = absurd asks
 

@@ -10,11 +10,11 @@ use Rattle.epoch_deeds.proofs.Lists.{does_both}
 use Rattle.epoch_host.specs.declared.answer.EpochAnswer.{EpochAnswer}
 use Rattle.epoch_host.specs.declared.task.EpochTask.{EpochTask}
 use Rattle.epoch_host.specs.declared.walk.Walk.{Walk}
-use Rattle.epoch_host.specs.Ending.{AreSilent, Ends, EndsSo}
+use Rattle.epoch_host.specs.Ending.{AreSilent, AreSilentBy, Ends, EndsSo, IsDone}
 use Rattle.epoch_host.specs.Leading.{GoesOn, LeadsTo, MakesAndGoesOn, MakesCall, MakeNone}
 use Rattle.epoch_host.specs.Walking.{call_due}
 use Rattle.dlm_images.specs.Operations.{Made}
-use Rattle.epoch_images.specs.Working.{DidMore, calls_of, made_on}
+use Rattle.epoch_images.specs.Working.{DidMore, WasSilent, calls_of, made_on}
 use Rattle.c_epochs.specs.Steps.{AreHeard, CallsWork, Stands}
 
 -- THE CALLS AMONG DEEDS
@@ -47,9 +47,9 @@ call_by d now (Stops e) makes = absurd makes
 
 module _ (c : Shape) (h : ℕ) (deeds : Deeds) (IsSo IsThen : Deeds → Type 0) (made now : List Made) where
   -- some, and then more
-  did_then : DidMore c h deeds made IsSo → ((after : Deeds) → IsSo after → DidMore c h after now IsThen) → DidMore c h deeds (made ++ now) IsThen
+  did_then : DidMore c h deeds made IsSo → ((more : Deeds) → IsSo (deeds ++ more) → DidMore c h (deeds ++ more) now IsThen) → DidMore c h deeds (made ++ now) IsThen
   did_then first then =
-      let next : DidMore c h (deeds ++ first.more) now IsThen = then (deeds ++ first.more) first.so in
+      let next : DidMore c h (deeds ++ first.more) now IsThen = then first.more first.so in
       record {
         more = first.more ++ next.more;
         may = does_both c h deeds first.more next.more first.may next.may;
@@ -86,14 +86,47 @@ x_is : (w : Walk) (x : Made) → (x.disk ≡ (call_due w).0) × (x.call ≡ (cal
 unfolding made_by
 x_is w x due = sym (ap (λ (d : ℕ). made_by d x.call x.answer) due.0 ∙ ap (λ (c : Call). made_by (call_due w).0 c x.answer) due.1)
 
--- what led to the old host leads on, with these calls, to the new one
-all_lead : (old new : Walk) (made : List Made) → AreHeard old made new → (c : Shape) (h : ℕ) (deeds : Deeds) → LeadsTo c h deeds old → DidMore c h deeds made (λ after. LeadsTo c h after new)
-all_lead old new [] heard c h deeds leads = did_nothing c h deeds (λ after. LeadsTo c h after new) (subst (λ (w : Walk). LeadsTo c h deeds w) (sym heard) leads)
-all_lead old new (x ∷ xs) heard c h deeds leads =
-    did_then c h deeds (λ after. LeadsTo c h after heard.0) (λ after. LeadsTo c h after new) (x ∷ []) xs
-    (subst (λ (y : Made). DidMore c h deeds (y ∷ []) (λ after. LeadsTo c h after heard.0)) (x_is old x heard.1.due)
-    (did_makes c h deeds (λ after. LeadsTo c h after heard.0) (call_due old).0 (past.made (call_due old).1 x.answer) (heard.1.leads c h deeds leads)))
-    (λ after is. all_lead heard.0 new xs heard.2 c h after is)
+-- where a task stands as done, so it was
+done_where : (WhereDone : Type 0) (task : Option EpochTask) (w : Walk) → Stands WhereDone task w → IsDone w.said → WhereDone
+done_where WhereDone task w stands done = elim stands [ inl goes ↦ goes.done done | inr given_up ↦ absurd (subst IsDone given_up.1 done) ]
+
+-- These deeds lead to the host; and where a task was done, a core said so since.
+abbrev IsOnWay : Shape → (h : ℕ) → Deeds → Walk → Deeds → Type 0
+IsOnWay c h before w all = LeadsTo c h all w × (IsDone w.said → WasSilent c h before all)
+
+-- one call more
+heard_way : (c : Shape) (h : ℕ) (before early : Deeds) (d : ℕ) (now : past.Made) (w : Walk) → (IsDone w.said → AreSilentBy c h (before ++ early)) → MakesAndGoesOn c h (before ++ early) d now (λ all. LeadsTo c h all w)
+    → MakesAndGoesOn c h (before ++ early) d now (IsOnWay c h before w)
+heard_way c h before early d now w silent by =
+    record {
+      deed = by.deed;
+      makes = by.makes;
+      may = by.may;
+      on = record {
+        more = by.on.more;
+        none = by.on.none;
+        may = by.on.may;
+        so = (
+          by.on.so,
+          λ done. record { early = early; later = by.deed ∷ by.on.more; is = append_assoc (before ++ early) (by.deed ∷ []) by.on.more; silent = silent done },
+        );
+      };
+    }
+
+module _ (c : Shape) (h : ℕ) (before : Deeds) where
+  -- what led to the old host leads on, with these calls, to the new one
+  all_lead : (old new : Walk) (made : List Made) (early : Deeds) → AreHeard old made new → IsOnWay c h before old (before ++ early) → DidMore c h (before ++ early) made (IsOnWay c h before new)
+  all_lead old new [] early heard way = did_nothing c h (before ++ early) (IsOnWay c h before new) (subst (λ (w : Walk). IsOnWay c h before w (before ++ early)) (sym heard) way)
+  all_lead old new (x ∷ xs) early heard way =
+      let first = heard.1.leads c h (before ++ early) way.0 in
+      let silent : IsDone heard.0.said → AreSilentBy c h (before ++ early) = (λ done. done_where (AreSilent old) old.task heard.0 heard.1.stands done c h (before ++ early) way.0) in
+      did_then c h (before ++ early) (IsOnWay c h before heard.0) (IsOnWay c h before new) (x ∷ []) xs
+      (subst (λ (y : Made). DidMore c h (before ++ early) (y ∷ []) (IsOnWay c h before heard.0)) (x_is old x heard.1.due)
+      (did_makes c h (before ++ early) (IsOnWay c h before heard.0) (call_due old).0 (past.made (call_due old).1 x.answer)
+      (heard_way c h before early (call_due old).0 (past.made (call_due old).1 x.answer) heard.0 silent first)))
+      (λ more is.
+      subst (λ (l : Deeds). DidMore c h l xs (IsOnWay c h before new)) (sym (append_assoc before early more))
+      (all_lead heard.0 new xs (early ++ more) heard.2 (subst (IsOnWay c h before heard.0) (append_assoc before early more) is)))
 
 -- HOW THE TASK ENDED
 
@@ -129,16 +162,20 @@ calls_work gives task old begun new made disks left begins heard gave ended = re
   made = made;
   gave = gave;
   leads = λ c h deeds leads.
-      let did : DidMore c h deeds made (λ after. LeadsTo c h after new) =
-      did_then c h deeds (λ after. LeadsTo c h after begun) (λ after. LeadsTo c h after new) [] made
-      (did_goes c h deeds (λ after. LeadsTo c h after begun) (begins.leads c h deeds leads)) (λ after is. all_lead begun new made heard c h after is) in
+      let on : GoesOn c h deeds (λ after. LeadsTo c h after begun) = begins.leads c h deeds leads in
+      let way : GoesOn c h deeds (IsOnWay c h deeds begun) =
+      record { more = on.more; none = on.none; may = on.may; so = (on.so, λ done. absurd (done_where ⊥ (Some task) begun begins.stands done)) } in
+      let did : DidMore c h deeds made (IsOnWay c h deeds new) =
+      did_then c h deeds (IsOnWay c h deeds begun) (IsOnWay c h deeds new) [] made (did_goes c h deeds (IsOnWay c h deeds begun) way) (λ more is. all_lead c h deeds begun new made more heard is) in
       record {
         more = did.more;
         may = did.may;
         calls = did.calls;
         so = record {
-          leads = did.so;
-          ended = all_end task begun new made (keeps_so ⊥ (Some task) begun begins.stands) (ends_stand ⊥ (Some task) begun begins.stands) heard c h (deeds ++ did.more) did.so;
+          leads = did.so.0;
+          ended = all_end task begun new made (keeps_so ⊥ (Some task) begun begins.stands) (ends_stand ⊥ (Some task) begun begins.stands) heard c h (deeds ++ did.more) did.so.0;
+          idle = begins.rests c h deeds leads;
+          silent = did.so.1;
         };
       };
 }

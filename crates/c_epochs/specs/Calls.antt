@@ -25,3 +25,7 @@ TellsCallDue due call before after status =
 pub record LiesWithin (c : Shape) (call : DueCall) : Type 0 where
   pub disk : call.disk < c.disks
   pub range : call.at + call.length ≤ room_of c
+
+-- It is an attach or a read.
+abbrev pub ReadsOnly : DueCall → Type 0
+ReadsOnly call = (call.kind ≡ 1) ⊎ (call.kind ≡ 3)

@@ -1,5 +1,5 @@
 -- A folder of images of a log without an end as C found it, and the host that is opened over it.
-use Rattle.std.specs.Prelude.{◌≡◌, ◌≢◌, ◌==◌, ◌<◌, ℕ, List, [], min, slice_get, slice_index, Some, None, Result, Ok, Err, if◌then◌else◌}
+use Rattle.std.specs.Prelude.{◌≡◌, ◌≢◌, ◌==◌, ◌<◌, ℕ, Bool, List, [], min, slice_get, slice_index, Some, None, Result, Ok, Err, if◌then◌else◌}
 use Rattle.disk.specs.declared.fault.ImageFault.{ImageFault}
 use Rattle.disk.specs.declared.fault.ImageFault.TheVariants.{Unreadable}
 use Rattle.paxos_block.specs.Headers.{short_at}
@@ -81,13 +81,14 @@ pub record TellsImages (found : AnyFound) (config : Shape) (told : Opened) : Typ
 
 -- WHAT IS OPENED
 
--- The host has this number, did nothing yet, and has no task. The folder has the numbers of the set that was found; C is told of its images.
-pub record IsOpened (images : Images) (number : ℕ) (host : OpenEpochs) (told : Opened) : Type 0 where
+-- The host has this number, did nothing yet, has no task, and only looks if it is opened for that. The folder has the numbers of the set that was found; C is told of its images.
+pub record IsOpened (images : Images) (number : ℕ) (only_looks : Bool) (host : OpenEpochs) (told : Opened) : Type 0 where
   pub found : AnyFound
   pub set : AreSet images found Endless host.config host.cluster
   pub tells : TellsImages found host.config told
   pub fresh : LeadsTo host.config number [] host.host
   pub idle : host.host.task ≡ None
+  pub looks : host.host.only_looks ≡ only_looks
 
 -- The images are a set of a log that ends.
 pub record IsOfEndingLog (images : Images) : Type 0 where

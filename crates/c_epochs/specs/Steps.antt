@@ -20,11 +20,12 @@ use Rattle.c_host.specs.Steps.{AreTries, TellsNoCall}
 use Rattle.c_epochs.specs.Calls.{TellsCallDue}
 use Rattle.c_epochs.specs.declared.open_epochs.OpenEpochs.{OpenEpochs}
 
--- the folder is the same, and the host
+-- the folder is the same, and the host, and whether it only looks
 pub record IsSameFolder (old new : OpenEpochs) : Type 0 where
   pub config : new.config ≡ old.config
   pub cluster : new.cluster ≡ old.cluster
   pub host : IsSame old.host new.host
+  pub looks : new.host.only_looks ≡ old.host.only_looks
 
 -- HOW A TASK STANDS
 

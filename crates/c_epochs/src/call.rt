@@ -3,9 +3,10 @@ ghost use Rattle.disk.specs.Disk.{Write};
 ghost use Rattle.torn_block.specs.Layout.{cluster_version};
 ghost use Rattle.torn_block.specs.declared.layout.TheConstants.{BLOCK_LENGTH};
 ghost use Rattle.attempt.specs.DeviceCalls.{IsWithin, call_of_need};
+ghost use Rattle.attempt.specs.Looking.{OnlyReads};
 ghost use Rattle.c_host.specs.Calls.{TellsDue, plain_call};
 ghost use Rattle.c_host.specs.Numbers.{done};
-ghost use Rattle.c_epochs.specs.Calls.{IsTooLong, TellsCallDue};
+ghost use Rattle.c_epochs.specs.Calls.{IsTooLong, ReadsOnly, TellsCallDue};
 
 use attempt::{DeviceCall, Need};
 use c_host::{DueCall, NO_ROOM};
@@ -24,6 +25,7 @@ pub fn tell(need: &Need<'_>, call: &mut DueCall, written: &mut WrittenBlock) -> 
     ensures told { TellsCallDue (call_of_need cluster_version need.now) call.new written.old.bytes written.new.bytes result }
     ensures disk { result ≡ done → call.new.disk ≡ need.now.disk }
     ensures within { result ≡ done → (n : ℕ) → IsWithin cluster_version n need.now.call → call.new.at + call.new.length ≤ n }
+    ensures reads { OnlyReads (call_of_need cluster_version need.now).1 → result ≡ done → ReadsOnly call.new }
 {
     match due_of(need, written) {
         Some(due) => {

@@ -1,10 +1,10 @@
-ghost use Rattle.std.specs.Prelude.{◌≡◌, ◌≤◌, ◌<◌, ◌^◌, ◌↔◌, None, IfOk, IfErr, IfSome, IsSome, IsTrue, OnOk};
+ghost use Rattle.std.specs.Prelude.{◌≡◌, ◌≤◌, ◌<◌, ◌^◌, ◌↔◌, None, IfOk, IfErr, IfSome, IsSome, IsTrue, OnOk, true};
 ghost use Rattle.std.specs.Option.{SomeIff};
 ghost use Rattle.disk.specs.Disk.{Attach};
 ghost use Rattle.lock_command.specs.declared.number.TheConstants.{HOSTS};
 ghost use Rattle.epoch_host.specs.Walking.{MayBegin, call_due};
 ghost use Rattle.c_host.specs.Numbers.{done, no_memory};
-ghost use Rattle.c_epochs.specs.Calls.{LiesWithin};
+ghost use Rattle.c_epochs.specs.Calls.{LiesWithin, ReadsOnly};
 ghost use Rattle.c_epochs.specs.Images.{IsOfEndingLog, IsOpened, MayRefuse};
 ghost use Rattle.c_epochs.specs.Steps.{Begins, CallsNext, GoesOn, HasAttached, Hears, IsAttachDue, IsSameFolder, Looks, Marks, Recovers, Submits, TellsNext, TellsStand};
 ghost use Rattle.c_epochs.specs.Told.{answer_told, status_told};
@@ -34,13 +34,15 @@ pub struct OpenEpochs {
 }
 
 impl OpenEpochs {
-    /// A host over these images, which knows of no epoch yet, and what C is to know of the images. None if they are of a log that ends.
+    /// A host over these images, which knows of no epoch yet, and what C is to know of the images. None if they are of a log that ends. To a host that only
+    /// looks the number says nothing: no block is written.
     pub fn open(
         alloc: Global,
         images: &Images,
         number: u32,
+        only_looks: bool,
     ) -> Result<Option<(OpenEpochs, Opened)>, Fault>
-        ensures opened { IfOk result (λ opened. IfSome opened (λ made. IsOpened images.now number made.0 made.1)) }
+        ensures opened { IfOk result (λ opened. IfSome opened (λ made. IsOpened images.now number only_looks made.0 made.1)) }
         ensures ending { IfOk result (λ opened. opened ≡ None → IsOfEndingLog images.now) }
         ensures numbered { OnOk result (number < HOSTS) }
         ensures refused { IfErr result (MayRefuse images.now number) }
@@ -53,8 +55,13 @@ impl OpenEpochs {
         match set.kind {
             Kind::Ending => Ok(None),
             Kind::Endless => {
+                let host = if only_looks {
+                    EpochHost::to_look(alloc, number, set.config)
+                } else {
+                    EpochHost::new(alloc, number, set.config)
+                };
                 let host = OpenEpochs {
-                    host: EpochHost::new(alloc, number, set.config),
+                    host,
                     config: set.config,
                     cluster: set.cluster,
                 };
@@ -129,6 +136,7 @@ impl OpenEpochs {
     pub fn call(&mut self, boot: u64, call: &mut DueCall, written: &mut WrittenBlock) -> i32
         ensures next { CallsNext boot self.old self.new call.new written.old.bytes written.new.bytes result }
         ensures within { result ≡ done → LiesWithin self.new.host.config call.new }
+        ensures reads { self.old.host.only_looks ≡ true → result ≡ done → ReadsOnly call.new }
     {
         if self.host.idle() {
             *call = DueCall::none();
@@ -155,6 +163,7 @@ impl OpenEpochs {
     ) -> i32
         ensures next { GoesOn told.now row.now.bytes self.old self.new call.new written.old.bytes written.new.bytes result }
         ensures within { result ≡ done → LiesWithin self.new.host.config call.new }
+        ensures reads { self.old.host.only_looks ≡ true → result ≡ done → ReadsOnly call.new }
     {
         let status = self.hear(told, row);
         if status != 0 {
@@ -198,6 +207,7 @@ impl OpenEpochs {
     fn due(&self, call: &mut DueCall, written: &mut WrittenBlock) -> i32
         ensures next { TellsNext self.now call.new written.old.bytes written.new.bytes result }
         ensures within { result ≡ done → LiesWithin self.now.host.config call.new }
+        ensures reads { self.now.host.only_looks ≡ true → result ≡ done → ReadsOnly call.new }
     {
         if self.host.idle() {
             *call = DueCall::none();

@@ -7,7 +7,7 @@ use Rattle.lock_command.specs.declared.state.LockState.TheVariants.{Granted as H
 use Rattle.lock_command.specs.declared.reply.Answer as table
 use Rattle.lock_command.specs.declared.reply.LockValue.{LockValue}
 use Rattle.lock_command.specs.declared.reply.Reply.{Reply}
-use Rattle.lock_command.specs.declared.reply.Answer.TheVariants.{Granted, Queued, Released, Cancelled, Purged, State, Refused}
+use Rattle.lock_command.specs.declared.reply.Answer.TheVariants.{Granted, Queued, Released, Cancelled, Purged, Forgotten, State, Refused}
 use Rattle.lock_command.specs.declared.reply.Refusal as refused
 use Rattle.lock_command.specs.declared.reply.Refusal.TheVariants.{NoSuchLock}
 use Rattle.lock_command.specs.Refusals as of_table
@@ -115,6 +115,7 @@ reply_number Cancelled = pos 4
 reply_number (Purged count) = pos 5
 reply_number (State state) = pos 6
 reply_number (Refused refusal) = pos 7
+reply_number Forgotten = pos 8
 
 -- how many locks a command took away
 abbrev pub purged_by : table.Answer → ℕ

@@ -2,7 +2,7 @@
 use Rattle.std.specs.Prelude.{◌≡◌, ℕ, pos, List, Bool, true, false, Option, Some, None}
 use Rattle.lock_command.specs.declared.command.Command.{Command}
 use Rattle.lock_command.specs.declared.command.Action.{Action}
-use Rattle.lock_command.specs.declared.command.Action.TheVariants.{Enqueue, Convert, Release, Cancel, Status, Purge, QuietPurge, CarryLock, CarryClient}
+use Rattle.lock_command.specs.declared.command.Action.TheVariants.{Enqueue, Convert, Release, Cancel, Status, Purge, QuietPurge, Forget, CarryLock, CarryClient}
 use Rattle.c_host.specs.declared.request.Request.{Request}
 use Rattle.c_host.specs.Numbers.{mode_number}
 
@@ -27,6 +27,7 @@ AsksFor r name (Cancel lock) = (r.action ≡ 4) × (lock ≡ r.lock)
 AsksFor r name (Status lock) = (r.action ≡ 5) × (lock ≡ r.lock)
 AsksFor r name (Purge host) = (r.action ≡ 6) × (host ≡ r.purged)
 AsksFor r name (QuietPurge host) = ⊥
+AsksFor r name (Forget client) = (r.action ≡ 7) × (client ≡ r.forgotten)
 AsksFor r name (CarryLock lock on state value) = ⊥
 AsksFor r name (CarryClient reply) = ⊥
 

@@ -13,7 +13,7 @@ use lock_table::{Answer as TableAnswer, Reply};
 pub struct Answer {
     /// Where the command stands in the log, -1 where it was not acknowledged.
     pub slot: i32,
-    /// 0 none, 1 granted, 2 queued, 3 released, 4 cancelled, 5 purged, 6 state, 7 refused.
+    /// 0 none, 1 granted, 2 queued, 3 released, 4 cancelled, 5 purged, 6 state, 7 refused, 8 forgotten.
     pub reply: i32,
     /// How many locks were purged.
     pub purged: u32,
@@ -96,6 +96,7 @@ pub fn reply_number(reply: Reply) -> i32
         TableAnswer::Purged(_) => 5,
         TableAnswer::State(_) => 6,
         TableAnswer::Refused(_) => 7,
+        TableAnswer::Forgotten => 8,
     }
 }
 

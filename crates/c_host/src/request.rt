@@ -1,4 +1,4 @@
-ghost use Rattle.std.specs.Prelude.{◌≡◌, ◌<◌, ℕ, List, Bool, Option, None, IfSome};
+ghost use Rattle.std.specs.Prelude.{◌≡◌, ◌<◌, ◌^◌, ℕ, List, Bool, Option, None, IfSome};
 ghost use Rattle.std.specs.Option.{SomeIff};
 ghost use Rattle.lock_command.specs.declared.command.Command.{Command};
 ghost use Rattle.lock_command.specs.declared.command.Action.{Action};
@@ -18,7 +18,7 @@ use lock_command::{
 pub struct Request {
     pub request: u64,
     pub client: u32,
-    /// 1 enqueue, 2 convert, 3 release, 4 cancel, 5 status, 6 purge.
+    /// 1 enqueue, 2 convert, 3 release, 4 cancel, 5 status, 6 purge, 7 forget.
     pub action: u32,
     pub lock: u32,
     pub mode: u32,
@@ -28,7 +28,8 @@ pub struct Request {
     pub purged: u32,
     /// 1 where a convert or a release gives a value, else 0.
     pub gives: u32,
-    pub unused: u32,
+    /// The client that is forgotten.
+    pub forgotten: u32,
     pub value: [u8; LOCK_VALUE_LENGTH],
 }
 
@@ -40,7 +41,7 @@ impl Request {
     {
         Some(Command {
             host,
-            client: ClientNumber::new(u8::try_from(self.client).ok()?),
+            client: client_of(self.client)?,
             request: RequestNumber::new(self.request)?,
             action: self.action(name)?,
         })
@@ -57,6 +58,7 @@ impl Request {
             4 => Some(Action::Cancel(lock_of(self.lock)?)),
             5 => Some(Action::Status(lock_of(self.lock)?)),
             6 => Some(Action::Purge(host_of(self.purged)?)),
+            7 => Some(Action::Forget(client_of(self.forgotten)?)),
             _ => None,
         }
     }
@@ -127,6 +129,13 @@ pub fn host_of(number: u32) -> Option<HostNumber>
     ensures { SomeIff result (number < HOSTS) number }
 {
     HostNumber::new(u8::try_from(number).ok()?)
+}
+
+/// The client with this number, if there is one.
+fn client_of(number: u32) -> Option<ClientNumber>
+    ensures { SomeIff result (number < 2 ^ 8) number }
+{
+    Some(ClientNumber::new(u8::try_from(number).ok()?))
 }
 
 /// The lock with this number, if it may have that.

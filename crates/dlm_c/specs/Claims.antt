@@ -19,8 +19,8 @@ KeepsOne IsAsked Wrong old new status =
 abbrev pub KeepsNew : AskerNumbers → List ℕ → ℕ → Bool → Option Claim → Option Claim → ℤ → Type 0
 KeepsNew numbers name mode waits = KeepsOne (IsNewOf numbers name mode waits) ((wanted : Mode) → MayTake numbers name mode wanted → ⊥)
 
-abbrev pub KeepsLeft : AskerNumbers → ℕ → List ℕ → ℕ → ℕ → Option Claim → Option Claim → ℤ → Type 0
-KeepsLeft numbers lock name mode set = KeepsOne (IsLeftOf numbers lock name mode set) ((wanted : Mode) → MayBeLeft numbers lock name mode wanted → ⊥)
+abbrev pub KeepsLeft : AskerNumbers → ℕ → List ℕ → ℕ → Option Claim → Option Claim → ℤ → Type 0
+KeepsLeft numbers lock name mode = KeepsOne (IsLeftOf numbers lock name mode) ((wanted : Mode) → MayBeLeft numbers lock name mode wanted → ⊥)
 
 -- The buffer has the name of the lock's sign in the folder of this set; or the buffer is as it was, and why is told.
 abbrev pub NamesSign : (set host lock : ℕ) → (old new : List ℕ) → (status : ℤ) → Type 0

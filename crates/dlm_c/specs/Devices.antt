@@ -1,10 +1,10 @@
 -- Devices that several machines use, as C names them and is told of them.
-use Rattle.std.specs.Prelude.{◌≡◌, ◌≢◌, ◌==◌, ◌≤◌, ◌+◌, ◌-◌, ◌^◌, ◌⊎◌, ℕ, ℤ, List, length}
-use Rattle.torn_block.specs.Layout.{cluster_version}
+use Rattle.std.specs.Prelude.{◌≡◌, ◌≢◌, ◌==◌, ◌≤◌, ◌+◌, ◌-◌, ◌^◌, ◌⊎◌, ℕ, ℤ, List, length, if◌then◌else◌}
 use Rattle.torn_block.specs.declared.layout.TheConstants.{BLOCK_LENGTH}
-use Rattle.paxos_block.specs.Headers as image
-use Rattle.paxos_block.specs.Places as images
 use Rattle.paxos_block.specs.Saying.{flag_of}
+use Rattle.endless_image.specs.Kinds.{header_by, size_by}
+use Rattle.endless_image.specs.declared.kind.Kind.{Kind}
+use Rattle.endless_image.specs.declared.kind.Kind.TheVariants.{Ending, Endless}
 use Rattle.sectors.specs.declared.geometry.Geometry.{Geometry}
 use Rattle.sectors.specs.declared.header.DeviceHeader.{DeviceHeader}
 use Rattle.sectors.specs.declared.place.SectorRange.{SectorRange}
@@ -18,14 +18,21 @@ use Rattle.dlm_c.specs.declared.device.Device.{Device}
 use Rattle.dlm_c.specs.declared.device.FirstBytes.{FirstBytes}
 use Rattle.dlm_c.specs.declared.device.Sectors.{Sectors}
 use Rattle.c_host.specs.declared.header.HeaderBytes.{HeaderBytes}
-use Rattle.c_host.specs.Headers.{header_with}
 use Rattle.c_host.specs.Numbers.{done, bad_argument, different, stamp_spent}
 
 -- ---- a device and its header
 
+-- the kind of log that C names, and how it is told one
+abbrev pub kind_of : ℕ → Kind
+kind_of endless = if endless == 1 then Endless else Ending
+
+abbrev pub endless_of : Kind → ℕ
+endless_of Ending = 0
+endless_of Endless = 1
+
 -- the shape that C names
 abbrev pub geometry_of : Device → Geometry
-geometry_of device = record { sector_size = device.sector_size; hosts = device.hosts; slots = device.slots }
+geometry_of device = record { sector_size = device.sector_size; hosts = device.hosts; kind = kind_of device.endless; slots = device.slots }
 
 -- what C is told of a device that has this header
 abbrev pub shape_of : DeviceHeader → Device
@@ -34,6 +41,7 @@ shape_of header = record {
   hosts = header.geometry.hosts;
   slots = header.geometry.slots;
   dsync = flag_of header.dsync;
+  endless = endless_of header.geometry.kind;
 }
 
 -- the header that C asks for
@@ -44,8 +52,8 @@ header_of device disks cluster disk =
 -- the image that such a device shows: its length, and its first bytes
 abbrev pub image_of : DeviceHeader → HeaderBytes
 image_of header = record {
-  size = images.image_length cluster_version header.geometry.slots;
-  bytes = image.header_saying cluster_version (header_with header.disks header.geometry.slots header.cluster header.disk);
+  size = size_by header.geometry.kind header.geometry.slots;
+  bytes = header_by header.geometry.kind header.disk (record { disks = header.disks; slots = header.geometry.slots }) header.cluster;
 }
 
 -- There may be such a device, and C is given its first bytes and its length; or there is none, and nothing is changed.

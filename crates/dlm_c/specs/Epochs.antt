@@ -1,5 +1,5 @@
 -- What C is told where a host over all epochs is opened in a handle, and where it asks to be shown something of its table.
-use Rattle.std.specs.Prelude.{◌≡◌, ◌⊎◌, ℕ, ℤ, negsuc, Option, Some, None}
+use Rattle.std.specs.Prelude.{◌≡◌, ◌⊎◌, ℕ, ℤ, negsuc, Bool, Option, Some, None}
 use Rattle.c_host.specs.declared.fault.Fault.{Fault}
 use Rattle.c_host.specs.declared.fault.Fault.TheVariants.{NoMemory, Open}
 use Rattle.c_host.specs.declared.images.Images.{Images}
@@ -15,9 +15,9 @@ abbrev pub ends : ℤ
 ends = negsuc 10
 
 -- A host is kept where none was.
-abbrev pub IsOpenedIn : Images → ℕ → Option OpenEpochs → Opened → Type 0
-IsOpenedIn images number None told = ⊥
-IsOpenedIn images number (Some new) told = IsOpened images number new told
+abbrev pub IsOpenedIn : Images → ℕ → (only_looks : Bool) → Option OpenEpochs → Opened → Type 0
+IsOpenedIn images number only_looks None told = ⊥
+IsOpenedIn images number only_looks (Some new) told = IsOpened images number only_looks new told
 
 -- why no host is opened over these images under this number, in a handle that keeps this
 abbrev pub MayRefuseIn : Images → ℕ → Option OpenEpochs → Fault → Type 0
@@ -42,9 +42,9 @@ pub record IsOfAnEndingLog (images : Images) (old new : Option OpenEpochs) (befo
   pub told : status ≡ ends
   pub image : disk ≡ no_disk
 
-abbrev pub OpensIn : Images → ℕ → (old new : Option OpenEpochs) → (before after : Opened) → (status disk : ℤ) → Type 0
-OpensIn images number old new before after status disk =
-    ((status ≡ done) × (disk ≡ no_disk) × (old ≡ None) × IsOpenedIn images number new after)
+abbrev pub OpensIn : Images → ℕ → (only_looks : Bool) → (old new : Option OpenEpochs) → (before after : Opened) → (status disk : ℤ) → Type 0
+OpensIn images number only_looks old new before after status disk =
+    ((status ≡ done) × (disk ≡ no_disk) × (old ≡ None) × IsOpenedIn images number only_looks new after)
     ⊎ IsOfAnEndingLog images old new before after status disk
     ⊎ IsNotOpened images number old new before after status disk
 

@@ -37,7 +37,7 @@ pub extern "C" fn dlm_c_take(
     keep(alloc, handle, claim)
 }
 
-/// A claim to a lock that a former run left in these images.
+/// A claim to a lock that a former run left.
 #[unsafe(no_mangle)]
 pub extern "C" fn dlm_c_left(
     alloc: Global,
@@ -46,11 +46,10 @@ pub extern "C" fn dlm_c_left(
     lock: u32,
     name: &[u8],
     mode: u32,
-    set: u64,
 ) -> i32
-    ensures { KeepsLeft asker.now lock name.now mode set handle.old.held.value handle.new.held.value result }
+    ensures { KeepsLeft asker.now lock name.now mode handle.old.held.value handle.new.held.value result }
 {
-    let Some(claim) = left(asker, lock, name, mode, set) else {
+    let Some(claim) = left(asker, lock, name, mode) else {
         return BAD_ARGUMENT;
     };
     keep(alloc, handle, claim)

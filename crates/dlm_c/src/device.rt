@@ -1,7 +1,8 @@
 ghost use Rattle.std.specs.Prelude.{◌≡◌, IfSome, IfNone};
 ghost use Rattle.sectors.specs.Geometry.{IsGeometry};
-ghost use Rattle.dlm_c.specs.Devices.{geometry_of, shape_of};
+ghost use Rattle.dlm_c.specs.Devices.{endless_of, geometry_of, kind_of, shape_of};
 
+use endless_image::Kind;
 use sectors::{DEVICE_HEADER_LENGTH, DeviceHeader, Geometry, is_geometry};
 
 /// The shape of a device that several machines use, and how it is written, as C keeps them.
@@ -13,6 +14,8 @@ pub struct Device {
     pub slots: u32,
     /// 1 where each write is made with O_DSYNC.
     pub dsync: u32,
+    /// 1 where the log has no end. The slots are then those of an epoch.
+    pub endless: u32,
 }
 
 /// The first bytes of a device.
@@ -44,6 +47,7 @@ impl Device {
         let geometry = Geometry {
             sector_size: self.sector_size,
             hosts,
+            kind: kind_of(self.endless),
             slots: self.slots,
         };
         if !is_geometry(&geometry) {
@@ -61,6 +65,27 @@ impl Device {
             hosts: u32::from(header.geometry.hosts),
             slots: header.geometry.slots,
             dsync: u32::from(header.dsync),
+            endless: endless_of(header.geometry.kind),
         }
+    }
+}
+
+// The kind of log that C names, and how it is told one.
+fn kind_of(endless: u32) -> Kind
+    ensures { result ≡ kind_of endless }
+{
+    if endless == 1 {
+        Kind::Endless
+    } else {
+        Kind::Ending
+    }
+}
+
+fn endless_of(kind: Kind) -> u32
+    ensures { result ≡ endless_of kind }
+{
+    match kind {
+        Kind::Ending => 0,
+        Kind::Endless => 1,
     }
 }

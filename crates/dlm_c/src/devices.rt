@@ -1,15 +1,18 @@
 //! Devices that several machines use at once, as C is given them: their headers, the places of their sectors, and what those have.
-ghost use Rattle.std.specs.Prelude.{◌+◌, ◌≤◌, ◌↔◌, IsTrue, length};
+ghost use Rattle.std.specs.Prelude.{◌≡◌, ◌+◌, ◌≤◌, ◌↔◌, IsTrue, length};
 ghost use Rattle.torn_block.specs.declared.layout.TheConstants.{BLOCK_LENGTH};
-ghost use Rattle.dlm_c.specs.Devices.{geometry_of, header_of, FindsBlock, FindsDevice, FindsRow, GivesRow, LaysOutDevice, PutsIn};
+ghost use Rattle.sectors.specs.Headers.{IsDeviceHeader};
+ghost use Rattle.dlm_c.specs.Devices.{geometry_of, header_of, image_of, FindsBlock, FindsDevice, FindsRow, GivesRow, LaysOutDevice, PutsIn};
 
 use crate::device::{Device, FirstBytes, Sectors};
-use c_host::{BAD_ARGUMENT, DIFFERENT, HeaderBytes, Row, STAMP_SPENT, lay_out};
+use c_host::{BAD_ARGUMENT, DIFFERENT, HeaderBytes, Row, STAMP_SPENT};
+use endless_image::{EndlessHeader, Kind, encode_endless_header, image_size};
+use paxos_block::{Header, encode_header, image_length};
 use sectors::{
     DeviceHeader, STAMPED_LENGTH, agree, block_at, decode_device_header, device_size,
     encode_device_header, gather, is_device_header, put_in, row_at, row_size,
 };
-use torn_block::BLOCK_LENGTH;
+use torn_block::{BLOCK_LENGTH, ClusterLayout};
 
 /// Tells the first bytes of a device that is to be made, and how long it is.
 #[unsafe(no_mangle)]
@@ -63,13 +66,38 @@ pub extern "C" fn dlm_c_device(
         return BAD_ARGUMENT;
     };
     *device = Device::of(&header);
-    lay_out(
-        u32::from(header.disks),
-        header.geometry.slots,
-        header.cluster,
-        u32::from(header.disk),
-        image,
-    )
+    *image = image_of(&header);
+    0
+}
+
+// The image that a device with this header shows.
+fn image_of(header: &DeviceHeader) -> HeaderBytes
+    requires { IsDeviceHeader header.now }
+    ensures { result ≡ image_of header.now }
+{
+    let slots = header.geometry.slots;
+    let cluster = header.cluster;
+    match header.geometry.kind {
+        Kind::Ending => HeaderBytes {
+            size: image_length::<ClusterLayout>(slots),
+            bytes: encode_header::<ClusterLayout>(&Header {
+                disk: header.disk,
+                disks: header.disks,
+                slots,
+                cluster,
+            }),
+        },
+        Kind::Endless => HeaderBytes {
+            size: image_size(slots),
+            bytes: encode_endless_header(&EndlessHeader {
+                disk: header.disk,
+                disks: header.disks,
+                slots,
+                cluster,
+                first_epoch: 0,
+            }),
+        },
+    }
 }
 
 /// Tells where the sectors of a row are, by the place that the row has in an image.

@@ -2,7 +2,7 @@ ghost use Rattle.std.specs.Prelude.{◌≡◌, None, Ok, IfOk, IfErr, true, fals
 ghost use Rattle.c_host.specs.Numbers.{done};
 ghost use Rattle.c_host.specs.Steps.{TellsNoCall};
 ghost use Rattle.c_host.specs.Views.{FindsLock, FindsValue, ShowsClients, ShowsLocks, ShowsText};
-ghost use Rattle.c_epochs.specs.Calls.{LiesWithin};
+ghost use Rattle.c_epochs.specs.Calls.{LiesWithin, ReadsOnly};
 ghost use Rattle.c_epochs.specs.Images.{IsOfEndingLog};
 ghost use Rattle.c_epochs.specs.Numbers.{show_number};
 ghost use Rattle.c_epochs.specs.Steps.{CallsNext, GoesOn, Looks, Marks, Recovers, Submits};
@@ -35,10 +35,38 @@ pub extern "C" fn dlm_c_epochs_open(
     told: &mut Opened,
     disk: &mut i32,
 ) -> i32
-    ensures { OpensIn images.now number handle.old.held.value handle.new.held.value told.old told.new result disk.new }
+    ensures { OpensIn images.now number false handle.old.held.value handle.new.held.value told.old told.new result disk.new }
+{
+    open(alloc, images, number, false, handle, told, disk)
+}
+
+/// The same for a host that only looks: no call of it writes or syncs.
+#[unsafe(no_mangle)]
+pub extern "C" fn dlm_c_epochs_open_to_look(
+    alloc: Global,
+    images: &Images,
+    handle: &mut EpochHandle,
+    told: &mut Opened,
+    disk: &mut i32,
+) -> i32
+    ensures { OpensIn images.now 0 true handle.old.held.value handle.new.held.value told.old told.new result disk.new }
+{
+    open(alloc, images, 0, true, handle, told, disk)
+}
+
+fn open(
+    alloc: Global,
+    images: &Images,
+    number: u32,
+    only_looks: bool,
+    handle: &mut EpochHandle,
+    told: &mut Opened,
+    disk: &mut i32,
+) -> i32
+    ensures { OpensIn images.now number only_looks handle.old.held.value handle.new.held.value told.old told.new result disk.new }
 {
     *disk = -1;
-    match open(alloc, images, number, handle, told) {
+    match keep_opened(alloc, images, number, only_looks, handle, told) {
         Ok(true) => 0,
         Ok(false) => ENDS,
         Err(fault) => {
@@ -49,14 +77,15 @@ pub extern "C" fn dlm_c_epochs_open(
 }
 
 /// Whether the log has no end, so that a host is kept.
-fn open(
+fn keep_opened(
     alloc: Global,
     images: &Images,
     number: u32,
+    only_looks: bool,
     handle: &mut EpochHandle,
     told: &mut Opened,
 ) -> Result<bool, Fault>
-    ensures opened { result ≡ Ok true → (handle.old.held.value ≡ None) × IsOpenedIn images.now number handle.new.held.value told.new }
+    ensures opened { result ≡ Ok true → (handle.old.held.value ≡ None) × IsOpenedIn images.now number only_looks handle.new.held.value told.new }
     ensures ends { result ≡ Ok false → IsOfEndingLog images.now }
     ensures refused { IfErr result (MayRefuseIn images.now number handle.old.held.value) }
     ensures unchanged { (result ≡ Ok true → ⊥) → (handle.new.held.value ≡ handle.old.held.value) × (told.new ≡ told.old) }
@@ -65,7 +94,7 @@ fn open(
         handle.keep(host);
         return Err(Fault::Open);
     }
-    let Some((host, opened)) = OpenEpochs::open(alloc, images, number)? else {
+    let Some((host, opened)) = OpenEpochs::open(alloc, images, number, only_looks)? else {
         return Ok(false);
     };
     match Box::new(alloc, host) {
@@ -156,6 +185,7 @@ pub extern "C" fn dlm_c_epochs_call(
 ) -> i32
     ensures next { InHandle (λ old new. CallsNext boot old new call.new written.old.bytes written.new.bytes result) handle.old.held.value handle.new.held.value result }
     ensures within { InHandle (λ old new. result ≡ done → LiesWithin new.host.config call.new) handle.old.held.value handle.new.held.value result }
+    ensures reads { InHandle (λ old new. old.host.only_looks ≡ true → result ≡ done → ReadsOnly call.new) handle.old.held.value handle.new.held.value result }
     ensures none { handle.old.held.value ≡ None → TellsNoCall call.new written.old.bytes written.new.bytes }
 {
     let Some(mut host) = handle.take(alloc) else {
@@ -179,6 +209,7 @@ pub extern "C" fn dlm_c_epochs_next(
     ensures next { InHandle (λ old new. GoesOn told.now row.now.bytes old new call.new written.old.bytes written.new.bytes result)
         handle.old.held.value handle.new.held.value result }
     ensures within { InHandle (λ old new. result ≡ done → LiesWithin new.host.config call.new) handle.old.held.value handle.new.held.value result }
+    ensures reads { InHandle (λ old new. old.host.only_looks ≡ true → result ≡ done → ReadsOnly call.new) handle.old.held.value handle.new.held.value result }
     ensures none { handle.old.held.value ≡ None → TellsNoCall call.new written.old.bytes written.new.bytes }
 {
     let Some(mut host) = handle.take(alloc) else {

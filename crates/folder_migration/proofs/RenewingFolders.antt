@@ -68,7 +68,7 @@ may_not host config old_config cluster leave slots old left fault recovers as_ma
 
     by_fault : (fault : RenewFault) → EndsOver old_config.slots config cluster leave left fault → MayNotRenew host config cluster leave fault
     by_fault NoMemory ends = tt
-    by_fault (New fault) ends = inr (inr (stopped (New fault) ends))
+    by_fault (New fault) ends = inr (stopped (New fault) ends)
     by_fault (Refused refusal) ends = stopped (Refused refusal) ends
     by_fault NotFull ends = stopped NotFull ends
     by_fault (HasLocks client) ends = stopped (HasLocks client) ends

@@ -24,7 +24,7 @@ abbrev pub IsOver : {D : Type 0} → Shape → Standing D → Type 0
 IsOver config host = (number : ℕ) × (m : Memory) × LeadsTo config number m host.core
 
 -- It asks for the state of lock 1, and its client made a request of this number already, or of a greater one. Such a command changes nothing, whatever
--- commands come before it from here on.
+-- commands come before it from here on. Where one of them forgets its client it is carried out, and changes no lock.
 pub record IsOldRequest (learned : List Command) (command : Command) : Type 0 where
   pub known : IsKnownFrom command.client command.request (table_after learned).clients
   pub asks : command.action ≡ Status 1

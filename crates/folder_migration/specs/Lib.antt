@@ -5,5 +5,4 @@ pub mod Moving
 pub mod Recovery
 pub mod Renewing
 pub mod RenewingFolders
-pub mod Successor
 pub mod Writing

@@ -4,8 +4,8 @@ use Rattle.disk.specs.Disk.{Call, Answer}
 use Rattle.paxos_block.specs.Shape.{Shape}
 use Rattle.lock_command.specs.declared.command.Command.{Command}
 use Rattle.lock_command.specs.Command.{spelling}
-use Rattle.lock_table.specs.Apply.{table_after}
-use Rattle.lock_table.specs.Carrying.{carried_over, has_locks, is_among, without_clients}
+use Rattle.lock_table.specs.Apply.{has_locks, table_after}
+use Rattle.lock_table.specs.Carrying.{carried_over, is_among, without_clients}
 use Rattle.lock_table.specs.Picture.{Shown, IsPictureOf}
 use Rattle.migration.specs.Kept.{setup_by}
 use Rattle.migration.specs.declared.end.End.{End}

@@ -90,24 +90,13 @@ CameToRenew host config cluster leave (Finished disks) = HasFinishedRenewal conf
 
 -- WHY IT IS REFUSED
 
--- the successor is another one, or could not be named, or no memory
-abbrev pub IsNamingFault : NewFault → Type 0
-IsNamingFault new.RenewedElsewhere = Unit {0}
-IsNamingFault new.NotNamed = Unit {0}
-IsNamingFault (new.Folder fault) = fault ≡ folder.NoMemory
-IsNamingFault (new.Lock fault) = ⊥
-
--- or of so many new images one is there, or cannot be made, or somebody works as host 0 there
+-- of so many new images one is there, or cannot be made, or somebody works as host 0 there
 abbrev pub IsNewFault : ℕ → NewFault → Type 0
-IsNewFault disks new.RenewedElsewhere = Unit {0}
-IsNewFault disks new.NotNamed = Unit {0}
 IsNewFault disks (new.Folder fault) = IsFormatFault disks fault
 IsNewFault disks (new.Lock fault) = IsLockFault 0 fault
 
 -- the new folder is not there, so that nobody can be locked out of it, or no memory
 abbrev pub IsUnfound : NewFault → Type 0
-IsUnfound new.RenewedElsewhere = ⊥
-IsUnfound new.NotNamed = ⊥
 IsUnfound (new.Folder fault) = fault ≡ folder.NoMemory
 IsUnfound (new.Lock fault) = fault ≡ lock.NoLock 0
 
@@ -140,9 +129,9 @@ pub record IsSame (cluster : ℕ) : Type 0 where
   pub disks : List FileState
   pub opened : IsOpened found config cluster disks
 
--- no new images are made: the new folder is not there, or the successor is another one; or else only once a host had recovered a full log that may be carried over
+-- no new images are made: the new folder is not there; or else only once a host had recovered a full log that may be carried over
 abbrev pub IsNotMade : (host : ℕ) → Shape → (cluster : ℕ) → (leave : List ℕ) → NewFault → Type 0
-IsNotMade host config cluster leave fault = IsUnfound fault ⊎ IsNamingFault fault ⊎ StopsOver host config cluster leave (New fault)
+IsNotMade host config cluster leave fault = IsUnfound fault ⊎ StopsOver host config cluster leave (New fault)
 
 abbrev pub MayNotRenew : (host : ℕ) → Shape → (cluster : ℕ) → (leave : List ℕ) → RenewFault → Type 0
 MayNotRenew host config cluster leave NoMemory = Unit {0}

@@ -44,7 +44,8 @@ impl From<Refusal> for FillFault {
 }
 
 /// Fills a log up, so that its table is final: the host submits a request that a client made already, again and again. It
-/// changes nothing, whatever others submit meanwhile. Gives the number of the slots that it filled.
+/// changes nothing, whatever others submit meanwhile; and no lock, if they have that client forgotten. Gives the number of the slots that
+/// it filled.
 pub fn fill_log<R: Clock + RandomSource, D: Disk>(
     rt: &R,
     alloc: Global,

@@ -1,11 +1,40 @@
-ghost use Rattle.std.specs.Prelude.{◌≡◌, true, false, IfErr, IfOk, OnOk, length};
+ghost use Rattle.std.specs.Prelude.{◌≡◌, ◌+◌, ◌≤◌, true, false, IfErr, IfOk, OnOk, length};
+ghost use Rattle.torn_block.specs.declared.layout.TheConstants.{ROW_LENGTH};
 ghost use Rattle.folders.specs.Layout.{header_of};
+ghost use Rattle.folder_migration.specs.declared.finishing.TheConstants.{FIRST_SLOT};
 ghost use Rattle.folder_migration.specs.Gates.{AreFinishedFrom, AreLeftOpen, AreStoppedFrom, HasGate, HaveNoGate, HaveNothingLeft, IsStopped};
 
 use crate::gate::{Gate, find_gate, leave_open};
 use disk::{Disk, DiskFault};
 use host::Config;
 use paxos_block::Header;
+use torn_block::ROW_LENGTH;
+
+/// Where the first slot of an image begins, behind its header and its heartbeats.
+const FIRST_SLOT: u64 = 2 * ROW_LENGTH as u64;
+
+/// Whether an image has anything in its first slot. One that cannot tell has not.
+pub fn holds_command<D: Disk>(device: &mut D) -> bool
+    ensures device { D.device device.new ≡ D.device device.old }
+{
+    if device.size() < FIRST_SLOT + ROW_LENGTH as u64 {
+        return false;
+    }
+    match first_row(device) {
+        Ok(row) => row.iter().any(|byte| *byte != 0),
+        Err(_) => false,
+    }
+}
+
+fn first_row<D: Disk>(device: &mut D) -> Result<[u8; ROW_LENGTH], DiskFault>
+    requires { FIRST_SLOT + ROW_LENGTH ≤ (D.device device.old).size }
+    ensures device { D.device device.new ≡ D.device device.old }
+{
+    let mut row = [0; ROW_LENGTH];
+    let boot = device.attach()?;
+    device.read(boot, FIRST_SLOT, &mut row)?;
+    Ok(row)
+}
 
 /// Whether the gate of some new image is found so. Once one is, no other is looked at.
 pub fn has_gate<D: Disk>(config: Config, cluster: u64, images: &mut [D], gate: Gate) -> bool

@@ -11,13 +11,10 @@ mod migrate;
 mod migrating;
 mod moving;
 mod new_folder;
-mod numbers;
 mod old_log;
 mod renew;
 mod renew_fault;
 mod renewal;
-mod signs;
-mod successor;
 
 pub use fault::MoveFault;
 pub use fill::{FillFault, fill_log};
@@ -31,4 +28,3 @@ pub use old_log::recover_log;
 pub use renew::{Renewed, renew_folder};
 pub use renew_fault::{NewFault, RenewFault};
 pub use renewal::renew_disks;
-pub use successor::successor_path;

@@ -8,20 +8,16 @@ ghost use Rattle.folder_migration.specs.Renewing.{Carries};
 ghost use Rattle.folder_migration.specs.RenewingFolders.{AreLeftFinished, AreLeftUnfinished, CameToRenew, EndsOver, IsNewFault, MayNotRenew, NothingIsLeft};
 ghost use Rattle.folder_migration.specs.declared.old_log.TheConstants.{TRIES};
 
-use crate::finishing::finish_left;
-use crate::new_folder::{find_new, make_images, open_new_folder};
-use crate::numbers::{NewFolderLock, link_numbers, lock_new_folder};
+use crate::finishing::{finish_left, holds_command};
+use crate::new_folder::{find_new, first_host, make_free_images, open_new_folder};
 use crate::old_log::TRIES;
 use crate::renew_fault::{NewFault, RenewFault};
 use crate::renewal::renew_disks;
-use crate::signs::{SetFolder, carry_signs};
-use crate::successor::{SuccessorLine, name_successor, names_successor};
 use disk::FileDisk;
 use dlm_images::{DiskHost, start_host};
 use folders::{TryLock, find_folder, lock_host, open_folder, refuse_taken};
 use host::Config;
 use lock_command::{ClientNumber, HostNumber};
-use lock_table::LockRecord;
 use std::fs::OpenFile;
 use std::os::unix::fs::FileExt;
 use std::rt::Files;
@@ -35,9 +31,10 @@ pub enum Renewed {
     Finished { disks: u8 },
 }
 
-/// Carries the table after a full log over into a new folder, without these clients. It works as this host of the old cluster, beside others.
+/// Carries the table after a full log over into a new folder, without these clients. It works as this host of the old cluster. Nobody else works on
+/// either folder.
 ///
-/// The old folder names its successor from then on. A second run goes on only with the same words.
+/// Where an earlier run was ended between two gates, the gates that are left are opened, all are synced, and nothing else is done.
 pub fn renew_folder<R: Files + AllocGlobal>(
     rt: &R,
     old: &str,
@@ -57,35 +54,40 @@ where
     if images.cluster == cluster {
         return Err(RenewFault::SameCluster);
     }
-    let found = find_new(rt, new)?;
-    let Ok(line) = SuccessorLine::new(rt.alloc(), found.as_str(), new, config, cluster) else {
-        return Err(RenewFault::NoMemory);
-    };
-    let named = names_successor(rt, old.as_str(), &line)?;
+    let new = find_new(rt, new)?;
     let disks = config.disks();
-    // Nothing is made of a set before it is named. So what else looks like a run that was ended, as a `format` that was, is none.
-    if named && finish_renewal(rt, found.as_str(), config, cluster)? {
+    // What a `format` that was ended has left looks like a run that was, but for this.
+    if holds_a_table(rt, new.as_str(), config)?
+        && finish_renewal(rt, new.as_str(), config, cluster)?
+    {
         return Ok(Renewed::Finished { disks });
     }
     let _lock = lock_host(rt, old.as_str(), host)?;
     let slots = images.config.slots();
-    let from = SetFolder {
-        path: old.as_str(),
-        cluster: images.cluster,
-    };
     let mut over = start_host(images, rt.alloc(), host)?;
-    let commands = renew_over(
-        rt,
-        &mut over,
-        slots,
-        from,
-        &line,
-        found.as_str(),
-        config,
-        cluster,
-        leave,
-    )?;
+    let commands = renew_over(rt, &mut over, slots, new.as_str(), config, cluster, leave)?;
     Ok(Renewed::Renewed { commands, disks })
+}
+
+/// Whether some new image holds a command, as each does once a table with a client is carried over.
+fn holds_a_table<R: Files + AllocGlobal>(
+    rt: &R,
+    folder: &str,
+    config: Config,
+) -> Result<bool, RenewFault>
+where
+    R::File: FileExt + OpenFile + Drop,
+    ensures fault { IfErr result (λ fault. fault ≡ RenewFault.NoMemory) }
+{
+    let Ok(mut images) = open_new_folder(rt, folder, config) else {
+        return Err(RenewFault::NoMemory);
+    };
+    for disk in 0..images.len() {
+        if holds_command(&mut images[disk]) {
+            return Ok(true);
+        }
+    }
+    Ok(false)
 }
 
 /// Opens the gates that are left of a run which was ended between two of them. Whether there was one is the result.
@@ -117,8 +119,6 @@ fn renew_over<R: Files + AllocGlobal>(
     rt: &R,
     host: &mut DiskHost<FileDisk<R::File>>,
     slots: u16,
-    old: SetFolder<'_>,
-    line: &SuccessorLine,
     new: &str,
     config: Config,
     cluster: u64,
@@ -135,9 +135,6 @@ where
     if host.learned() != slots {
         return Err(RenewFault::NotFull);
     }
-    let Ok(picture) = host.table().picture(rt.alloc()) else {
-        return Err(RenewFault::NoMemory);
-    };
     renew_disks(
         rt.alloc(),
         host,
@@ -147,36 +144,24 @@ where
         ||
             ensures blank { IfOk result (λ made. AreBlank config made.0.items) }
             ensures fault { IfErr result (IsNewFault config.disks) }
-        {
-            let new = SetFolder { path: new, cluster };
-            make_successor(rt, old, line, new, config, picture.locks())
-        },
+        { make_new_images(rt, new, config) },
     )
 }
 
-/// Names the successor of the old folder, carries the signs of life of these locks and the host numbers over, and makes its images of zeros, if none
-/// of them is there. The lock that is given keeps others away. It is taken first, so a folder that is not there is never named.
-fn make_successor<R: Files + AllocGlobal>(
+/// Makes the new images of zeros, if none of them is there. The lock on host 0's number that is given keeps other renewals away.
+fn make_new_images<R: Files + AllocGlobal>(
     rt: &R,
-    old: SetFolder<'_>,
-    line: &SuccessorLine,
-    new: SetFolder<'_>,
+    folder: &str,
     config: Config,
-    locks: &[LockRecord],
-) -> Result<(Vec<FileDisk<R::File>>, NewFolderLock<R::File>), NewFault>
+) -> Result<(Vec<FileDisk<R::File>>, R::File), NewFault>
 where
     R::File: FileExt + OpenFile + TryLock + Drop,
     ensures blank { IfOk result (λ made. AreBlank config made.0.items) }
     ensures fault { IfErr result (IsNewFault config.disks) }
 {
-    refuse_taken(rt, new.path, config)?;
-    let lock = lock_new_folder(rt, old.path, new.path)?;
+    refuse_taken(rt, folder, config)?;
+    let lock = lock_host(rt, folder, first_host())?;
     // A run that had the lock may have made them meanwhile.
-    refuse_taken(rt, new.path, config)?;
-    name_successor(rt, old.path, line)?;
-    // Before the first gate is open, so that nobody finds a lock there without its sign, or has a number there that is somebody's in the old folder.
-    carry_signs(rt, old, new, locks)?;
-    link_numbers(rt, old.path, new.path)?;
-    let images = make_images(rt, new.path, config)?;
+    let images = make_free_images(rt, folder, config)?;
     Ok((images, lock))
 }

@@ -1,37 +1,21 @@
 ghost use Rattle.std.specs.Prelude.{◌≡◌};
-ghost use Rattle.folders.specs.declared.fault.FolderFault.TheVariants as folder;
 ghost use Rattle.folder_migration.specs.declared.renew_fault.NewFault.TheVariants as new;
 ghost use Rattle.folder_migration.specs.declared.renew_fault.RenewFault.TheVariants as renew;
 
 use folders::{FolderFault, LockFault};
 use host::Refusal;
 use lock_command::ClientNumber;
-use std::alloc::AllocError;
 use thiserror::Error;
 
 /// Why the new images of a renewal are not made.
 #[derive(Clone, Copy, Debug, PartialEq, Eq, Error)]
 pub enum NewFault {
-    /// The old folder names another set as its successor, or another run is naming one.
-    #[error("the folder is renewed into another one")]
-    RenewedElsewhere,
-    /// The successor's name cannot be read or written.
-    #[error("the successor cannot be named")]
-    NotNamed,
     /// New images are there, or cannot be made.
     #[error("{0}")]
     Folder(FolderFault),
-    /// Somebody works as host 0 of the new cluster.
+    /// Somebody works as host 0 of the new cluster, as another renewal does.
     #[error("{0}")]
     Lock(LockFault),
-}
-
-impl From<AllocError> for NewFault {
-    ghost from_gives = { λ _ fault. fault ≡ new.Folder folder.NoMemory };
-
-    fn from(_: AllocError) -> Self {
-        NewFault::Folder(FolderFault::NoMemory)
-    }
 }
 
 impl From<FolderFault> for NewFault {

@@ -25,7 +25,7 @@ pub record IsNewClaim (asker : Asker) (bytes : List ℕ) (wanted : Mode) (waits 
   pub standing : c.standing ≡ Unasked
   pub asked : c.asked ≡ None
   pub slot : c.slot ≡ None
-  pub unlearned : (c.set ≡ 0) × (c.since ≡ 0) × (c.newest ≡ 0)
+  pub unlearned : c.since ≡ 0
   pub release : c.release ≡ None
   pub value : c.value ≡ None
   pub over : c.over ≡ None
@@ -59,7 +59,6 @@ pub record Begins (wanted : Goal) (old new : Claim) : Type 0 where
   pub name : new.name ≡ old.name
   pub mode : new.mode ≡ old.mode
   pub lock : new.lock ≡ old.lock
-  pub set : new.set ≡ old.set
   pub asked : new.asked ≡ old.asked
   pub release : new.release ≡ old.release
   pub since : new.since ≡ old.since

@@ -38,9 +38,9 @@ IsOpening step = (step ≡ Opening) ⊎ (step ≡ OpeningToLook)
 abbrev pub IsPause : Step → Type 0
 IsPause step = ((milliseconds : ℕ) × (step ≡ Resting milliseconds)) ⊎ (step ≡ Yielding)
 
--- A wait may pause: no process that is gone holds the name, or the log is full, so that nothing can be done about it.
+-- A wait may pause: no process that is gone holds the name, and the log takes a further command.
 abbrev pub MayPause : Learned → Type 0
-MayPause l = (l.left_over ≡ false) ⊎ IsFull l
+MayPause l = (l.left_over ≡ false) × ¬ IsFull l
 
 -- what it leads to depends on a log that is read
 abbrev pub IsReading : Step → Type 0

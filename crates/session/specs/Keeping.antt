@@ -1,5 +1,5 @@
 -- What an operation on a claim leaves as it is.
-use Rattle.std.specs.Prelude.{◌≡◌, ◌≤◌, ◌⊎◌, ℕ, None, Some}
+use Rattle.std.specs.Prelude.{◌≡◌, ◌≤◌, ◌⊎◌, ℕ, Some}
 use Rattle.session.specs.Outcomes.{IsOut}
 use Rattle.session.specs.Pauses.{KeepsPace}
 use Rattle.session.specs.declared.claim.Claim.{Claim}
@@ -17,8 +17,7 @@ pub record IsOnSame (old new : Claim) : Type 0 where
   pub over : new.over ≡ old.over
   pub paced : KeepsPace old new
 
--- It is also the same lock, asked for by the same command. What was asked for stays asked for. The images count as others only if they are those that were
--- opened last; and the slot of that command is the same, unless it is one of the images before.
+-- It is also the same lock, asked for by the same command, at the same slot. What was asked for stays asked for.
 pub record Keeps (old new : Claim) : Type 0 where
   pub host : new.host ≡ old.host
   pub shares : new.shares ≡ old.shares
@@ -29,17 +28,14 @@ pub record Keeps (old new : Claim) : Type 0 where
   pub paced : KeepsPace old new
   pub lock : new.lock ≡ old.lock
   pub asked : new.asked ≡ old.asked
-  pub slot : (new.slot ≡ old.slot) ⊎ (new.slot ≡ None)
-  pub newest : new.newest ≡ old.newest
-  pub set : (new.set ≡ old.set) ⊎ (new.set ≡ old.newest)
+  pub slot : new.slot ≡ old.slot
   pub unasked : new.standing ≡ Unasked → old.standing ≡ Unasked
 
--- This release of the lock may be in the log of the same images, with the same value. As much was learned before it.
+-- This release of the lock may be in the log, with the same value. As much was learned before it.
 pub record IsStillKnown (request : ℕ) (old new : Claim) : Type 0 where
   pub release : new.release ≡ Some request
   pub value : new.value ≡ old.value
   pub since : new.since ≡ old.since
-  pub set : new.set ≡ old.set
 
 -- A release that may be in the log stays known.
 abbrev pub KeepsRelease : Claim → Claim → Type 0

@@ -1,5 +1,5 @@
 -- What changes in a claim: nothing but what is named here.
-use Rattle.std.specs.Prelude.{◌≡◌, ◌+◌, ◌==◌, ◌⊎◌, ℕ, Bool, Option, Some, None, is_some, true, max, if◌then◌else◌}
+use Rattle.std.specs.Prelude.{◌≡◌, ◌+◌, ◌⊎◌, ℕ, Bool, Option, Some, None, is_some, true, max}
 use Rattle.session.specs.Choosing.{IsFree, IsNext}
 use Rattle.session.specs.Outcomes.{EndsIn, IsOut}
 use Rattle.session.specs.Places.{place_of, upto}
@@ -44,24 +44,18 @@ IsSpent l c = (request : ℕ) → c.release ≡ Some request → IsOut l c (Some
 abbrev pub Forgets : Learned → Claim → Claim → Type 0
 Forgets l old new = IsSpent l old × GoesOn (record old { release = None }) new
 
--- the slot of the command that asked for the lock, if it is one of these images
-abbrev pub slot_in : ℕ → Claim → Option ℕ
-slot_in set c = if set == c.set then c.slot else None
-
 -- so many places come before what is submitted next: those that were learned, and those up to that command
 abbrev pub passed : Option ℕ → ℕ → ℕ
 passed None learned = learned
 passed (Some slot) learned = max learned (place_of (slot + 1))
 
--- The lock is released by a number that is chosen now, from what is learned of these images. A release before this one has no further effect.
+-- The lock is released by a number that is chosen now, from what is learned. A release before this one has no further effect.
 abbrev pub ReleasesAnew : Learned → Claim → Claim → Type 0
 ReleasesAnew l old new = IsSpent l old × IsNext l old.host old.request new.request × (new ≡ record old {
   standing = Leaving;
   release = Some new.request;
   request = new.request;
-  set = l.set;
-  slot = slot_in l.set old;
-  since = passed (slot_in l.set old) (upto l);
+  since = passed old.slot (upto l);
   step = new.step;
   tries = new.tries;
   pace = new.pace;
@@ -84,14 +78,13 @@ Chooses l old new = (choice : Choice) × IsFree l old.host old.shares old.reques
 abbrev pub AsksOn : Learned → Claim → Claim → Type 0
 AsksOn l old new = GoesOn old new ⊎ Chooses l old new
 
--- The lock has the number that was chosen, and is asked for by the request that goes with it, from what is learned of these images.
+-- The lock has the number that was chosen, and is asked for by the request that goes with it, from what is learned.
 abbrev pub Asks : Learned → Choice → Claim → Claim → Type 0
 Asks l choice old new = new ≡ record old {
   lock = choice.lock;
   standing = Asked;
   asked = Some choice.request;
   slot = None;
-  set = l.set;
   release = None;
   value = None;
   since = upto l;

@@ -1,5 +1,5 @@
 -- What has to be heard before an operation on a claim may end so.
-use Rattle.std.specs.Prelude.{◌≡◌, ◌≢◌, ◌≤◌, ◌⊎◌, ⊤, ℕ, Option, Some, None, not}
+use Rattle.std.specs.Prelude.{◌≡◌, ◌≤◌, ◌⊎◌, ⊤, ℕ, Option, Some, None, not}
 use Rattle.lock_command.specs.declared.command.Command.{Command}
 use Rattle.lock_command.specs.declared.command.Action.TheVariants.{Release}
 use Rattle.lock_command.specs.declared.reply.Answer.TheVariants as answer
@@ -53,19 +53,17 @@ TellsWhy c why = (outcome : Outcome) → EndsIn c outcome → why_of outcome ≡
 abbrev pub AsksAgain : Claim → Type 0
 AsksAgain c = (then_of c.step ≡ Some AskAgain)
 
--- The table of the folder that was opened last shows the lock, granted.
-pub record IsHeldIn (l : Learned) (c : Claim) : Type 0 where
-  pub newest : l.set ≡ c.newest
-  pub shown : Shows l.table.now c (Granted c.mode)
+-- The table shows the lock, granted.
+abbrev pub IsHeldIn : Learned → Claim → Type 0
+IsHeldIn l c = Shows l.table.now c (Granted c.mode)
 
--- The command that asked for the lock has no further effect: the client has gone on to a later one, or the log is full, or is one of other images.
+-- The command that asked for the lock has no further effect: the client has gone on to a later one, or the log is full.
 abbrev pub IsOut : Learned → Claim → Option ℕ → Type 0
 IsOut l c None = ⊤
-IsOut l c (Some request) = (l.set ≢ c.set) ⊎ IsFull l ⊎ HasHeard l.table.now (client_of c.host) request
+IsOut l c (Some request) = IsFull l ⊎ HasHeard l.table.now (client_of c.host) request
 
--- The table of the folder that was opened last lacks the lock, and it does not come into it any more.
+-- The table lacks the lock, and it does not come into it any more.
 pub record IsGone (l : Learned) (c : Claim) : Type 0 where
-  pub newest : l.set ≡ c.newest
   pub lacks : Lacks l.table.now c
   pub out : IsOut l c c.asked
 

@@ -1,6 +1,6 @@
 ghost use Rattle.std.specs.Prelude.{◌≡◌, ◌+◌, ◌≢◌, ◌≤◌, ◌^◌, ◌⊎◌, ◌↔◌, IfSome, IsTrue, None, Some, is_some, false, true};
 ghost use Rattle.lock_table.specs.declared.known_client.KnownClient.{KnownClient};
-ghost use Rattle.session.specs.Bounds.{ComesNearer, IsOpening, IsPause, MayPause, is_leaving, orders_left};
+ghost use Rattle.session.specs.Bounds.{ComesNearer, IsPause, MayPause, is_leaving, orders_left};
 ghost use Rattle.session.specs.Choosing.{IsFree};
 ghost use Rattle.session.specs.Moves.{Asks, AsksOn, BreaksOff, GoesOn, KeepsGoal, KeepsValue, MovesOn, TellsSlot};
 ghost use Rattle.session.specs.Evidence.{Knows};
@@ -174,7 +174,6 @@ impl Claim {
                 self.release = None;
                 self.value = None;
                 self.slot = None;
-                self.set = learned.set;
                 self.since = learned.upto();
                 self.pace.outrun = 0;
                 self.submit_ask(choice.request);
@@ -206,16 +205,15 @@ impl Claim {
         });
     }
 
-    /// Somebody else has the sign of life: of a number that was chosen, or, in a folder that was renewed, of this lock's number.
+    /// Somebody else has the sign of life of the number that was chosen.
     pub fn sign_is_held(&mut self, learned: &Learned<'_>)
+        ensures unheard { IsUnheard self.new }
         ensures nearer { ComesNearer self.old self.new }
         ensures again { (choice : Choice) → self.old.step ≡ Step.Signing choice →
             AsksOn learned.now (record self.old { standing = Standing.Unasked }) self.new }
-        ensures gone { IsOpening self.old.step → self.new ≡ record self.old { step = Step.Ended (Outcome.NotHeld Why.Gone) } }
-        ensures out_of_turn { ((choice : Choice) → self.old.step ≡ Step.Signing choice → ⊥) → (IsOpening self.old.step → ⊥) → BreaksOff self.old self.new }
+        ensures out_of_turn { ((choice : Choice) → self.old.step ≡ Step.Signing choice → ⊥) → BreaksOff self.old self.new }
         ensures goal { KeepsGoal self.old self.new }
         ensures value { KeepsValue self.old self.new }
-        ensures other { (IsOpening self.old.step → ⊥) → IsUnheard self.new }
         ensures same { IsOnSame self.old self.new }
     {
         match self.step {
@@ -223,9 +221,6 @@ impl Claim {
                 self.standing = Standing::Unasked;
                 self.ask_on(learned);
             }
-            Step::Opening | Step::OpeningToLook => self.step = Step::Ended(Outcome::NotHeld(
-                Why::Gone,
-            )),
             _ => self.break_off(),
         }
     }
@@ -250,7 +245,6 @@ impl Claim {
     /// The command stands in the log, and this was the reply to it.
     pub fn replied(&mut self, reply: &Reply, learned: &Learned<'_>)
         ensures borne_out { IsBorneOut learned.now self.new }
-        ensures follows { learned.now.set ≢ self.old.newest → IsUnheard self.new }
         ensures nearer { ComesNearer self.old self.new }
         ensures slot { self.new.slot ≡ self.old.slot ⊎ IfSome self.new.slot (IsSlotOf learned.now self.old) }
         ensures pauses { IsPause self.new.step → MayPause learned.now }
@@ -264,9 +258,6 @@ impl Claim {
         ensures keeps { Keeps self.old (record self.new { slot = self.old.slot }) }
         ensures release { KeepsReleaseUntilOut learned.now self.old self.new }
     {
-        if learned.set != self.newest {
-            return self.break_off();
-        }
         match self.step {
             Step::Submitting(_) if self.standing == Standing::Leaving => self.release_replied(
                 learned,
@@ -277,7 +268,6 @@ impl Claim {
     }
 
     fn ask_replied(&mut self, command: &Command, reply: &Reply, learned: &Learned<'_>)
-        requires newest { learned.now.set ≡ self.old.newest }
         ensures borne_out { IsBorneOut learned.now self.new }
         ensures soon { is_some self.old.over ≡ true → orders_left self.new ≤ 12 }
         ensures slot { self.new.slot ≡ self.old.slot ⊎ IfSome self.new.slot (AsksAt learned.now self.old command.now) }
@@ -312,7 +302,6 @@ impl Claim {
 
     /// Releases a lock that is another command's, and then asks again.
     fn give_over(&mut self, learned: &Learned<'_>)
-        requires newest { learned.now.set ≡ self.old.newest }
         ensures unheard { IsUnheard self.new }
         ensures soon { is_some self.old.over ≡ true → orders_left self.new ≤ 12 }
         ensures no_pause { IsPause self.new.step → ⊥ }
@@ -357,7 +346,6 @@ impl Claim {
 
     /// The command was not acknowledged. That a log without an end is full tells nothing of the command.
     pub(crate) fn submit_failed(&mut self, failure: Failure, learned: &Learned<'_>)
-        requires newest { learned.now.set ≡ self.old.newest }
         ensures borne_out { IsBorneOut learned.now self.new }
         ensures soon { is_some self.old.over ≡ true → is_leaving self.old.standing ≡ false → orders_left self.new ≤ 12 }
         ensures leaves { is_some self.old.over ≡ true → is_leaving self.old.standing ≡ true → orders_left self.new ≤ 1 + self.old.tries }
@@ -399,7 +387,6 @@ impl Claim {
 
     /// The log is full, and the command is not in it.
     fn meet_end(&mut self, learned: &Learned<'_>)
-        requires newest { learned.now.set ≡ self.old.newest }
         ensures borne_out { IsBorneOut learned.now self.new }
         ensures soon { is_some self.old.over ≡ true → orders_left self.new ≤ 12 }
         ensures leaves { is_some self.old.over ≡ true → is_leaving self.old.standing ≡ true → orders_left self.new ≡ 0 }

@@ -40,12 +40,10 @@ impl Claim {
             standing: Standing::Unasked,
             asked: None,
             slot: None,
-            set: 0,
             release: None,
             value: None,
             request: asker.request,
             since: 0,
-            newest: 0,
             goal: Goal::Take { waits },
             step: Step::Opening,
             over: None,
@@ -54,14 +52,14 @@ impl Claim {
         }
     }
 
-    /// A lock that a former run of the host number left, with its sign of life, in these images.
-    pub fn left(host: HostNumber, lock: LockNumber, name: LockName, mode: Mode, set: u64) -> Claim
+    /// A lock that a former run of the host number left, with its sign of life.
+    pub fn left(host: HostNumber, lock: LockNumber, name: LockName, mode: Mode) -> Claim
         ensures lock { result.lock ≡ lock }
         ensures standing { result.standing ≡ Standing.Left }
-        ensures of { (result.host ≡ host) × (result.shares ≡ false) × (result.name ≡ name) × (result.mode ≡ mode) × (result.set ≡ set) }
+        ensures of { (result.host ≡ host) × (result.shares ≡ false) × (result.name ≡ name) × (result.mode ≡ mode) }
         ensures idle { result.step ≡ Step.Ended (Outcome.Failed Why.Waits) }
         ensures unknown { (result.asked ≡ None) × (result.slot ≡ None) × (result.release ≡ None) }
-        ensures nothing { (result.value ≡ None) × (result.over ≡ None) × (result.since ≡ 0) × (result.newest ≡ 0) × (result.request ≡ 0) }
+        ensures nothing { (result.value ≡ None) × (result.over ≡ None) × (result.since ≡ 0) × (result.request ≡ 0) }
     {
         let asker = Asker {
             host,
@@ -72,7 +70,6 @@ impl Claim {
         Claim {
             lock,
             standing: Standing::Left,
-            set,
             step: Step::Ended(Outcome::Failed(Why::Waits)),
             ..Claim::take(&asker, name, mode, true)
         }

@@ -94,8 +94,6 @@ pub struct Claim {
     pub asked: Option<RequestNumber>,
     /// At which place of the log that request's command stands, if a reply told.
     pub slot: Option<u64>,
-    /// The images of which this slot is one.
-    pub set: u64,
     /// The release of it that may be in the log.
     pub release: Option<RequestNumber>,
     /// What that release stores.
@@ -104,8 +102,6 @@ pub struct Claim {
     pub request: u64,
     /// So many places come before whatever was submitted by that: those learned when it was chosen, and those up to the command that asked for the lock.
     pub since: u64,
-    /// The images that were opened last.
-    pub newest: u64,
     pub goal: Goal,
     pub step: Step,
     /// Why the operation is to end soon.

@@ -17,25 +17,25 @@ impl Claim {
     pub fn opened(&mut self, learned: &Learned<'_>)
         ensures borne_out { IsBorneOut learned.now self.new }
         ensures nearer { ComesNearer self.old self.new }
-        ensures moves { MovesOn learned.now (record self.old { newest = learned.now.set }) self.new }
+        ensures moves { MovesOn learned.now self.old self.new }
         ensures goal { KeepsGoal self.old self.new }
         ensures value { KeepsValue self.old self.new }
-        ensures keeps { Keeps (record self.old { newest = learned.now.set }) self.new }
+        ensures keeps { Keeps self.old self.new }
         ensures release { KeepsReleaseUntilOut learned.now self.old self.new }
     {
         let learns_first = self.shares && self.release.is_none();
         match self.step {
             Step::Opening if self.standing == Standing::Leaving && !learns_first => {
                 // A release that may be in the log is put there once more, and found where it stands: so nothing is learned before.
-                self.reach(learned.set);
+                self.reach();
                 self.let_go(learned);
             }
-            _ => self.opened_unread(learned.set),
+            _ => self.opened_unread(),
         }
     }
 
-    /// The folder with these images is open, and its host does not know the table yet.
-    pub fn opened_unread(&mut self, set: u64)
+    /// The folder is open, and its host does not know the table yet.
+    pub fn opened_unread(&mut self)
         ensures unheard { IsUnheard self.new }
         // The log is read next, unless the operation is to end soon. A lock that is to be released is looked for all the same.
         ensures reads { IsOpening self.old.step → self.old.over ≡ None → IsReading self.new.step }
@@ -43,13 +43,13 @@ impl Claim {
         ensures told { (why : Why) → IsOpening self.old.step → self.old.over ≡ Some why → self.old.standing ≢ Standing.Leaving → TellsWhy self.new why }
         ensures out_of_turn { (IsOpening self.old.step → ⊥) → EndsIn self.new (Outcome.InDoubt (Why.Failed Failure.Broken)) }
         ensures nearer { ComesNearer self.old self.new }
-        ensures moves { GoesOn (record self.old { newest = set }) self.new }
+        ensures moves { GoesOn self.old self.new }
         ensures goal { KeepsGoal self.old self.new }
         ensures value { KeepsValue self.old self.new }
-        ensures keeps { Keeps (record self.old { newest = set }) self.new }
+        ensures keeps { Keeps self.old self.new }
         ensures release { KeepsRelease self.old self.new }
     {
-        self.reach(set);
+        self.reach();
         match self.step {
             Step::Opening => self.talk(),
             Step::OpeningToLook => self.look(),
@@ -57,11 +57,10 @@ impl Claim {
         }
     }
 
-    /// The images that are open now.
-    fn reach(&mut self, set: u64)
-        ensures { self.new ≡ record self.old { newest = set; pace = record self.old.pace { failure = None } } }
+    /// The images can be opened: whatever failed there before is over.
+    fn reach(&mut self)
+        ensures { self.new ≡ record self.old { pace = record self.old.pace { failure = None } } }
     {
-        self.newest = set;
         self.pace.failure = None;
     }
 
@@ -114,7 +113,6 @@ impl Claim {
     /// What was ordered is done, and so much is learned by now.
     pub fn learned(&mut self, learned: &Learned<'_>)
         ensures borne_out { IsBorneOut learned.now self.new }
-        ensures follows { learned.now.set ≢ self.old.newest → IsUnheard self.new }
         ensures nearer { ComesNearer self.old self.new }
         ensures pauses { IsPause self.new.step → MayPause learned.now }
         ensures moves { MovesOn learned.now self.old self.new ⊎ Chooses learned.now self.old self.new }
@@ -129,11 +127,10 @@ impl Claim {
         }
     }
 
-    /// The log is read, unless it is one of other images than those that were opened last: then the folder was renewed.
+    /// The log is read.
     fn read(&mut self, learned: &Learned<'_>)
         requires reads { IsReading self.old.step }
         ensures borne_out { IsBorneOut learned.now self.new }
-        ensures follows { learned.now.set ≢ self.old.newest → IsUnheard self.new }
         ensures nearer { ComesNearer self.old self.new }
         ensures pauses { IsPause self.new.step → MayPause learned.now }
         ensures moves { MovesOn learned.now self.old self.new ⊎ Chooses learned.now self.old self.new }
@@ -142,9 +139,6 @@ impl Claim {
         ensures keeps { Keeps self.old self.new }
         ensures release { KeepsReleaseUntilOut learned.now self.old self.new }
     {
-        if learned.set != self.newest {
-            return self.follow();
-        }
         self.pace.hear(learned.upto());
         match self.step {
             Step::Learning | Step::Looking if self.standing == Standing::Leaving => self.let_go(
@@ -153,24 +147,6 @@ impl Claim {
             _ if self.standing == Standing::Unasked => self.seek(learned),
             Step::Learning if self.over.is_none() => self.step = Step::Tidying,
             _ => self.judge(learned),
-        }
-    }
-
-    /// What was opened last is not what is heard now: the folder is opened anew.
-    fn follow(&mut self)
-        ensures unheard { IsUnheard self.new }
-        ensures soon { is_some self.old.over ≡ true → orders_left self.new ≤ 12 }
-        ensures leaves { is_some self.old.over ≡ true → is_leaving self.old.standing ≡ true → orders_left self.new ≡ 0 }
-        ensures no_pause { IsPause self.new.step → ⊥ }
-        ensures moves { GoesOn self.old self.new }
-        ensures goal { KeepsGoal self.old self.new }
-        ensures value { KeepsValue self.old self.new }
-        ensures keeps { Keeps self.old self.new }
-        ensures release { KeepsRelease self.old self.new }
-    {
-        match self.over {
-            Some(why) => self.give_up(why),
-            None => self.step = Step::Opening,
         }
     }
 
@@ -199,7 +175,6 @@ impl Claim {
 
     /// Looks in the table for the lock that was asked for.
     fn judge(&mut self, learned: &Learned<'_>)
-        requires newest { learned.now.set ≡ self.old.newest }
         ensures borne_out { IsBorneOut learned.now self.new }
         ensures soon { is_some self.old.over ≡ true → orders_left self.new ≤ 12 }
         ensures pauses { IsPause self.new.step → MayPause learned.now }
@@ -241,9 +216,7 @@ impl Claim {
     {
         match request {
             Some(request) => {
-                learned.set != self.set
-                    || learned.is_full()
-                    || has_heard(learned.table, client_of(self.host), request.get())
+                learned.is_full() || has_heard(learned.table, client_of(self.host), request.get())
             }
             None => true,
         }
@@ -303,7 +276,11 @@ impl Claim {
         ensures keeps { Keeps self.old self.new }
         ensures release { KeepsRelease self.old self.new }
     {
-        if !learned.is_full() && (learned.left_over || self.pace.is_quiet(self.lock.get())) {
+        // No lock of a full log is granted any more.
+        if learned.is_full() {
+            return self.give_up(Why::Failed(Failure::LogFull));
+        }
+        if learned.left_over || self.pace.is_quiet(self.lock.get()) {
             self.pace.wake();
             self.step = Step::Opening;
         } else {
@@ -423,12 +400,8 @@ impl Claim {
         ensures told { IsReading self.old.step → self.old.over ≡ None → TellsWhy self.new (Why.Failed failure) }
     {
         match self.step {
-            Step::Submitting(_) if learned.set == self.newest => self.submit_failed(
-                failure, learned,
-            ),
-            Step::Learning | Step::Looking | Step::Tidying | Step::Submitting(_) => self.fail(
-                failure,
-            ),
+            Step::Submitting(_) => self.submit_failed(failure, learned),
+            Step::Learning | Step::Looking | Step::Tidying => self.fail(failure),
             _ => self.break_off(),
         }
     }

@@ -9,8 +9,6 @@ use lock_table::Picture;
 /// its slots.
 #[derive(Clone, Copy, Drop)]
 pub struct Learned<'a> {
-    /// The number of the folder's images. A renewal gives another one.
-    pub set: u64,
     /// The place of the first command that is known: of `before`, or where that is empty of `log`.
     pub first: u64,
     /// The commands of the epoch before the newest one, all of them; none where they are not known, and of a log that ends.

@@ -2,7 +2,7 @@ ghost use Rattle.std.specs.Prelude.{◌≡◌, ◌+◌, ◌≤◌, ◌⊎◌, If
 ghost use Rattle.session.specs.Bounds.{IsPause, is_leaving, orders_left};
 ghost use Rattle.session.specs.Choosing.{IsNext};
 ghost use Rattle.session.specs.Keeping.{Keeps, KeepsRelease, KeepsReleaseUntilOut};
-ghost use Rattle.session.specs.Moves.{Forgets, GoesOn, IsSpent, KeepsGoal, KeepsValue, MovesOn, ReleasesAnew, passed, slot_in};
+ghost use Rattle.session.specs.Moves.{Forgets, GoesOn, IsSpent, KeepsGoal, KeepsValue, MovesOn, ReleasesAnew, passed};
 ghost use Rattle.session.specs.Outcomes.{EndsIn, GivesBack, IsBorneOut, IsGivenUpFor, IsGone, IsUnheard, IsWithout, IsWithoutOrGiven};
 
 use crate::claim::{Claim, Goal, Standing, Step, Then};
@@ -16,7 +16,6 @@ use lock_table::Refusal;
 impl Claim {
     /// Releases the lock: by the command that may be in the log, where there is one, else by a new one, unless the lock is gone.
     pub(crate) fn let_go(&mut self, learned: &Learned<'_>)
-        requires newest { learned.now.set ≡ self.old.newest }
         requires leaving { self.old.standing ≡ Standing.Leaving }
         ensures borne_out { IsBorneOut learned.now self.new }
         ensures soon { orders_left self.new ≤ 2 + self.old.tries }
@@ -27,8 +26,7 @@ impl Claim {
         ensures keeps { Keeps self.old self.new }
         ensures release { KeepsReleaseUntilOut learned.now self.old self.new }
     {
-        let may_be_there = self.release.is_some() && self.set == learned.set;
-        if !may_be_there && self.is_gone(learned) {
+        if self.release.is_none() && self.is_gone(learned) {
             self.drop_sign(learned, self.then_gone());
         } else {
             self.put_release(learned);
@@ -37,7 +35,6 @@ impl Claim {
 
     /// Releases the lock: by the command that may be in the log, where there is one, else by a new one.
     pub(crate) fn put_release(&mut self, learned: &Learned<'_>)
-        requires newest { learned.now.set ≡ self.old.newest }
         requires leaving { self.old.standing ≡ Standing.Leaving }
         ensures unheard { IsUnheard self.new }
         ensures soon { orders_left self.new ≤ 2 + self.old.tries }
@@ -49,14 +46,13 @@ impl Claim {
         ensures release { KeepsReleaseUntilOut learned.now self.old self.new }
     {
         match self.release {
-            Some(request) if self.set == learned.set => self.submit_release(request),
-            _ => self.release_anew(learned),
+            Some(request) => self.submit_release(request),
+            None => self.release_anew(learned),
         }
     }
 
     /// Whether the table lacks the lock, and that does not come into it any more.
     fn is_gone(&self, learned: &Learned<'_>) -> bool
-        requires newest { learned.now.set ≡ self.now.newest }
         ensures { IsTrue result → IsGone learned.now self.now }
     {
         find(learned.table, self) == Seen::Absent && self.is_out(learned, self.asked)
@@ -64,7 +60,6 @@ impl Claim {
 
     /// Releases the lock by the next request. A release before this one has no further effect.
     fn release_anew(&mut self, learned: &Learned<'_>)
-        requires newest { learned.now.set ≡ self.old.newest }
         requires out { IsSpent learned.now self.old }
         requires leaving { self.old.standing ≡ Standing.Leaving }
         ensures unheard { IsUnheard self.new }
@@ -79,9 +74,7 @@ impl Claim {
         self.release = None;
         match self.next_request(learned) {
             Some(request) => {
-                self.slot = self.slot_in(learned.set);
                 self.since = passed(self.slot, learned.upto());
-                self.set = learned.set;
                 self.request = request.get();
                 self.pace.outrun = 0;
                 self.submit_release(request);
@@ -95,13 +88,6 @@ impl Claim {
         ensures { IfSome result (IsNext learned.now self.now.host self.now.request) }
     {
         RequestNumber::new(self.last_request(learned) + 1)
-    }
-
-    /// Where the command stands that asked for the lock, if that is known and is in the log of these images.
-    fn slot_in(&self, set: u64) -> Option<u64>
-        ensures { result ≡ slot_in set self.now }
-    {
-        if set == self.set { self.slot } else { None }
     }
 
     pub(crate) fn submit_release(&mut self, request: RequestNumber)
@@ -126,7 +112,6 @@ impl Claim {
 
     /// A release stands in the log.
     pub(crate) fn release_replied(&mut self, learned: &Learned<'_>)
-        requires newest { learned.now.set ≡ self.old.newest }
         requires leaving { self.old.standing ≡ Standing.Leaving }
         ensures borne_out { IsBorneOut learned.now self.new }
         ensures soon { orders_left self.new ≤ 1 + self.old.tries }

@@ -39,6 +39,7 @@ impl Digest {
             Answer::Queued => self.add(2),
             Answer::Released => self.add(3),
             Answer::Cancelled => self.add(4),
+            Answer::Forgotten => self.add(5),
             Answer::Purged(count) => self.add(0x100 + u64::from(count)),
             Answer::State(state) => self.add(state_word(state)),
             Answer::Refused(refusal) => self.add(0x30_000 + u64::from(refusal.number())),

@@ -13,6 +13,6 @@ returns-in-Err c = record {
   moves = inr (
     c.in-Err.fault,
     c.in-Err.ensures.lacks,
-    subst (λ (failed : Failure). MovesUnread c.of-event.result c.args.host.now.cluster failed c.args.claim.now c.hear_unread.new.claim) c.unread.ensures c.hear_unread.ensures,
+    subst (λ (failed : Failure). MovesUnread c.of-event.result failed c.args.claim.now c.hear_unread.new.claim) c.unread.ensures c.hear_unread.ensures,
   );
 }

@@ -20,7 +20,6 @@ pub returns-in-Learned : goal.returns-in-Learned
 returns-in-Learned c =
     let moved : Learns c.args.learned.now c.args.claim.now c.learned.new.self = record {
       borne_out = c.learned.ensures.borne_out;
-      follows = c.learned.ensures.follows;
       nearer = c.learned.ensures.nearer;
       pauses = c.learned.ensures.pauses;
       moves = c.learned.ensures.moves;
@@ -35,7 +34,6 @@ pub returns-in-Replied : goal.returns-in-Replied
 returns-in-Replied c =
     let moved : IsReplied c.in-Replied.reply c.args.learned.now c.args.claim.now c.replied.new.self = record {
       borne_out = c.replied.ensures.borne_out;
-      follows = c.replied.ensures.follows;
       nearer = c.replied.ensures.nearer;
       slot = c.replied.ensures.slot;
       pauses = c.replied.ensures.pauses;
@@ -79,13 +77,12 @@ returns-in-Signed c =
 pub returns-in-SignHeld : goal.returns-in-SignHeld
 returns-in-SignHeld c =
     let moved : MeetsSign c.args.learned.now c.args.claim.now c.sign_is_held.new.self = record {
+      unheard = c.sign_is_held.ensures.unheard;
       nearer = c.sign_is_held.ensures.nearer;
       again = c.sign_is_held.ensures.again;
-      gone = c.sign_is_held.ensures.gone;
       out_of_turn = c.sign_is_held.ensures.out_of_turn;
       goal = c.sign_is_held.ensures.goal;
       value = c.sign_is_held.ensures.value;
-      other = c.sign_is_held.ensures.other;
       same = c.sign_is_held.ensures.same;
     } in
     rw c.in-SignHeld.is moved

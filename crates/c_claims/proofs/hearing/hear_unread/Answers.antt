@@ -1,22 +1,27 @@
 -- The claim makes the move that belongs to the event, without a table.
-use Rattle.std.proofs.Common.{◌≡◌, ◌⊎◌, ℕ, inl, inr, subst, sym}
+use Rattle.std.proofs.Common.{◌≡◌, ◌⊎◌, inl, inr, subst, sym}
 use Rattle.lock_command.specs.declared.reply.Reply.{Reply}
 use Rattle.session.specs.declared.claim.Claim.{Claim}
 use Rattle.session.specs.declared.outcome.Failure.{Failure}
 use Rattle.session.specs.declared.outcome.Failure.TheVariants.{Broken}
 use Rattle.c_claims.specs.declared.event.Event.{Event}
-use Rattle.c_claims.specs.declared.event.Event.TheVariants.{Learned, Replied}
+use Rattle.c_claims.specs.declared.event.Event.TheVariants.{Learned, Replied, SignHeld, Signed}
 use Rattle.c_claims.specs.Hearing.{Closes, DropsUnread, IsRefusedUnread, MovesUnread, OpensUnread}
 use Rattle.c_claims.proofs.hearing.hear_unread.Goals as goal
 
-refused_so : (event : Event) (set : ℕ) (unread : Failure) (old new : Claim) →
-    (event ≡ Learned) ⊎ ((reply : Reply) × (event ≡ Replied reply)) → IsRefusedUnread unread old new → MovesUnread event set unread old new
-refused_so event set unread old new (inl is) refused = subst (λ (e : Event). MovesUnread e set unread old new) (sym is) refused
-refused_so event set unread old new (inr is) refused = subst (λ (e : Event). MovesUnread e set unread old new) (sym is.1) refused
+refused_so : (event : Event) (unread : Failure) (old new : Claim) →
+    (event ≡ Learned) ⊎ ((reply : Reply) × (event ≡ Replied reply)) → IsRefusedUnread unread old new → MovesUnread event unread old new
+refused_so event unread old new (inl is) refused = subst (λ (e : Event). MovesUnread e unread old new) (sym is) refused
+refused_so event unread old new (inr is) refused = subst (λ (e : Event). MovesUnread e unread old new) (sym is.1) refused
+
+closes_so : (event : Event) (unread : Failure) (old new : Claim) →
+    (event ≡ Signed) ⊎ (event ≡ SignHeld) → Closes unread old new → MovesUnread event unread old new
+closes_so event unread old new (inl is) closes = subst (λ (e : Event). MovesUnread e unread old new) (sym is) closes
+closes_so event unread old new (inr is) closes = subst (λ (e : Event). MovesUnread e unread old new) (sym is) closes
 
 pub returns-in-Opened : goal.returns-in-Opened
 returns-in-Opened c =
-    let moved : OpensUnread c.args.set c.args.claim.now c.opened_unread.new.self = record {
+    let moved : OpensUnread c.args.claim.now c.opened_unread.new.self = record {
       unheard = c.opened_unread.ensures.unheard;
       reads = c.opened_unread.ensures.reads;
       leaves = c.opened_unread.ensures.leaves;
@@ -45,7 +50,7 @@ returns-in-Learned c =
       yields = c.refused_unread.ensures.yields;
       out_of_turn = c.refused_unread.ensures.out_of_turn;
     } in
-    refused_so c.args.event c.args.set c.args.unread c.args.claim.now c.refused_unread.new.self c.in-Learned.is moved
+    refused_so c.args.event c.args.unread c.args.claim.now c.refused_unread.new.self c.in-Learned.is moved
 
 pub returns-in-Refused : goal.returns-in-Refused
 returns-in-Refused c =
@@ -75,7 +80,7 @@ returns-in-Signed c =
       release = c.closed.ensures.release;
       told = c.closed.ensures.told;
     } in
-    rw c.in-Signed.is moved
+    closes_so c.args.event c.args.unread c.args.claim.now c.closed.new.self c.in-Signed.is moved
 
 pub returns-in-SignDropped : goal.returns-in-SignDropped
 returns-in-SignDropped c =

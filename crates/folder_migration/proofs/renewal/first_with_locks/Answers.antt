@@ -1,5 +1,5 @@
 use Rattle.std.proofs.Common.{◌≡◌, ◌<◌, Some, true, false, get_or, length, sym, ap, ◌∙◌, arith, rules}
-use Rattle.lock_table.specs.Carrying.{has_locks}
+use Rattle.lock_table.specs.Apply.{has_locks}
 use Rattle.folder_migration.proofs.Renewing.{first_more, none_more}
 use Rattle.folder_migration.proofs.renewal.first_with_locks.Goals as goal
 

@@ -1,5 +1,5 @@
 use Rattle.std.proofs.Common.{◌≡◌, None, find, take}
-use Rattle.lock_table.specs.Carrying.{has_locks}
+use Rattle.lock_table.specs.Apply.{has_locks}
 use Rattle.folder_migration.proofs.renewal.first_with_locks.Given as goal
 
 -- none so far

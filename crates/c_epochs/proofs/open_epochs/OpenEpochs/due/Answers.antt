@@ -1,6 +1,7 @@
 use Rattle.std.proofs.Common.{rules, ◌∙◌, ◌<◌, ◌≡◌, ℕ, ℤ, inl, sym, subst, w32}
 use Rattle.std.proofs.lemmas.Int.{to_z-of_z}
 use Rattle.disk.specs.Disk.{Call}
+use Rattle.attempt.specs.Looking.{OnlyReads}
 use Rattle.epoch_host.specs.Walking.{call_due}
 use Rattle.c_host.specs.Numbers.{done}
 use Rattle.c_epochs.specs.Calls.{TellsCallDue}
@@ -21,3 +22,8 @@ pub returns-clause-within : goal.returns-clause-within
 returns-clause-within c = λ is_done.
     let told : c.tell.result ≡ done = sym (to_z-of_z w32 c.tell.result (search rules)) ∙ is_done in
     record { disk = subst (λ (n : ℕ). n < c.args.self.now.host.config.disks) (sym (c.tell.ensures.disk told)) c.call.ensures.disk; range = c.tell.ensures.within told _ c.call.ensures.range }
+
+pub returns-clause-reads : goal.returns-clause-reads
+returns-clause-reads c = λ only is_done.
+    let told : c.tell.result ≡ done = sym (to_z-of_z w32 c.tell.result (search rules)) ∙ is_done in
+    c.tell.ensures.reads (subst (λ (d : ℕ × Call). OnlyReads d.1) (sym c.call.ensures.due) (c.call.ensures.reads only)) told
