@@ -46,12 +46,17 @@ glibc=$(sed -n 's/.*GNU C library \([0-9.]*\) .*/\1/p' <<< "$runs")
 
 DESTDIR=$package PREFIX=/usr "$archive/install.sh" > /dev/null
 
-# What Debian wants otherwise: programs without symbols, but for dlm, which stays byte for byte what was proved and built; compressed manual pages; a page on
+# What Debian wants otherwise: programs without symbols, but for those that stay byte for byte what was proved and built; compressed manual pages; a page on
 # rights; and the changes, of the package and of what is in it.
-strip --strip-unneeded -- "$package/usr/bin/"{mg-lock,dlm-shared,dlm-mount} "$package/usr/lib/libmidgegalena.so.$version"
-if readelf -S "$package/usr/bin/dlm" | grep -q ' \.symtab '; then
+strip --strip-unneeded -- "$package/usr/bin/"{mg,mg-lock,dlm-shared,dlm-mount} "$package/usr/lib/libmidgegalena.so.$version"
+overrides=
+for proved in usr/bin/dlm usr/libexec/midgegalena/mg-folder; do
+    [[ -f $package/$proved ]] && readelf -S "$package/$proved" | grep -q ' \.symtab ' || continue
+    overrides+=$'# It is byte for byte what was proved and built.\n'"midgegalena: unstripped-binary-or-object [$proved]"$'\n'
+done
+if [[ -n $overrides ]]; then
     mkdir -p -- "$package/usr/share/lintian/overrides"
-    printf '# It is byte for byte what was proved and built.\nmidgegalena: unstripped-binary-or-object [usr/bin/dlm]\n' > "$package/usr/share/lintian/overrides/midgegalena"
+    printf '%s' "$overrides" > "$package/usr/share/lintian/overrides/midgegalena"
 fi
 find "$package/usr/share/man" -type f -exec gzip -9n -- {} +
 gzip -9nc -- "$doc/CHANGES.md" > "$doc/changelog.gz"
@@ -71,6 +76,7 @@ END
 [[ $version =~ ^0\.[0-9]+|^[0-9]+ ]]
 echo "libmidgegalena ${BASH_REMATCH[0]} midgegalena (>= $version)" > "$package/DEBIAN/shlibs"
 echo "activate-noawait ldconfig" > "$package/DEBIAN/triggers"
+# Debian's package mg is an editor, with a program and a manual page of that name.
 cat > "$package/DEBIAN/control" << END
 Package: midgegalena
 Version: $full
@@ -79,11 +85,12 @@ Maintainer: none given <nobody@none.invalid>
 Section: admin
 Priority: optional
 Depends: libc6 (>= $glibc)
+Conflicts: mg
 Suggests: python3
 Installed-Size: $(find "$package/usr" -type f -printf '%s\n' | awk '{ sum += int(($1 + 1023) / 1024) } END { print sum }')
 Description: lock manager for hosts that share disks and nothing else
  Programs take locks on names, in six modes. The locks are kept in images on one
- to seven disks, with no network, no clock and no daemon. mg-lock runs a command
+ to seven disks, with no network, no clock and no daemon. mg lock runs a command
  under a lock; the library libmidgegalena is for programs.
  .
  The log and the lock table are proved. docs in /usr/share/doc/midgegalena say

@@ -15,9 +15,9 @@ version=$(<"$top/VERSION")
 # What a program is linked with. Below 1.0 each minor number may change it.
 [[ $version =~ ^0\.[0-9]+|^[0-9]+ ]]
 abi=${BASH_REMATCH[0]}
-is_archive=1 dlm=bin/dlm headers=include libraries=lib programs=bin
+is_archive=1 dlm=bin/dlm headers=include libraries=lib programs=bin folder=libexec/midgegalena/mg-folder
 if [[ ! -f $top/BUILT ]]; then
-    is_archive=0 dlm=crates/dlm/out/dlm headers=capi/include libraries=capi/out programs=capi/out
+    is_archive=0 dlm=crates/dlm/out/dlm headers=capi/include libraries=capi/out programs=capi/out folder=capi/out/mg-folder
 fi
 
 # Calls its first word with each file: from, to, mode. Of a link the second word is what it leads to, and the mode is `link`.
@@ -36,12 +36,15 @@ each_of_library() {
     [[ $abi == "$version" ]] || "$1" "libmidgegalena.so.$version" "lib/libmidgegalena.so.$abi" link
     "$1" "libmidgegalena.so.$abi" lib/libmidgegalena.so link
     "$1" "$libraries/midgegalena.pc" lib/pkgconfig/midgegalena.pc 644
-    for name in mg-lock dlm-shared dlm-mount; do
+    for name in mg mg-lock dlm-shared dlm-mount; do
         "$1" "$programs/$name" "bin/$name" 755
     done
-    for name in midgegalena.3 mg_session.3 mg-lock.1 dlm-shared.1 dlm-mount.8; do
+    # To be taken out it need not be here.
+    [[ $1 == put && ! -f $top/$folder ]] || "$1" "$folder" libexec/midgegalena/mg-folder 755
+    for name in midgegalena.3 mg_session.3 mg.1 mg-lock.1 dlm-shared.1 dlm-mount.8; do
         "$1" "man/$name" "share/man/man${name##*.}/$name" 644
     done
+    completions_of "$1" mg
     completions_of "$1" mg-lock
     completions_of "$1" dlm-shared
 }
@@ -106,7 +109,7 @@ build() {
 
 install_library() {
     if [[ $is_archive -eq 0 && ! -f $top/capi/out/made ]]; then
-        echo "install.sh: without the library for C, mg-lock, dlm-shared and dlm-mount, which capi/build.sh builds" >&2
+        echo "install.sh: without the library for C, mg, mg-lock, dlm-shared and dlm-mount, which capi/build.sh builds" >&2
         return
     fi
     [[ $is_archive -eq 1 ]] || "$top/capi/build.sh" "$prefix"

@@ -1,6 +1,7 @@
 #!/usr/bin/env bash
-# Makes libmidgegalena.a, libmidgegalena.so.VERSION, mg-lock, dlm-shared, dlm-mount and midgegalena.pc in capi/out, where they are not newer than all that they
-# are made of. Proves crates/dlm_c, and what stands below it, first, unless what was proved here is still there and newest.
+# Makes libmidgegalena.a, libmidgegalena.so.VERSION, mg, mg-lock, dlm-shared, dlm-mount and midgegalena.pc in capi/out, where they are not newer than all that
+# they are made of. Proves crates/dlm_c, and what stands below it, first, unless what was proved here is still there and newest. So also crates/mg, where there is
+# one: that program is mg-folder.
 # In capi/out/made are the sums of what it made, by which release.sh knows these files.
 #   capi/build.sh [PREFIX]     where they will be installed, /usr/local if it is left out
 set -euo pipefail
@@ -13,7 +14,8 @@ version=$(<"$top/VERSION")
 [[ $version =~ ^0\.[0-9]+|^[0-9]+ ]]
 abi=${BASH_REMATCH[0]}
 cc=${CC:-cc}
-made=(libmidgegalena.a "libmidgegalena.so.$version" mg-lock dlm-shared dlm-mount)
+made=(libmidgegalena.a "libmidgegalena.so.$version" mg mg-lock dlm-shared dlm-mount)
+[[ ! -d $top/crates/mg ]] || made+=(mg-folder)
 source "$top/build.sh"
 answer_words show_head "$@"
 
@@ -38,7 +40,8 @@ is_made() {
         [[ -f $out/$file ]] || return 1
     done
     find_sources dlm_c
-    newer=$(find "${sources[@]}" "$here"/{include,src,examples/dlm-mount} "$here/build.sh" "$top/VERSION" -newer "$out/libmidgegalena.a" -print -quit) && [[ -z $newer ]]
+    newer=$(find "${sources[@]}" "$here"/{include,src,examples/dlm-mount} "$here/build.sh" "$top/VERSION" -newer "$out/libmidgegalena.a" -print -quit) && [[ -z $newer ]] || return 1
+    [[ ! -d $top/crates/mg ]] || { is_newest "$top/crates/mg/out/mg" mg && cmp -s -- "$top/crates/mg/out/mg" "$out/mg-folder"; }
 }
 
 # The archive gets the time at which its proof began.
@@ -58,6 +61,12 @@ prove() {
     note_proved dlm_c libdlm_c.a "$made_of"
 }
 
+# The program of crates/mg, as ./dlm proves and builds its own.
+prove_folder() {
+    ensure_built mg
+    cp -- "$top/crates/mg/out/mg" "$out/mg-folder.new" && mv -- "$out/mg-folder.new" "$out/mg-folder"
+}
+
 mkdir -p -- "$out"
 if is_made; then
     write_pc
@@ -67,6 +76,7 @@ command -v rt > /dev/null || fail "to prove and build the library there has to b
 # The kit's C code: its heap, its errno.
 kit=$(dirname -- "$(dirname -- "$(readlink -f -- "$(command -v rt)")")")/c
 prove
+[[ ! -d $top/crates/mg ]] || prove_folder
 for part in midgegalena format mg_session device; do
     "$cc" -std=c99 -O2 -fPIC -Wall -Wextra -pedantic ${CFLAGS:-} -I "$here/include" -c "$here/src/$part.c" -o "$out/$part.o"
 done
@@ -80,6 +90,7 @@ rm -f -- "$out"/libmidgegalena.*
 ar rcs "$out/libmidgegalena.a" "$out/whole.o"
 "$cc" -shared -Wl,-soname,"libmidgegalena.so.$abi" -Wl,-z,defs,-z,relro,-z,now ${CFLAGS:-} -o "$out/libmidgegalena.so.$version" "$out/whole.o"
 "$cc" -std=c99 -O2 -Wall -Wextra -pedantic ${CFLAGS:-} -I "$here/include" "$here/src/"{mg-lock,status}.c "$out/libmidgegalena.a" -o "$out/mg-lock"
+"$cc" -std=c99 -O2 -Wall -Wextra -pedantic ${CFLAGS:-} -I "$here/include" "$here/src/"{mg,mg_host}.c "$out/libmidgegalena.a" -o "$out/mg"
 "$cc" -std=c99 -O2 -Wall -Wextra -pedantic ${CFLAGS:-} -I "$here/include" "$here/src/dlm-shared.c" "$out/devices.o" "$out/libmidgegalena.a" -o "$out/dlm-shared"
 "$cc" -std=gnu11 -O2 -Wall -Wextra ${CFLAGS:-} -I "$here/include" -I "$here/src" "$here/examples/dlm-mount/dlm-mount.c" "$out/devices.o" -o "$out/dlm-mount"
 [[ $abi == "$version" ]] || ln -sf "libmidgegalena.so.$version" "$out/libmidgegalena.so.$abi"

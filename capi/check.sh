@@ -70,6 +70,11 @@ tried "values, built" cc -std=c99 $common "$here/tests/values.c" $flags -o "$wor
 folder
 tried "values" "$work/values" "$work/images"
 
+# Clients that are forgotten.
+tried "forgotten, built" cc -std=c99 $common "$here/tests/forgotten.c" $flags -o "$work/forgotten"
+folder
+tried "forgotten" "$work/forgotten" "$work/images"
+
 # Sessions.
 tried "sessions, built" cc -std=c99 $common "$here/tests/sessions.c" $flags -o "$work/sessions"
 folder
@@ -90,17 +95,12 @@ tried "images, built" cc -std=c99 $common "$here/tests/images.c" $flags -o "$wor
 folder
 tried "images" "$work/images_test" "$work/images" "$dlm"
 
-# How full a log is, and a full one.
-tried "full log, built" cc -std=c99 $common "$here/tests/full_log.c" $flags -o "$work/full_log"
-folder
-tried "full log" "$work/full_log" "$work/images" "$dlm"
-
 # A log without an end: hosts go through epochs, in memory where there is room, since that takes thousands of commands; dlm-shared refuses it.
 tried "endless, built" cc -std=c99 $common "$here/tests/endless.c" $flags -o "$work/endless"
 folder
 memory=$(mktemp -d -p /dev/shm 2> /dev/null) && trap 'rm -rf -- "$work" "$memory"' EXIT || memory=$work/images
 tried "endless" "$work/endless" "$memory" "$dlm"
-says_endless() { { "$@" 2>&1 || true; } | grep -q ' 25 WrongHeader (the log of this folder has no end: '; }
+says_endless() { { "$@" 2>&1 || true; } | grep -q ' 25 WrongHeader disk0 (an image for the processes of one machine alone: '; }
 tried "refused: dlm-shared" says_endless "$PREFIX/bin/dlm-shared" table "$memory/epochs" 0
 rm -rf -- "$memory"
 endless_test() { # PROGRAM [WORD..]: builds it so that the logs of its folders have no end
@@ -108,7 +108,7 @@ endless_test() { # PROGRAM [WORD..]: builds it so that the logs of its folders h
     [[ $1 != failover ]] || source=$here/examples/c/failover.c
     tried "$1 over a log without an end, built" cc -std=c99 $common -include "$here/tests/over_endless.h" "$source" "${@:2}" -o "$work/endless_$1"
 }
-for program in values contend failover sessions late; do
+for program in values forgotten contend failover sessions late; do
     # shellcheck disable=SC2086
     endless_test "$program" $flags
     folder
@@ -150,7 +150,7 @@ tried "formats for one machine" "$work/formats" alone "$work/images"
 device_calls=(-std=c99 $common -Wl,--wrap=pread,--wrap=pwrite,--wrap=fdatasync "$here/tests/devices.c")
 tried "devices, built" cc "${device_calls[@]}" "$here/out/devices.o" -o "$work/devices"
 tried "shared, built" cc -std=c99 $common "$here/tests/shared.c" $flags -o "$work/shared"
-for program in calls values sessions full_log contend failover; do
+for program in calls values forgotten sessions contend failover; do
     source=$here/tests/$program.c
     [[ $program != failover ]] || source=$here/examples/c/failover.c
     tried "$program over shared devices, built" cc -std=c99 $common -include "$here/tests/over_shared.h" "$source" $flags -o "$work/shared_$program"
@@ -167,12 +167,30 @@ else
     for k in 0 1 2; do truncate -s 128K -- "$work/images/$k"; done
     truncate -s 40K -- "$work/images/3"
     tried "devices" "$work/devices" "$work/images/"{0,1,2,3}
-    for program in calls values sessions full_log contend failover; do
+    for program in calls values forgotten sessions contend failover; do
         folder
         given=("$work/images")
         [[ $program != contend ]] || given+=(4 20)
         tried "$program over shared devices" "$work/shared_$program" "${given[@]}"
     done
+    # A log without an end over such devices. SHARED_EPOCHS: how many epochs two machines go through.
+    for program in values sessions contend failover; do
+        source=$here/tests/$program.c
+        [[ $program != failover ]] || source=$here/examples/c/failover.c
+        tried "$program over shared devices without an end, built" cc -std=c99 $common -include "$here/tests/over_shared_endless.h" "$source" $flags -o "$work/shared_endless_$program"
+        folder
+        given=("$work/images")
+        [[ $program != contend ]] || given+=(4 20)
+        tried "$program over shared devices without an end" "$work/shared_endless_$program" "${given[@]}"
+    done
+    tried "shared_epochs, built" cc -std=c99 $common "$here/tests/shared_epochs.c" $flags -o "$work/shared_epochs"
+    folder
+    memory=$(mktemp -d -p /dev/shm 2> /dev/null) && trap 'rm -rf -- "$work" "$memory"' EXIT || memory=$work/images
+    tried "shared_epochs" "$work/shared_epochs" "$memory" "${SHARED_EPOCHS:-20}"
+    rm -rf -- "$memory"
+    if command -v python3 > /dev/null; then
+        tried "machines_endless" python3 -B "$top/tests/machines_endless.py" --program "$PREFIX/bin/dlm-shared" --commands "${MACHINES_ENDLESS:-700}"
+    fi
 fi
 if [[ $is_direct -ne 3 ]]; then
     # Each line of words, and what dlm-shared prints for it.
@@ -185,7 +203,7 @@ if [[ $is_direct -ne 3 ]]; then
         done
     )
     folder
-    mkdir -- "$work/images/copy"
+    mkdir -- "$work/images/copy" "$work/images/endless"
     cat > "$work/wanted.txt" << 'END'
 $ format images 3 12 7 4 512
 dlm: 26 Unreadable disk0 (disk0.img is not there: a link to a block device is wanted, unless files are asked for)
@@ -248,11 +266,25 @@ status 2
 $ export images images/copy
 exported 3 images
 $ table images/copy 0
-dlm: 25 WrongHeader disk0 (an image of layout 2: dlm and mg-lock work on it, for the processes of one machine alone)
+dlm: 25 WrongHeader disk0 (an image for the processes of one machine alone: dlm and mg-lock work on it)
 status 1
 $ renew images 0 images/copy 3 12 8
-dlm-shared: renew: a log on shared devices is not renewed: dlm makes images of layout 2, and nothing puts a table onto such devices
+dlm-shared: renew: a log on shared devices is not renewed: nothing puts a table onto such devices. One without an end needs no renewal
 status 2
+$ format images/endless 3 - 7 17 512 files
+dlm: usage
+status 2
+$ format images/endless 3 - 7 4 512 files
+formatted 3 disks, 1024 slots an epoch
+$ format images/endless 3 - 7 4 512 files
+dlm: 29 AlreadyThere disk0 (disk0.img is formatted)
+status 1
+$ submit images/endless 0 enqueue 1 1 1 EX db
+ack 0 Granted
+$ table images/endless 1
+recovered 1
+db
+  granted 1 1 0 EX
 END
     sed -n 's/^\$ //p' "$work/wanted.txt" > "$work/words.txt"
     shared_words < "$work/words.txt" > "$work/said.txt"
@@ -279,7 +311,7 @@ END
         PATH=$work/stands:$PATH SLEEPS=60 setsid python3 -c 'import os, signal, sys; signal.signal(signal.SIGINT, signal.SIG_DFL); os.execvp(sys.argv[1], sys.argv[1:])' \
             "$PREFIX/bin/dlm-shared" check "$work/images" > "$work/said.txt" &
         checker=$!
-        for _ in {1..500}; do
+        for _ in {1..3000}; do
             ! grep -q images "$work/said.txt" || break
             sleep 0.02
         done
@@ -302,7 +334,7 @@ if command -v rt > /dev/null; then
 fi
 
 # The programs of the pages: twice, after a run that left its lock, and with a full log.
-# The first two blocks of LIBRARY.md are of sessions, the next two of the six commands; the second of each stands in the first.
+# The first two blocks of LIBRARY.md are of sessions, the next two of the seven commands; the second of each stands in the first.
 awk -v to="$work" '/^```c$/ { block++; inside = 1; next } /^```$/ { inside = 0 } inside { print > (to "/block" block ".c") }' "$top/docs/LIBRARY.md"
 cp -- "$work/block1.c" "$work/session.c"
 sed -e '/mg_give(session, db.lock, NULL);$/ { r '"$work/block2.c" -e 'd; }' "$work/session.c" > "$work/session_value.c"
@@ -384,6 +416,13 @@ else
     left_out "mg-lock: there is no Python, or dlm is not built"
 fi
 
+# The front mg.
+if command -v python3 > /dev/null && [[ -x $dlm ]]; then
+    mkdir -- "$work/mg"
+    tried "mg" env PYTHONDONTWRITEBYTECODE=1 python3 "$here/tests/mg.py" "$PREFIX/bin/mg" "$dlm" "$work/mg"
+    tail -n 1 "$work/out.txt" >> "$work/restarted.txt"
+fi
+
 # mg-lock --status.
 if command -v python3 > /dev/null && [[ -x $dlm ]]; then
     mkdir -- "$work/status" "$work/status-endless"
@@ -400,7 +439,7 @@ if command -v python3 > /dev/null; then
         trap 'rm -rf -- "$work" "$memory"' EXIT
         works+=("$memory")
     fi
-    # Over a log without an end each look needs the number, so on a slow disk not each has its turn in this time.
+    # Over a log without an end some looks and each end of a wait need the number, so on a slow disk not each has its turn in this time.
     mkdir -- "${works[-1]}/endless"
     tried "turns over a log without an end" env PYTHONDONTWRITEBYTECODE=1 python3 "$here/tests/turns.py" --endless "$PREFIX/bin/mg-lock" "$PREFIX/lib/libmidgegalena.so" "${works[-1]}/endless"
     tried "turns" env PYTHONDONTWRITEBYTECODE=1 python3 "$here/tests/turns.py" "$PREFIX/bin/mg-lock" "$PREFIX/lib/libmidgegalena.so" "${works[@]}"
@@ -430,15 +469,15 @@ folder
 memory=$(mktemp -d -p /dev/shm 2> /dev/null) && trap 'rm -rf -- "$work" "$memory"' EXIT || memory=$work/images
 tried "through_epochs" "$work/through_epochs" "$memory" "${THROUGH_EPOCHS:-60}"
 rm -rf -- "$memory"
-
-# A session follows a renewal, and what is left of a wait or a program that gives up is said, and released.
-tried "followed, built" cc -std=c99 $common "$here/tests/followed.c" $flags -o "$work/followed"
-if [[ -x $dlm ]]; then
+if [[ $is_direct -ne 3 ]]; then
+    tried "through_epochs over shared devices, built" cc -std=c99 $common -DSHARED_DEVICES "$here/tests/through_epochs.c" "${fails_by[@]}" -o "$work/through_shared"
     folder
-    tried "followed" "$work/followed" "$work/images" "$dlm"
-else
-    left_out "followed: dlm is not built"
+    memory=$(mktemp -d -p /dev/shm 2> /dev/null) && trap 'rm -rf -- "$work" "$memory"' EXIT || memory=$work/images
+    tried "through_epochs over shared devices" "$work/through_shared" "$memory" "${THROUGH_EPOCHS:-60}"
+    rm -rf -- "$memory"
 fi
+
+# What is left of a wait or a program that gives up is said, and released.
 if command -v python3 > /dev/null && [[ -x $dlm ]]; then
     folder
     tried "gives up" env PYTHONDONTWRITEBYTECODE=1 python3 "$here/tests/gives_up.py" "$PREFIX/bin/mg-lock" "$dlm" "$PREFIX/lib/libmidgegalena.so" "$work/images"
@@ -452,15 +491,6 @@ folder
 tried "failover" "$work/failover" "$work/images"
 cp -- "$work/out.txt" "$work/said.txt"
 tried "what failover says" diff "$work/said.txt" "$here/examples/c/failover.out"
-
-# The log gets full in the midst of the work, and is renewed; hosts are killed and started again.
-tried "renewed, built" cc -std=c99 $common "$here/examples/c/renewed.c" $flags -o "$work/renewed"
-if [[ -x $dlm ]] && command -v python3 > /dev/null; then
-    folder
-    tried "renewed" python3 "$here/tests/renewed.py" "$work/renewed" "$dlm" "$work/images" 20 10
-else
-    left_out "renewed logs: the program is not built, or there is no Python"
-fi
 
 # From Python, by the package as pip installs it.
 if command -v python3 > /dev/null; then
@@ -609,7 +639,7 @@ tried "one version, and the help" "$top/tests/version.sh"
 
 # No formatter has anything to say about the manual pages.
 if command -v groff > /dev/null; then
-    for page in midgegalena.3 mg_session.3 mg-lock.1 dlm-shared.1 dlm-mount.8; do tried "man/$page" bash -c '! groff -ww -mdoc -Tutf8 -z "$1" 2>&1 | grep .' _ "$top/man/$page"; done
+    for page in midgegalena.3 mg_session.3 mg.1 mg-lock.1 dlm-shared.1 dlm-mount.8; do tried "man/$page" bash -c '! groff -ww -mdoc -Tutf8 -z "$1" 2>&1 | grep .' _ "$top/man/$page"; done
 else
     left_out "manual pages: there is no groff"
 fi
@@ -622,24 +652,19 @@ for page in README.md capi/README.md; do tried "lines of C in $page" grep -q "so
 
 # Memory.
 if command -v valgrind > /dev/null; then
-    for program in calls values full_log refused_memory images_test failover contend shared_calls shared_contend; do
+    for program in calls values forgotten refused_memory images_test failover contend shared_calls shared_contend; do
         [[ $program != shared_* || $is_direct -ne 3 ]] || continue
         folder
         given=("$work/images")
         [[ $program != *contend ]] || given+=(3 5)
         tried "valgrind $program" valgrind -q --leak-check=full --errors-for-leak-kinds=all --error-exitcode=9 "$work/$program" "${given[@]}"
     done
-    if [[ -x $dlm ]] && command -v python3 > /dev/null; then
-        folder
-        tried "valgrind renewed" python3 "$here/tests/renewed.py" "$work/renewed" "$dlm" "$work/images" 15 1 \
-            valgrind -q --leak-check=full --errors-for-leak-kinds=all --error-exitcode=9
-    fi
 else
     left_out "valgrind: there is none"
 fi
 if echo 'int main(void) { return 0; }' | cc -x c -fsanitize=address,undefined - -o "$work/sanitizer" 2> "$work/out.txt" && command -v rt > /dev/null; then
     kit=$(dirname -- "$(dirname -- "$(readlink -f -- "$(command -v rt)")")")/c
-    for program in calls values full_log images contend; do
+    for program in calls values forgotten images contend; do
         tried "sanitized $program, built" cc -std=c99 $common -fsanitize=address,undefined -fno-sanitize-recover=all "$here/tests/$program.c" \
             "$here/src/"{midgegalena,format,device}.c "$top/crates/dlm_c/out/libdlm_c.a" "$kit/libos_c.a" "$kit/liblibc_c.a" -o "$work/sanitized_$program"
         folder
@@ -685,7 +710,7 @@ if command -v valgrind > /dev/null; then
         # shellcheck disable=SC2086
         tried "valgrind mg-lock $option" in_folder "${checks_memory[@]}" "$PREFIX/bin/mg-lock" $option "${given[@]}"
     done
-    for option in "" --json; do
+    for option in "" --json --prometheus; do
         # shellcheck disable=SC2086
         tried "valgrind mg-lock --status $option" in_folder "$PREFIX/bin/mg-lock" -w 1 images 0 db -- "${checks_memory[@]}" "$PREFIX/bin/mg-lock" --status $option images
     done
@@ -707,7 +732,7 @@ if [[ -f $work/sanitizer ]] && command -v rt > /dev/null; then
     tried "sanitized mg-lock, built" cc "${sanitized[@]}" "$here/src/"{mg-lock,status}.c "${proved[@]}" -o "$work/sanitized_mg-lock"
     folder
     in_folder ./format images 64
-    tried "sanitized mg-lock" in_folder ./sanitized_mg-lock -w 1 images 0 db -- bash -c '! ./sanitized_mg-lock -n images 0 db true && ./sanitized_mg-lock -r images 0 && ./sanitized_mg-lock --status images && ./sanitized_mg-lock --status --json images'
+    tried "sanitized mg-lock" in_folder ./sanitized_mg-lock -w 1 images 0 db -- bash -c '! ./sanitized_mg-lock -n images 0 db true && ./sanitized_mg-lock -r images 0 && ./sanitized_mg-lock --status images && ./sanitized_mg-lock --status --json images && ./sanitized_mg-lock --status --prometheus images'
 fi
 
 # What is put in place is taken out again.

@@ -1,5 +1,5 @@
 #!/usr/bin/env bash
-# Puts headers, libraries, midgegalena.pc, mg-lock, dlm-shared, dlm-mount, their completions and the manual pages in place, below PREFIX (none given: /usr/local),
+# Puts headers, libraries, midgegalena.pc, mg, mg-lock, dlm-shared, dlm-mount, their completions and the manual pages in place, below PREFIX (none given: /usr/local),
 # with DESTDIR in front of it where one is given. `capi/install.sh uninstall` takes them out. Both print the files. What is missing is built first.
 # Which files these are stands in the root's install.sh.
 set -euo pipefail

@@ -14,11 +14,13 @@ _dlm_shared() {
             return
             ;;
         3:format) words="1 2 3 4 5 6 7" ;;
+        4:format) words="-" ;;
+        5:format) words="nodsync files" ;;
         6:format) words="1 2 3 4 5 6 7 8 9 10 11 12 13 14 15 16 nodsync files" ;;
         7:format) words="512 1024 2048 4096 nodsync files" ;;
         8:format) words="nodsync files" ;;
         3:submit | 3:table | 3:mark | 3:take) words=$hosts ;;
-        4:submit) words="enqueue convert release cancel status purge" ;;
+        4:submit) words="enqueue convert release cancel status purge forget" ;;
         *:submit)
             case $COMP_CWORD:$command in
                 7:purge) words=$hosts ;;

@@ -21,7 +21,7 @@ _dlm() {
         2:race) words="1 2 3 4 5 6 7 8 9 10 11 12 13 14 15 16" ;;
         3:format | 5:renew) words="1 2 3 4 5 6 7" ;;
         3:submit | 3:table | 3:mark | 3:fill | 3:renew) words=$hosts ;;
-        4:submit) words="enqueue convert release cancel status purge" ;;
+        4:submit) words="enqueue convert release cancel status purge forget" ;;
         *:submit)
             case $COMP_CWORD:$command in
                 7:purge) words=$hosts ;;

@@ -32,7 +32,7 @@ complete -c dlm -n '__dlm_at 2 race' -a '(seq 1 16)' -d 'hosts'
 complete -c dlm -n '__dlm_at 3 format' -a '(seq 1 7)' -d 'disks'
 complete -c dlm -n '__dlm_at 5 renew' -a '(seq 1 7)' -d 'disks'
 complete -c dlm -n '__dlm_at 3 submit table mark fill renew' -a '(seq 0 15)' -d 'host'
-complete -c dlm -n '__dlm_at 4 submit' -a 'enqueue convert release cancel status purge' -d 'command'
+complete -c dlm -n '__dlm_at 4 submit' -a 'enqueue convert release cancel status purge forget' -d 'command'
 complete -c dlm -n '__dlm_command_at 7 purge' -a '(seq 0 15)' -d 'host'
 complete -c dlm -n '__dlm_command_at 8 enqueue convert' -a 'NL CR CW PR PW EX' -d 'mode'
 complete -c dlm -n '__dlm_command_at 10 enqueue' -a noqueue

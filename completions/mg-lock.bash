@@ -20,7 +20,7 @@ _mg_lock() {
     case $given in
         0)
             if [[ $word == -* ]]; then
-                words="--exclusive --shared --mode --nonblock --timeout --conflict-exit-code --value --close --check --interval --recover --all --status --json --verbose --help --version"
+                words="--exclusive --shared --mode --nonblock --timeout --conflict-exit-code --value --close --check --interval --recover --all --status --json --prometheus --verbose --help --version"
                 mapfile -t COMPREPLY < <(compgen -W "$words" -- "$word")
             else
                 compopt -o filenames

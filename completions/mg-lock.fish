@@ -33,6 +33,7 @@ complete -c mg-lock -n 'test (__mg_lock_words) -eq 0' -s r -l recover -d 'releas
 complete -c mg-lock -n 'test (__mg_lock_words) -eq 0' -s a -l all -d 'with -r: all locks of this host'
 complete -c mg-lock -n 'test (__mg_lock_words) -eq 0' -l status -d 'print slots, disks, host numbers in use here, and locks'
 complete -c mg-lock -n 'test (__mg_lock_words) -eq 0' -l json -d 'with --status: for programs'
+complete -c mg-lock -n 'test (__mg_lock_words) -eq 0' -l prometheus -d 'with --status: for node_exporter of Prometheus'
 complete -c mg-lock -n 'test (__mg_lock_words) -eq 0' -l verbose -d 'say how long it waited'
 complete -c mg-lock -n 'test (__mg_lock_words) -eq 0' -s h -l help -d 'show the options'
 complete -c mg-lock -n 'test (__mg_lock_words) -eq 0' -s V -l version -d 'show the version'

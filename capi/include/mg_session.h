@@ -35,7 +35,7 @@ struct mg_session;
 
 /* The session has the host number only while a call works on the images, so any number of processes share it. Who takes a lock, or gives
  * one back, releases what processes with MG_SHARE left that are gone. A call learns the whole log anew, so this is for short programs. A wait looks without
- * the number; where the log has no end a look writes, so there it takes the number for a moment, once an image was written, and once a second. */
+ * the number. Only if marks do not tell the table of a log without an end it takes the number for that look. */
 #define MG_SHARE 2u
 
 /* With any of these: mg_take returns as soon as its command is acknowledged, and before that is marked, a third of its syncs earlier. Call mg_mark_taken
@@ -54,8 +54,7 @@ struct mg_session;
  * has it locked (flock) as long as it has the lock. What former runs left are the locks whose signs are there, and locked by nobody. Do
  * not remove signs.
  *
- * Where the folder is a link, each call works in the folder to which that leads. A folder whose cluster number is lower than that of one
- * before it is refused, MG_WRONG_HEADER. */
+ * Where the folder is a link, it is followed once, here. A later call that finds images of another cluster number in the folder says MG_WRONG_HEADER. */
 int mg_begin(const char *folder, unsigned host, unsigned flags, struct mg_session **out, int *disk);
 
 /* Ends a session. NULL is nothing. Locks that were not given stay in the log. The next mg_begin of this host number without MG_SHARE
@@ -84,23 +83,22 @@ struct mg_held {
  *
  * MG_TIMED_OUT: it was not granted in time, as where others have it. MG_NO_SUCH_LOCK: it was purged while it waited. MG_STOPPED: mg_set_rest.
  * MG_HOST_IN_USE: somebody has the host number for so long, a minute or little more at most; at once where it is another machine's, and errno is
- * EREMOTE. Over a log without an end a wait with MG_SHARE needs the number for each look: where it does not get that for so long it ends, in doubt.
+ * EREMOTE. Over a log without an end a wait with MG_SHARE needs the number where marks do not tell the table: without it for so long it ends, in doubt.
  * MG_NO_LOCK: see errno, of its sign of life; EBUSY where that is removed as often as it is made. MG_LOG_FULL, MG_NO_MAJORITY,
- * MG_TABLE_FULL and others as of mg_enqueue. If the log gets full while it waits it goes on waiting, and once that is renewed it waits in the new folder.
+ * MG_TABLE_FULL and others as of mg_enqueue.
  *
  * First it releases what processes that are gone have left: on this name all, on others as much as it can in 200 milliseconds, or in
  * half of its time if that is shorter.
  *
  * `held->slot` is a fencing token: of those that hold MG_EX on a name in turn, each has a greater slot than the one before it. In
- * a renewed folder slots begin anew, and `cluster` tells the two apart. */
+ * another folder slots begin anew, and `cluster` tells the two apart. */
 int mg_take(struct mg_session *session, const char *name, int mode, int timeout, struct mg_held *held);
 
 /* Gives a lock back. Where `value` is not NULL its MG_VALUE_LENGTH bytes are kept with the name, if the lock holds MG_PW or MG_EX.
  * MG_NO_SUCH_LOCK: the lock had been taken away, by a purge, or is none of this session's. MG_IN_DOUBT: its release may stand in
  * the log; call again with the same value, for another one is MG_BAD_ARGUMENT by then. Where the log has no end that second call may say
  * MG_NO_SUCH_LOCK though nobody purged the lock: its release stood in an epoch that has ended. After any other number the lock is still
- * the session's, and nothing is stored: call again. It waits up to a minute for disks, for a full log to be renewed, and with
- * MG_SHARE for the number.
+ * the session's, and nothing is stored: call again. It waits up to a minute for disks, and with MG_SHARE for the number.
  *
  * A lock that mg_take left in doubt was never held. So a value with it is MG_BAD_ARGUMENT, MG_OK says that it is in the table no more,
  * and it is waited for the number alone. */
@@ -111,8 +109,7 @@ int mg_give(struct mg_session *session, unsigned lock, const void *value);
 int mg_mark_taken(struct mg_session *session);
 
 /* Looks whether a lock that was taken was purged: MG_NO_SUCH_LOCK, or MG_OK where no look has seen that. It may be seen late: a look sees nothing
- * after a command that has no mark, until somebody recovers, so call mg_recover before it to be sure. Where the folder's link has moved it looks
- * in the folder to which that leads. */
+ * after a command that has no mark, until somebody recovers, so call mg_recover before it to be sure. */
 int mg_check(struct mg_session *session, unsigned lock);
 
 /* ---- of other hosts, and of other processes ---- */
@@ -155,7 +152,8 @@ int mg_has_number(const struct mg_session *session);
 /* ---- what a session stands on ---- */
 
 /* To look (mg_look) and to show the table. Submit nothing by it. It is the session's, and may be another one after each call. With MG_SHARE, over a log without
- * an end, each mg_look takes the host number for a moment: MG_HOST_IN_USE where somebody has that for five seconds. Before it there may be no table. */
+ * an end, a mg_look takes the host number where marks do not tell the table: MG_HOST_IN_USE where somebody has that for five seconds. Before it there may be
+ * no table. */
 int mg_host_of(struct mg_session *session, struct mg_host **host);
 
 /* The descriptor of a lock's sign of life, -1 where the session has no such lock. A child that inherits it keeps the lock from being released

@@ -37,6 +37,7 @@ const char *mg_version(void);
 #define MG_HOSTS 16        /* numbered from 0 */
 #define MG_DISKS 7
 #define MG_SLOTS 4096      /* commands in the life of a folder whose log ends */
+#define MG_EPOCH_SLOTS 1024 /* slots of an epoch of a log without an end, where nobody says how many */
 #define MG_LOCKS 256       /* at once */
 #define MG_CLIENTS 32      /* in the life of a folder; a renewal may leave some out */
 #define MG_NAME_LENGTH 15  /* bytes from 0x21 to 0x7E */
@@ -131,12 +132,14 @@ int mg_format(const char *folder, unsigned disks, unsigned slots, uint64_t clust
  *
  * `hosts` are the numbers that there are from 0 on, 1 to 16; others are MG_BAD_ARGUMENT from then on. `sector` is 512, 1024, 2048 or
  * 4096 bytes, 0 for 4096. Each write is made to last by itself (O_DSYNC), but with the flag MG_NO_DSYNC by the next sync alone. With the flag MG_FILES a file is
- * made where there is no `diskK.img`.
+ * made where there is no `diskK.img`. With the flag MG_ENDLESS the log has no end: `slots` are those of an epoch, 320 to 4,096, or 0 for MG_EPOCH_SLOTS. All
+ * devices of a set are of one kind of log.
  *
  * Also refused: MG_UNREADABLE where `diskK.img` is no block device and no file, or is missing without that flag; MG_BAD_ARGUMENT, and `*disk` names it, where a
  * device's physical sectors are longer than `sector`, or where it does not begin at a multiple of that. */
 #define MG_NO_DSYNC 1u
 #define MG_FILES 2u
+#define MG_ENDLESS 4u
 int mg_format_shared(const char *folder, unsigned disks, unsigned slots, uint64_t cluster, unsigned hosts, unsigned sector, unsigned flags, int *disk);
 
 /* What there is to add to the number that this thread's last call of mg_open, mg_open_to_look, mg_take_number, mg_format or mg_format_shared returned, as a session's
@@ -153,8 +156,7 @@ int mg_open(const char *folder, unsigned host, struct mg_host **out, int *disk);
 
 /* Opens a folder's images to read alone: for mg_look, mg_wait, and what shows the table. It takes no host number, locks nothing
  * and writes nothing, so any number of processes may do so at once, beside those that work under the numbers. mg_refresh, mg_mark
- * and all commands are refused, MG_ONLY_LOOKS, and mg_wait does not recover. mg_host_facts tells host 0, which says nothing here.
- * A folder whose log has no end is refused, MG_WRONG_HEADER: there a look writes. */
+ * and all commands are refused, MG_ONLY_LOOKS, and mg_wait does not recover. mg_host_facts tells host 0, which says nothing here. */
 int mg_open_to_look(const char *folder, struct mg_host **out, int *disk);
 
 /* Makes a host number of such devices this machine's. It is the caller's word that the machine that had it is off, or cut off from the
@@ -174,7 +176,7 @@ int mg_set_tries(struct mg_host *host, unsigned tries);
 
 /* Whether a command may return before it is marked, 0 at first. With anything else mg_enqueue and mg_status return as soon as the command is
  * acknowledged, on three disks after 21 syncs and not after 33. The mark is made by mg_mark_now, by the next call that works on the images, or by
- * mg_close. Commands that somebody may wait for are marked at once: conversions, releases, cancels and purges. Until a command is marked looks of all
+ * mg_close. Commands that somebody may wait for are marked at once: conversions, releases, cancels, purges and mg_forget. Until a command is marked looks of all
  * hosts stop at it, and whoever submits has to carry it through once more: so call mg_mark_now as soon as there is time. If the process is killed
  * before, it is a command without a mark as any other. */
 int mg_set_late_marks(struct mg_host *host, int late);
@@ -192,8 +194,7 @@ int mg_mark_now(struct mg_host *host);
  *
  * A full log refuses each command with MG_LOG_FULL, and ends mg_wait so for a lock that waits. Nothing was changed, and nothing
  * in this folder changes any more: the host knows all of it, and goes on showing it. mg_open, mg_look, mg_refresh and mg_mark end
- * well. Once the log is renewed (`dlm renew`), close the host, open the folder again by its link, and call again with the same
- * request number. The command gets the reply that it got before, or is carried out then. mg_log tells in time.
+ * well. mg_log tells in time. Once all hosts are stopped, `dlm renew` carries the table over into a new folder.
  */
 
 enum mg_reply {
@@ -204,7 +205,8 @@ enum mg_reply {
     MG_CANCELLED = 4,
     MG_PURGED = 5,
     MG_STATE = 6,
-    MG_REFUSED = 7
+    MG_REFUSED = 7,
+    MG_FORGOTTEN = 8
 };
 
 struct mg_answer {
@@ -234,6 +236,12 @@ int mg_release_value(struct mg_host *host, unsigned client, uint64_t request, un
 
 /* Takes away all locks that came through a host. See first that it is stopped for good: nobody here does. */
 int mg_purge(struct mg_host *host, unsigned client, uint64_t request, unsigned purged, struct mg_answer *answer);
+
+/* Forgets what the table keeps of the client `forgotten`: the number of its last request, and the reply. So another client has room, of
+ * the 32 that a table knows. MG_LOCK_IN_USE while it has a lock, or waits for one. A client that is not known is MG_FORGOTTEN, too. `client` may
+ * be the same: where MG_CLIENTS_FULL refuses all others, a known client makes room so. See first that nobody works as the forgotten
+ * client: it begins anew, and an old request of it that comes again is carried out again. */
+int mg_forget(struct mg_host *host, unsigned client, uint64_t request, unsigned forgotten, struct mg_answer *answer);
 
 /* ---- what others did ----
  *
@@ -265,13 +273,15 @@ int mg_wait(struct mg_host *host, unsigned lock, int interval, int timeout, int 
 
 /* ---- a log without an end ----
  *
- * All calls of a host that mg_open has opened work on it as on a log that ends, and see by the header what it is. So do sessions. mg_open_to_look is refused. The
- * log is a row of epochs, each with so many slots. When one is full the next one begins, with commands that carry the table over. Slots are counted through
- * all epochs, and some of them hold such commands. So a command's slot grows for ever, and is a token as good as in a log that ends.
+ * All calls of a host work on it as on a log that ends, and see by the header what it is. So do sessions. The log is a row of epochs, each with so many slots.
+ * When one is full the next one begins, with commands that carry the table over. Slots are counted through all epochs, and some of them hold such commands. So a
+ * command's slot grows for ever, and is a token as good as in a log that ends.
  *
  * - It is never full, so no command is refused for that, and mg_wait waits on.
  * - A look, too, comes to the newest epoch, and writes the host's own blocks for that. If it finds an epoch full it carries the table over into the next one,
  *   and may be outrun, MG_OUTRUN. mg_wait goes on then.
+ * - A look of mg_open_to_look writes nothing. It is refused, MG_NO_TABLE, where a command without a mark hides which table the newest epoch began with, until
+ *   somebody recovers or submits. mg_wait goes on then.
  * - A host knows the table once it has looked, learned or had a command acknowledged. A call that fails as an epoch begins may leave it without one. Then what
  *   shows the table is refused, MG_NO_TABLE, and mg_log and mg_host_facts tell 0 commands, until a call learns it.
  * - Where memory is refused the operation is given up, MG_NO_MEMORY. Its command may be in the log: ask again with the same request number.
@@ -333,7 +343,7 @@ int mg_value(struct mg_host *host, unsigned lock, struct mg_value *into);
  * `into` may be NULL where `room` is 0. */
 int mg_locks(struct mg_host *host, struct mg_lock_view *into, size_t room, size_t *count);
 
-/* All clients that the table knows, by number: those that were ever heard, but for those that a renewal left out. */
+/* All clients that the table knows, by number: those that were ever heard, but for those that mg_forget or a renewal let go. */
 int mg_clients(struct mg_host *host, struct mg_client_view *into, size_t room, size_t *count);
 
 /* The text of `dlm table`, after its first line. Puts up to `size` - 1 bytes and a zero into `into`; `*length` is how long

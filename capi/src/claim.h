@@ -41,7 +41,6 @@ struct claim_value {
 };
 
 struct claim_view {
-    uint64_t set;
     uint64_t request;
     uint32_t lock;
     uint32_t standing;
@@ -62,7 +61,7 @@ struct cleanup {
 };
 
 typedef char claims_are_as_there[sizeof(struct claim) == 16 && sizeof(struct asker) == 24 && sizeof(struct due_order) == 32 &&
-                                         sizeof(struct claim_value) == 16 && sizeof(struct claim_view) == 32 && sizeof(struct cleanup) == 40
+                                         sizeof(struct claim_value) == 16 && sizeof(struct claim_view) == 24 && sizeof(struct cleanup) == 40
                                      ? 1
                                      : -1];
 
@@ -75,7 +74,7 @@ enum kind { ALL_LOCKS, SHARED_LOCKS, LOCKS_ALONE };
 enum standing { LEAVES = 5 }; /* of claim_view: its lock is to be released. The others do not matter here */
 
 int32_t dlm_c_take(struct claim *claim, const struct asker *asker, const uint8_t *name, size_t length, uint32_t mode, bool waits);
-int32_t dlm_c_left(struct claim *claim, const struct asker *asker, uint32_t lock, const uint8_t *name, size_t length, uint32_t mode, uint64_t set);
+int32_t dlm_c_left(struct claim *claim, const struct asker *asker, uint32_t lock, const uint8_t *name, size_t length, uint32_t mode);
 int32_t dlm_c_begin(struct claim *claim, const struct asker *asker, uint32_t goal, const struct claim_value *value);
 void dlm_c_stop(struct claim *claim, bool told);
 int32_t dlm_c_order(struct claim *claim, struct due_order *into);
@@ -92,10 +91,12 @@ void sleep_for(int64_t length);
 int64_t pause_after(const struct mg_host *host, unsigned outrun);
 int learn_all(struct mg_host *host, int64_t length);
 bool has_images_of(const struct mg_host *host, const char *folder);
-/* Opens a folder to look. Where the log has no end each look of the handle takes this host number for a moment. */
+/* Opens a folder to look. Where the log has no end a look of the handle takes this host number for a moment if marks do not tell the table. */
 int open_to_visit(const char *folder, unsigned number, struct mg_host **out, int *disk);
 /* As mg_look, but it does not wait where somebody else has the number of such a handle: MG_HOST_IN_USE. */
 int look_once(struct mg_host *host);
+/* Whether its last look took the number. */
+bool took_number(const struct mg_host *host);
 /* A number that each write to the images changes, as far as this machine sees it. 0: it is not known, or they were written just now. */
 uint64_t last_write(const struct mg_host *host);
 int sign_name(struct mg_host *host, unsigned number, uint32_t lock, char *into, size_t room);

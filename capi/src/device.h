@@ -1,5 +1,5 @@
 /*
- * device.h: the calls on a device that several machines use at once (version 3 of docs/FORMAT.md). What its bytes say, where its sectors are, what a write
+ * device.h: the calls on a device that several machines use at once (versions 3 and 5 of docs/FORMAT.md). What its bytes say, where its sectors are, what a write
  * makes of one, and whose a host number is, the proved library tells (crates/dlm_c, over crates/sectors). The file is opened with O_DIRECT, and with O_DSYNC
  * where the device says so. `room` is device_room's. A place `at` is one of the image that the device shows.
  */
@@ -10,7 +10,7 @@
 #include <stddef.h>
 #include <stdint.h>
 
-enum { DEVICE_VERSION = 3, DEVICE_FIRST = 4096, DEVICE_LONGEST_SECTOR = 4096, DEVICE_HOSTS = 16, DEVICE_DISKS = 7, DEVICE_ROW = 4096, DEVICE_BLOCK = 256 };
+enum { DEVICE_VERSION = 3, ENDLESS_DEVICE_VERSION = 5, DEVICE_FIRST = 4096, DEVICE_LONGEST_SECTOR = 4096, DEVICE_HOSTS = 16, DEVICE_DISKS = 7, DEVICE_ROW = 4096, DEVICE_BLOCK = 256 };
 
 /* ---- crates/dlm_c/src, and crates/c_host/src below it ---- */
 
@@ -20,6 +20,7 @@ struct device {
     uint32_t hosts;
     uint32_t slots;
     uint32_t dsync;
+    uint32_t endless; /* 1: its log has no end, and the slots are those of an epoch */
 };
 
 struct first_bytes {
@@ -58,7 +59,7 @@ struct all_heard {
 };
 
 /* The sizes of the structs there. That each field lies where it does there is tried by tests/devices.c. */
-typedef char devices_are_as_there[sizeof(struct device) == 16 && sizeof(struct first_bytes) == 4096 && sizeof(struct sectors) == 24 &&
+typedef char devices_are_as_there[sizeof(struct device) == 20 && sizeof(struct first_bytes) == 4096 && sizeof(struct sectors) == 24 &&
                                           sizeof(struct header) == 1032 && sizeof(struct row) == 4096 && sizeof(struct machine) == 16 &&
                                           sizeof(struct heard) == 20 && sizeof(struct all_heard) == 144
                                       ? 1
@@ -83,6 +84,9 @@ enum { IS_OURS = 0, IS_UNHEARD = 7, IS_OTHERS = 36 };
 uint8_t *device_room(void);
 
 bool sync_data(int file);
+
+/* Whether an image with this version, its second byte, may be such a device. */
+static inline bool device_version(uint8_t version) { return version == DEVICE_VERSION || version == ENDLESS_DEVICE_VERSION; }
 
 /* Reads the first bytes of any file into the room. */
 bool device_first(int file, uint8_t *room);

@@ -37,7 +37,8 @@ static int usage(void) {
 }
 
 static void help(void) {
-    puts("usage: dlm-shared format FOLDER DISKS SLOTS CLUSTER [HOSTS [SECTOR]] [nodsync] [files]\n"
+    puts("usage: dlm-shared format FOLDER DISKS CLUSTER [nodsync] [files]\n"
+         "       dlm-shared format FOLDER DISKS SLOTS CLUSTER [HOSTS [SECTOR]] [nodsync] [files]\n"
          "       dlm-shared submit FOLDER HOST COMMAND...\n"
          "       dlm-shared table FOLDER HOST\n"
          "       dlm-shared mark FOLDER HOST\n"
@@ -45,6 +46,7 @@ static void help(void) {
          "       dlm-shared export FOLDER INTO\n"
          "       dlm-shared take FOLDER HOST\n"
          "Does what dlm does, over devices that several machines use at once. mg-lock --help has the words of COMMAND.\n"
+         "Without SLOTS, or with - there, the log has no end.\n"
          "\n"
          "  -h, --help; -V, --version\n"
          "\n"
@@ -150,7 +152,9 @@ static int command(struct mg_host *host, int count, char **words, struct mg_answ
         return mg_cancel(host, c, request, l, answer);
     if (strcmp(kind, "status") == 0)
         return mg_status(host, c, request, l, answer);
-    return strcmp(kind, "purge") == 0 ? mg_purge(host, c, request, l, answer) : MG_BAD_ARGUMENT;
+    if (strcmp(kind, "purge") == 0)
+        return mg_purge(host, c, request, l, answer);
+    return strcmp(kind, "forget") == 0 ? mg_forget(host, c, request, l, answer) : MG_BAD_ARGUMENT;
 }
 
 static const char *mode_text(int mode) { return mode >= MG_NL && mode <= MG_EX ? MODES[mode] : "-"; }
@@ -209,6 +213,8 @@ static int submit(struct mg_host *host, const char *folder, unsigned number_of_h
         snprintf(reply, sizeof reply, value[0] ? "Granted(%s)" : "Granted%s", value);
     else if (answer.reply > MG_GRANTED && answer.reply <= MG_CANCELLED)
         snprintf(reply, sizeof reply, "%s", replies[answer.reply]);
+    else if (answer.reply == MG_FORGOTTEN)
+        snprintf(reply, sizeof reply, "Forgotten");
     else
         snprintf(reply, sizeof reply, "%d %s", status, mg_name(status));
     length = snprintf(line, sizeof line, "ack %lld %s\n", (long long)answer.slot, reply);
@@ -239,7 +245,7 @@ static int mark(struct mg_host *host, const char *folder, unsigned number_of_hos
     return ended();
 }
 
-/* Images of layout 2 are for the processes of one machine: over devices that several machines see, and through their pages, commands are lost. So they are refused,
+/* Images that dlm makes are for the processes of one machine: over devices that several machines see, and through their pages, commands are lost. So they are refused,
  * before a host number is locked or taken. A folder that cannot be looked at is refused by whoever opens it, or says itself what is wrong. */
 static int refuse_others(const char *folder) {
     struct mg_image_view images[MG_DISKS];
@@ -247,7 +253,6 @@ static int refuse_others(const char *folder) {
     struct mg_host *host;
     size_t count = 0;
     int disk, status = mg_open_to_look(folder, &host, &disk);
-    /* One whose log has no end, too: mg_open would open that. */
     if (status == MG_WRONG_HEADER)
         return refuse(status, folder, 0, disk);
     if (status != MG_OK)
@@ -257,7 +262,7 @@ static int refuse_others(const char *folder) {
     mg_close(host);
     for (size_t k = 0; k < count; k++)
         if (disks[k].status == MG_OK && images[k].kind != MG_SHARED_IMAGE) {
-            fprintf(stderr, "dlm: %d %s disk%zu (an image of layout 2: dlm and mg-lock work on it, for the processes of one machine alone)\n", MG_WRONG_HEADER,
+            fprintf(stderr, "dlm: %d %s disk%zu (an image for the processes of one machine alone: dlm and mg-lock work on it)\n", MG_WRONG_HEADER,
                     mg_name(MG_WRONG_HEADER), k);
             return REFUSED;
         }
@@ -308,27 +313,34 @@ static bool takes(int *count, char **words, const char *word) {
     return is_there;
 }
 
+/* FOLDER DISKS [SLOTS] CLUSTER [HOSTS [SECTOR]]. Where more words follow, - stands for no slots. */
 static int format(int count, char **words) {
-    uint64_t disks, slots, cluster, hosts = MG_HOSTS, sector = 0;
+    uint64_t disks, slots = 0, cluster, hosts = MG_HOSTS, sector = 0;
     unsigned flags = 0;
-    int disk = -1, status;
+    int disk = -1, status, at;
     flags |= takes(&count, words, "files") ? MG_FILES : 0;
     flags |= takes(&count, words, "nodsync") ? MG_NO_DSYNC : 0;
-    if (count < 4 || count > 6 || !number(words[1], MG_DISKS, &disks) || !number(words[2], MG_SLOTS, &slots) || !number(words[3], UINT64_MAX, &cluster) ||
-        (count > 4 && !number(words[4], MG_HOSTS, &hosts)) || (count > 5 && !number(words[5], DEVICE_LONGEST_SECTOR, &sector)) || disks == 0)
+    at = count == 3 ? 2 : 3;
+    flags |= count == 3 || (count > 3 && strcmp(words[2], "-") == 0) ? MG_ENDLESS : 0;
+    if (count < 3 || count > 6 || !number(words[1], MG_DISKS, &disks) || (!(flags & MG_ENDLESS) && !number(words[2], MG_SLOTS, &slots)) ||
+        !number(words[at], UINT64_MAX, &cluster) || (count > 4 && !number(words[4], MG_HOSTS, &hosts)) ||
+        (count > 5 && !number(words[5], DEVICE_LONGEST_SECTOR, &sector)) || disks == 0)
         return usage();
     status = mg_format_shared(words[0], (unsigned)disks, (unsigned)slots, cluster, (unsigned)hosts, (unsigned)sector, flags, &disk);
     if (status == MG_BAD_ARGUMENT)
         return disk >= 0 ? decline("format", mg_cause()) : usage();
     if (status != MG_OK)
         return refuse(status, words[0], 0, disk);
-    printf("formatted %u disks, %u slots\n", (unsigned)disks, (unsigned)slots);
+    if (flags & MG_ENDLESS)
+        printf("formatted %u disks, %u slots an epoch\n", (unsigned)disks, MG_EPOCH_SLOTS);
+    else
+        printf("formatted %u disks, %u slots\n", (unsigned)disks, (unsigned)slots);
     return ended();
 }
 
-/* ---- images of layout 2 ---- */
+/* ---- images as dlm has them ---- */
 
-/* Copies a device as an image of layout 2. Of anything else the first bytes are copied, so that a check tells what is wrong with it. */
+/* Copies a device as the image that it shows. Of anything else the first bytes are copied, so that a check tells what is wrong with it. */
 static bool copy_image(int from, unsigned disk, FILE *to, uint8_t *room) {
     struct device how;
     struct header shown;
@@ -463,9 +475,9 @@ int main(int count, char **words) {
     if (strcmp(task, "take") == 0 && count == 4)
         return take(words[2], words[3]);
     if (strcmp(task, "fill") == 0 || strcmp(task, "renew") == 0)
-        return decline(task, "a log on shared devices is not renewed: dlm makes images of layout 2, and nothing puts a table onto such devices");
+        return decline(task, "a log on shared devices is not renewed: nothing puts a table onto such devices. One without an end needs no renewal");
     if (strcmp(task, "migrate") == 0)
-        return decline(task, "dlm moves images of the first layout to images of layout 2, and to no shared devices");
+        return decline(task, "dlm moves images to images for the processes of one machine, and to no shared devices");
     if (count == 2 && (strcmp(task, "-h") == 0 || strcmp(task, "--help") == 0)) {
         help();
         return ended();

@@ -279,7 +279,7 @@ static int format(struct plan *plan, int *disk) {
     plan->room = device_room();
     if (!plan->room)
         return MG_NO_MEMORY;
-    if (plan->folder && plan->flags <= (MG_NO_DSYNC | MG_FILES) && find_first(plan, 0)) {
+    if (plan->folder && plan->flags <= (MG_NO_DSYNC | MG_FILES | MG_ENDLESS) && find_first(plan, 0)) {
         status = format_planned(plan, &at_fault);
         if (disk && status != MG_OK && status != MG_NO_MEMORY)
             *disk = (int)at_fault;
@@ -309,7 +309,11 @@ int mg_format_shared(const char *folder, unsigned disks, unsigned slots, uint64_
     memset(&plan, 0, sizeof plan);
     plan.folder = folder;
     plan.is_shared = true;
-    plan.device = (struct device){sector == 0 ? DEVICE_LONGEST_SECTOR : sector, hosts, slots, (flags & MG_NO_DSYNC) == 0};
+    plan.device.sector_size = sector == 0 ? DEVICE_LONGEST_SECTOR : sector;
+    plan.device.hosts = hosts;
+    plan.device.endless = (flags & MG_ENDLESS) != 0;
+    plan.device.slots = plan.device.endless && slots == 0 ? MG_EPOCH_SLOTS : slots;
+    plan.device.dsync = (flags & MG_NO_DSYNC) == 0;
     plan.disks = disks;
     plan.flags = flags;
     plan.cluster = cluster;

@@ -39,7 +39,8 @@ static struct {
     char **words, **command;
     unsigned host;
     int mode, conflict, interval, check, timeout; /* milliseconds, below 0: none */
-    bool closes, prints, verbose, recovers, all, shows, as_json;
+    bool closes, prints, verbose, recovers, all, shows;
+    enum status_form form;
 } asked = {.mode = MG_EX, .conflict = 1, .interval = 5, .timeout = -1};
 
 static int64_t begun;    /* when, in milliseconds */
@@ -361,7 +362,7 @@ static void usage(FILE *where) {
     fputs("usage: mg-lock [OPTION]... FOLDER HOST NAME [--] [COMMAND [ARGUMENT]...]\n"
           "       mg-lock [OPTION]... FOLDER HOST NAME -c LINE\n"
           "       mg-lock --recover [--all] FOLDER HOST\n"
-          "       mg-lock --status [--json] FOLDER\n"
+          "       mg-lock --status [--json | --prometheus] FOLDER\n"
           "Runs COMMAND while it holds a lock on NAME, through host HOST of the images in FOLDER.\n"
           "Without a COMMAND it holds the lock until it is interrupted.\n"
           "\n"
@@ -379,6 +380,7 @@ static void usage(FILE *where) {
           "  -a, --all              with -r: all locks of this host; only when its machine has just started\n"
           "      --status           print slots, disks, host numbers in use here, and locks; it only looks\n"
           "      --json             with --status: for programs\n"
+          "      --prometheus       with --status: for node_exporter of Prometheus\n"
           "      --verbose          say how long it waited\n"
           "  -c, --command LINE     after NAME: the shell runs LINE, which is one word\n"
           "  -h, --help; -V, --version\n"
@@ -400,6 +402,7 @@ static void help_for_dlm(void) {
           "      cancel CLIENT REQUEST LOCK\n"
           "      status CLIENT REQUEST LOCK\n"
           "      purge CLIENT REQUEST HOST\n"
+          "      forget CLIENT REQUEST FORGOTTEN\n"
           "  dlm table FOLDER HOST\n"
           "  dlm mark FOLDER HOST\n"
           "  dlm check FOLDER\n"
@@ -451,7 +454,8 @@ static const struct option OPTIONS[] = {
     {"timeout", 1, NULL, 'w'},   {"wait", 1, NULL, 'w'},     {"conflict-exit-code", 1, NULL, 'E'},
     {"value", 0, NULL, 'v'},     {"close", 0, NULL, 'o'},    {"check", 1, NULL, 'k'},   {"interval", 1, NULL, 'i'},
     {"recover", 0, NULL, 'r'},   {"all", 0, NULL, 'a'},      {"verbose", 0, NULL, 'l'}, {"help", 0, NULL, 'h'},
-    {"version", 0, NULL, 'V'},   {"status", 0, NULL, 'S'},   {"json", 0, NULL, 'J'},    {NULL, 0, NULL, 0}};
+    {"version", 0, NULL, 'V'},   {"status", 0, NULL, 'S'},   {"json", 0, NULL, 'J'},    {"prometheus", 0, NULL, 'P'},
+    {NULL, 0, NULL, 0}};
 
 /* 0, or the status to end with; below 0: end well. */
 static int read_options(int argc, char **argv) {
@@ -487,7 +491,12 @@ static int read_options(int argc, char **argv) {
         case 'a': asked.all = true; break;
         case 'l': asked.verbose = true; break;
         case 'S': asked.shows = true; break;
-        case 'J': asked.as_json = true; break;
+        case 'J':
+        case 'P':
+            if (asked.form == (option == 'J' ? FOR_PROMETHEUS : AS_JSON))
+                return refuse("--json or --prometheus, not both", NULL);
+            asked.form = option == 'J' ? AS_JSON : FOR_PROMETHEUS;
+            break;
         case 'h':
             usage(stdout);
             help_for_dlm();
@@ -504,8 +513,8 @@ static bool may_be(int words) {
     if (asked.shows)
         return words == 1 && !asked.recovers && !asked.all;
     if (asked.recovers)
-        return words == 2 && !asked.as_json;
-    return words >= 3 && !asked.all && !asked.as_json;
+        return words == 2 && asked.form == FOR_PEOPLE;
+    return words >= 3 && !asked.all && asked.form == FOR_PEOPLE;
 }
 
 /* The shell is to run this one word. */
@@ -565,14 +574,36 @@ static int recover(struct mg_session *session) {
     return 0;
 }
 
+/* By one write, if that takes all of it. */
+static bool print(const char *text, size_t length) {
+    while (length > 0) {
+        ssize_t printed = write(STDOUT_FILENO, text, length);
+        if (printed < 0)
+            return false;
+        text += printed;
+        length -= (size_t)printed;
+    }
+    return true;
+}
+
+/* Prints nothing before all of it is there. */
 static int show(void) {
-    char image[16];
-    int disk, status = show_status(asked.folder, asked.as_json, stdout, &disk);
+    char image[16], *text = NULL;
+    size_t length = 0;
+    FILE *out = open_memstream(&text, &length);
+    int disk, status;
+    bool is_whole;
+    if (!out)
+        return refuse("it could not be printed", strerror(errno));
+    status = show_status(asked.folder, asked.form, out, &disk);
     snprintf(image, sizeof image, "disk%d", disk);
     if (status != MG_OK)
         (void)refuse(told(status), disk < 0 ? NULL : image);
-    if (fflush(stdout) != 0 || ferror(stdout))
-        return refuse("it could not be printed", strerror(errno));
+    is_whole = !ferror(out);
+    is_whole &= fclose(out) == 0;
+    if (!is_whole || !print(text, length))
+        status = refuse("it could not be printed", strerror(errno));
+    free(text);
     return status == MG_OK ? 0 : FAILED;
 }
 

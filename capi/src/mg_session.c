@@ -3,14 +3,13 @@
  *
  * - A *talk* is what a session does while it has the host number. Talks of a number do not overlap. Without MG_SHARE a session is one
  *   talk, but for the moment in which it opens the folder anew after a failure. With it each call opens the folder for a talk, and a
- *   wait looks by a handle that has no number. Where the log has no end a look writes, so there that handle takes the number for each look.
+ *   wait looks by a handle that has no number. If marks do not tell the table of a log without an end, it takes the number for that look.
  * - What a session does for a lock is decided by a proved claim (claim.h, crates/session), and which locks of processes that are gone it releases or purges
  *   by a proved cleanup (crates/cleanup). Here is done what these order, and they are told what came of it.
  * - As long as a lock is somebody's, its sign of life is locked by flock: the file mg-lock.SET.HOST.LOCK in the folder, SET being the
  *   cluster number. Signs are made before the lock is asked for and removed after it is gone, within talks. A lock whose sign is there, and
- *   nobody's, is left over. What sets of an earlier life of the folder left there are no signs of its locks.
- *   A renewal links the signs of the locks that it carries over, so each is one file under both folders. Not each can be linked, as to
- *   another file system. So a lock without a sign may be somebody's, until a session makes another one for it.
+ *   nobody's, is left over. What sets of an earlier life of the folder left there are no signs of its locks. A lock without a sign may be
+ *   somebody's: a renewal carries locks over, and no signs.
  * - A lock's number follows from its request's. It is odd with MG_SHARE, even without. A session with MG_SHARE leaves even ones alone:
  *   they may be kept for a session that begins again.
  */
@@ -59,17 +58,13 @@ struct entry {
     uint32_t lock;    /* 0: none is chosen yet */
     int mode;
     int sign;
-    uint64_t sign_of; /* the set in which the sign is */
-    bool is_lent;     /* a child may have its sign */
     char name[MG_NAME_LENGTH + 1];
 };
 
 struct mg_session {
-    char *folder;         /* as it was given, but from the root; it may be a link */
-    char *at;             /* where it led to */
-    dev_t device;         /* which folder that is */
-    ino_t inode;
-    uint64_t set;         /* the greatest cluster number of a folder that it led to */
+    char *at;             /* the folder's own path: a link is followed once */
+    bool is_begun;        /* its images were opened once */
+    uint64_t set;         /* their cluster number */
     struct mg_host *host; /* of a talk */
     struct mg_host *eye;  /* with MG_SHARE, to look */
     bool is_endless;      /* the log of the folder that was opened last */
@@ -136,52 +131,27 @@ static void close_all(struct mg_session *session) {
     session->host = session->eye = NULL;
 }
 
-/* Whether the folder leads where it led, as a path without a link does, and to the images that are open: it may be used again for a later set. */
-static bool is_where_it_was(const struct mg_session *session) {
+/* Closes what is open where the folder has other images by now. */
+static void look_at_images(struct mg_session *session) {
     struct mg_host *open = session->host ? session->host : session->eye;
-    struct stat there;
-    if (!session->at)
-        return false;
-    if (strcmp(session->at, session->folder) != 0 &&
-        !(stat(session->folder, &there) == 0 && there.st_dev == session->device && there.st_ino == session->inode))
-        return false;
-    return !open || has_images_of(open, session->at);
+    if (open && !has_images_of(open, session->at))
+        close_all(session);
 }
 
-/* Finds where the folder leads to. Where that has moved, what was open is closed: the log was renewed. */
-static int follow(struct mg_session *session) {
-    struct stat there;
-    char *at;
-    if (is_where_it_was(session))
-        return MG_OK;
-    at = realpath(session->folder, NULL);
-    if (!at)
-        return errno == ENOMEM ? MG_NO_MEMORY : MG_UNREADABLE;
-    if (stat(at, &there) != 0) {
-        free(at);
-        return MG_UNREADABLE;
-    }
-    close_all(session);
-    free(session->at);
-    session->at = at;
-    session->device = there.st_dev;
-    session->inode = there.st_ino;
-    return MG_OK;
-}
-
-/* Sets have rising numbers, and what claims know is of the last one. */
+/* What claims know is of the log of one set. */
 static int accept_set(struct mg_session *session, struct mg_host *host) {
     struct mg_host_view facts = {0, 0, 0, 0, 0, 0};
     int status = mg_host_facts(host, &facts);
     if (status != MG_OK)
         return status;
-    if (facts.cluster < session->set)
+    if (session->is_begun && facts.cluster != session->set)
         return MG_WRONG_HEADER;
     /* The log was made endless in place. */
     if (session->eye && session->eye != host && session->is_endless != (facts.endless == 1)) {
         mg_close(session->eye);
         session->eye = NULL;
     }
+    session->is_begun = true;
     session->set = facts.cluster;
     session->is_endless = facts.endless == 1;
     return MG_OK;
@@ -189,13 +159,14 @@ static int accept_set(struct mg_session *session, struct mg_host *host) {
 
 /* Opens the folder under the host number, unless it is open there. What it has learned then is all, or with MG_SHARE what marks tell. */
 static int open_once(struct mg_session *session, int *disk) {
-    int status = follow(session);
+    int status;
+    look_at_images(session);
     if (session->host && session->is_worn) {
         mg_close(session->host);
         session->host = NULL;
     }
-    if (status != MG_OK || session->host)
-        return status;
+    if (session->host)
+        return MG_OK;
     session->is_worn = false;
     status = mg_open(session->at, session->number, &session->host, disk);
     if (status == MG_OK)
@@ -223,10 +194,8 @@ static int mark_all(struct mg_host *host, int64_t until) {
     return status;
 }
 
-/* An image that failed is given up by its host, and a full log may be renewed. */
-static void wear(struct mg_session *session, int status) {
-    session->is_worn |= status == MG_NO_MAJORITY || status == MG_LOG_FULL || status == MG_BROKEN;
-}
+/* An image that failed is given up by its host. */
+static void wear(struct mg_session *session, int status) { session->is_worn |= status == MG_NO_MAJORITY || status == MG_BROKEN; }
 
 static void end_talk(struct mg_session *session) {
     if (is_shared(session)) {
@@ -271,14 +240,16 @@ static int open_eye(struct mg_session *session, int *disk) {
 
 /* What a wait looks by: with MG_SHARE without the host number. */
 static int open_to_look(struct mg_session *session, struct mg_host **looks) {
-    int status = is_shared(session) ? follow(session) : open_once(session, NULL);
-    if (status == MG_OK && is_shared(session) && !session->eye)
+    int status = is_shared(session) ? MG_OK : open_once(session, NULL);
+    if (is_shared(session))
+        look_at_images(session);
+    if (is_shared(session) && !session->eye)
         status = open_eye(session, NULL);
     *looks = status != MG_OK ? NULL : is_shared(session) ? session->eye : session->host;
     return status;
 }
 
-/* Whether a look by that takes the number for a moment. */
+/* Whether a look by that may take the number for a moment. */
 static bool looks_in_talks(const struct mg_session *session) { return is_shared(session) && session->is_endless; }
 
 /* ---- the table ---- */
@@ -310,13 +281,6 @@ static struct entry *entry_of(struct mg_session *session, uint32_t lock) {
 
 /* ---- signs of life ---- */
 
-/* The cluster number of the set whose folder is open. What is open is of one folder. */
-static uint64_t set_of(const struct mg_session *session) {
-    struct mg_host_view facts = {0, 0, 0, 0, 0, 0};
-    (void)mg_host_facts(session->host ? session->host : session->eye, &facts);
-    return facts.cluster;
-}
-
 /* The path of a lock's sign in the folder that is open. Where there is none, for lack of room or memory, it is empty: nothing is found or made there. */
 static bool path_of_sign(const struct mg_session *session, unsigned number, uint32_t lock, char *into, size_t size) {
     struct mg_host *open = session->host ? session->host : session->eye;
@@ -341,7 +305,7 @@ static int open_sign(const char *path, int flags) {
 
 static bool is_same(const struct stat *one, const struct stat *other) { return one->st_dev == other->st_dev && one->st_ino == other->st_ino; }
 
-/* Whether the file has this name no more: somebody removed it before it was locked. In another folder it may have one. */
+/* Whether the file has this name no more: somebody removed it before it was locked. Elsewhere it may have one. */
 static bool is_removed(int file, const char *path) {
     struct stat ours, there;
     if (fstat(file, &ours) != 0 || ours.st_nlink == 1)
@@ -393,33 +357,6 @@ static enum owner take_sign(const struct mg_session *session, unsigned number, u
 /* Why a sign is UNKNOWN, by session->cause. */
 static int unknown(const struct mg_session *session) { return session->cause == ENOMEM ? MG_NO_MEMORY : MG_NO_LOCK; }
 
-/* Whether the entry's sign is ours in the folder that is open. In a renewed folder it is linked, or is made anew, in a talk: so nobody finds it before it
- * is locked. A child that has the first one keeps the lock if this process is killed, so then there is no other one. */
-static bool keeps_sign(struct mg_session *session, struct entry *entry) {
-    struct stat ours, there;
-    char path[4200];
-    enum owner owner;
-    int sign;
-    if (entry->lock == 0 || entry->sign == NO_SIGN || set_of(session) == entry->sign_of)
-        return true;
-    if (!path_of_sign(session, session->number, entry->lock, path, sizeof path))
-        return true;
-    if (stat(path, &there) != 0) {
-        if (errno != ENOENT || entry->is_lent || !session->host)
-            return true;
-    } else if (fstat(entry->sign, &ours) == 0 && is_same(&ours, &there)) {
-        entry->sign_of = set_of(session);
-        return true;
-    }
-    owner = take_file(path, true, &sign);
-    if (owner != MINE)
-        return owner != OTHERS;
-    close(entry->sign);
-    entry->sign = sign;
-    entry->sign_of = set_of(session);
-    return true;
-}
-
 static void end_sign(const struct mg_session *session, uint32_t lock, int sign) {
     char path[4200];
     if (sign == NO_SIGN)
@@ -441,7 +378,7 @@ static bool is_old_sign(struct mg_session *session, const char *name) {
         return false;
     if (name[length] != '\0' || number != session->number)
         return false;
-    return !has_set || set != set_of(session) ||
+    return !has_set || set != session->set ||
            (!entry_of(session, lock) && mg_lock(session->host, lock, &view) == MG_NO_SUCH_LOCK);
 }
 
@@ -535,7 +472,6 @@ static void take_sign_for(struct mg_session *session, struct entry *entry, struc
     case MINE:
         entry->lock = lock;
         entry->sign = sign;
-        entry->sign_of = set_of(session);
         claim_hears(&entry->claim, host, SIGN_IS_OURS, 0, false);
         break;
     case OTHERS: claim_hears(&entry->claim, host, SIGN_IS_HELD, 0, false); break;
@@ -627,13 +563,13 @@ static struct mg_host *open_for(struct mg_session *session, struct entry *entry,
         (void)dlm_c_hear_alone(&entry->claim, IS_CLOSED, status);
         return NULL;
     }
-    claim_hears(&entry->claim, host, keeps_sign(session, entry) ? IS_OPEN : SIGN_IS_HELD, 0, false);
+    claim_hears(&entry->claim, host, IS_OPEN, 0, false);
     return host;
 }
 
-/* Looks. Where that takes the number it waits for its turn, but shortly. */
+/* Looks. Where that takes the number it waits for its turn, but shortly; and so may the next look. */
 static int look_in_turn(struct mg_session *session, struct mg_host *host, struct work *work) {
-    bool takes_number = looks_in_talks(session) && host == session->eye;
+    bool takes_number = host == session->eye && took_number(host);
     int64_t began = milliseconds(), until = began + LONGEST_PAUSE, turn;
     int status;
     work->seen = takes_number ? last_write(host) : 0;
@@ -711,7 +647,7 @@ static void release_others(struct mg_session *session) {
 
 /* What the operation has come to, by the host that was heard last. */
 static void conclude(struct mg_session *session, struct entry *entry, struct mg_host *host, struct work *work) {
-    struct claim_view view = {0, 0, 0, 0, -1};
+    struct claim_view view = {0, 0, 0, -1};
     uint64_t slots, used;
     (void)dlm_c_show(&entry->claim, &view);
     if (view.request > session->request)
@@ -805,8 +741,7 @@ static int enter_left(struct mg_session *session, struct entry *entry, const str
     entry->lock = view->lock;
     entry->mode = view->wanted == MG_NONE ? view->held : view->wanted;
     entry->sign = sign;
-    entry->sign_of = set_of(session);
-    return dlm_c_left(&entry->claim, &asker, view->lock, (const uint8_t *)entry->name, strlen(entry->name), (uint32_t)entry->mode, entry->sign_of);
+    return dlm_c_left(&entry->claim, &asker, view->lock, (const uint8_t *)entry->name, strlen(entry->name), (uint32_t)entry->mode);
 }
 
 /* Releases it by a claim, in a talk. */
@@ -876,11 +811,6 @@ static bool release_some(struct mg_session *session, const char *name, int64_t l
 
 /* ---- give ---- */
 
-static bool is_link(const char *path) {
-    struct stat facts;
-    return lstat(path, &facts) == 0 && S_ISLNK(facts.st_mode);
-}
-
 static int begin_to_give(struct mg_session *session, struct entry *entry, const void *value) {
     struct asker asker = asker_of(session);
     struct claim_value stored = NO_VALUE;
@@ -906,21 +836,17 @@ static int settle(struct entry *entry, const struct work *work) {
     }
 }
 
-/* For a minute it waits for disks, and for a full log to be renewed. */
 static int give(struct mg_session *session, struct entry *entry, const void *value, int64_t until) {
-    for (;;) {
-        struct work work;
-        int status = begin_to_give(session, entry, value);
-        if (status != MG_OK)
-            return MG_BAD_ARGUMENT;
-        memset(&work, 0, sizeof work);
-        work.until = until;
-        operate(session, entry, &work);
-        status = settle(entry, &work);
-        tell_cause(work.cause);
-        if (status != MG_LOG_FULL || !is_link(session->folder) || pause_for(session, LONGEST_PAUSE, until, false) != MG_OK)
-            return status;
-    }
+    struct work work;
+    int status = begin_to_give(session, entry, value);
+    if (status != MG_OK)
+        return MG_BAD_ARGUMENT;
+    memset(&work, 0, sizeof work);
+    work.until = until;
+    operate(session, entry, &work);
+    status = settle(entry, &work);
+    tell_cause(work.cause);
+    return status;
 }
 
 /* What a take gave up was never held, and stores nothing. */
@@ -1002,7 +928,7 @@ static int end_in_doubt(struct mg_session *session, struct entry *entry, const s
 }
 
 static int take(struct mg_session *session, struct entry *entry, struct work *work, struct mg_held *held) {
-    struct claim_view view = {0, 0, 0, 0, -1};
+    struct claim_view view = {0, 0, 0, -1};
     int status;
     entry->state = OURS;
     operate(session, entry, work);
@@ -1011,7 +937,7 @@ static int take(struct mg_session *session, struct entry *entry, struct work *wo
     case IS_HELD:
         held->lock = entry->lock;
         held->slot = view.slot;
-        held->cluster = view.set;
+        held->cluster = session->set;
         held->slots_left = work->slots_left;
         held->released = work->released;
         held->value = work->value;
@@ -1217,24 +1143,14 @@ static int keep_left(struct mg_session *session) {
     return status;
 }
 
-/* The path from the root, to be freed, or NULL: the program may go to another folder meanwhile. */
-static char *from_root(const char *folder) {
-    char *here = folder[0] == '/' || folder[0] == '\0' ? NULL : getcwd(NULL, 0);
-    size_t size = (here ? strlen(here) : 0) + strlen(folder) + 2;
-    char *path = malloc(size);
-    if (path)
-        (void)snprintf(path, size, "%s%s%s", here ? here : "", here ? "/" : "", folder);
-    free(here);
-    return path;
-}
-
 static int begin(struct mg_session *session, int *disk) {
-    int status = is_shared(session) ? follow(session) : begin_talk(session, milliseconds() + LITTLE_PATIENCE, disk);
+    int status;
+    if (is_shared(session))
+        return open_eye(session, disk);
+    status = begin_talk(session, milliseconds() + LITTLE_PATIENCE, disk);
     session->cause = errno;
     if (status != MG_OK)
         return status;
-    if (is_shared(session))
-        return open_eye(session, disk);
     if (session->flags & MG_KEEP)
         status = keep_left(session);
     return status == MG_OK ? release_left(session, false, milliseconds() + PATIENCE, false).status : status;
@@ -1257,8 +1173,11 @@ int mg_begin(const char *folder, unsigned host, unsigned flags, struct mg_sessio
     session->interval = FIRST_INTERVAL;
     for (size_t i = 0; i < MG_LOCKS; i++)
         session->entries[i].sign = NO_SIGN;
-    session->folder = from_root(folder);
-    status = session->folder ? begin(session, disk) : MG_NO_MEMORY;
+    session->at = realpath(folder, NULL);
+    if (session->at)
+        status = begin(session, disk);
+    else
+        status = errno == ENOMEM ? MG_NO_MEMORY : MG_UNREADABLE;
     if (status != MG_OK) {
         int cause = session->cause != 0 ? session->cause : errno;
         mg_end(session);
@@ -1276,7 +1195,6 @@ void mg_end(struct mg_session *session) {
     for (size_t i = 0; i < MG_LOCKS; i++)
         free_entry(&session->entries[i]);
     free(session->at);
-    free(session->folder);
     free(session);
 }
 
@@ -1311,9 +1229,6 @@ int mg_host_of(struct mg_session *session, struct mg_host **host) {
 }
 
 int mg_sign_of(struct mg_session *session, unsigned lock) {
-    struct entry *entry = session ? entry_of(session, lock) : NULL;
-    if (!entry)
-        return NO_SIGN;
-    entry->is_lent = true;
-    return entry->sign;
+    const struct entry *entry = session ? entry_of(session, lock) : NULL;
+    return entry ? entry->sign : NO_SIGN;
 }

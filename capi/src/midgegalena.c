@@ -51,7 +51,7 @@ struct request {
     uint32_t no_queue;
     uint32_t purged;
     uint32_t gives;
-    uint32_t unused;
+    uint32_t forgotten;
     uint8_t value[MG_VALUE_LENGTH];
 };
 
@@ -143,11 +143,11 @@ typedef char sizes_are_as_there[sizeof(struct handle) == 16 && sizeof(struct req
                                     ? 1
                                     : -1];
 
-enum { ENQUEUE = 1, CONVERT = 2, RELEASE = 3, CANCEL = 4, STATUS = 5, PURGE = 6 };
+enum { ENQUEUE = 1, CONVERT = 2, RELEASE = 3, CANCEL = 4, STATUS = 5, PURGE = 6, FORGET = 7 };
 enum { ATTACH = 1, SYNC = 2, READ = 3, WRITE = 4 };
 enum { DONE = 0, RESET = 1, FAILED = 2 };
 enum { NOTHING_DUE = -5, NO_TABLE = -10, HAS_AN_END = -11 };
-enum { NOT_LEARNED = 30 }; /* of a marking alone, of crates/attempt: that place is of no epoch where the host is */
+enum { NOT_LEARNED = 30 }; /* of crates/attempt: of a marking, that place is of no epoch where the host is; of a look, marks do not tell the table */
 
 bool dlm_c_is_waited_for(const struct request *request);
 int32_t dlm_c_open(const struct images *images, uint32_t number, struct handle *handle, struct opened *told, int32_t *disk);
@@ -169,6 +169,7 @@ int32_t dlm_c_text(struct handle *handle, uint8_t *into, size_t room, size_t *le
 int32_t dlm_c_sign_name(struct handle *handle, uint32_t number, uint32_t lock, uint8_t *into, size_t room);
 
 int32_t dlm_c_epochs_open(const struct images *images, uint32_t number, struct epoch_handle *handle, struct opened *told, int32_t *disk);
+int32_t dlm_c_epochs_open_to_look(const struct images *images, struct epoch_handle *handle, struct opened *told, int32_t *disk);
 void dlm_c_epochs_close(struct epoch_handle *handle);
 int32_t dlm_c_epochs_submit(struct epoch_handle *handle, const struct request *request, const uint8_t *name, size_t length, uint32_t tries);
 int32_t dlm_c_epochs_recover(struct epoch_handle *handle, uint32_t tries);
@@ -228,9 +229,9 @@ static const struct meaning MEANINGS[] = {
      "no majority of the disks answers; bring them back, and ask again, with the same request number"},
     {MG_BALLOTS_SPENT, "BallotsSpent", "the ballots of this host are spent; try through another host number"},
     {MG_LOG_FULL, "LogFull",
-     "all slots of the log are taken; once it is renewed open the folder again, and ask again, with the same request number"},
+     "all slots of the log are taken; dlm renew carries its table over into a new folder"},
     {MG_NOT_A_COMMAND, "NotACommand", "a committed value spells no command; somebody else wrote to the images"},
-    {MG_LOCK_IN_USE, "LockInUse", "the lock number is in the table"},
+    {MG_LOCK_IN_USE, "LockInUse", "the lock number is in the table, or the client to forget has a lock"},
     {MG_NO_SUCH_LOCK, "NoSuchLock", "the lock number is not in the table"},
     {MG_NOT_OWNER, "NotOwner", "the lock is another client's"},
     {MG_ALREADY_CONVERTING, "AlreadyConverting", "the lock converts already"},
@@ -291,12 +292,6 @@ void because(const char *format, ...) {
     (void)vsnprintf(cause + length, sizeof cause - length, format, rest);
     va_end(rest);
     errno = error;
-}
-
-/* A look comes to the epoch, and that is written under the host's number. */
-static int refuse_endless(void) {
-    because("the log of this folder has no end: there a look writes, so none is made without a host number");
-    return MG_WRONG_HEADER;
 }
 
 /* ---- files: as FileDisk of crates/disk ---- */
@@ -372,9 +367,8 @@ char *path_of(const char *folder, const char *name, int number, const char *end)
 
 enum { FIRST_TRIES = 8, FIRST_BYTES = 64 };
 
-/* LOOKS: without a number, so no call of it writes. VISITS: the same, but where a look writes it takes a number for that. TAKES: only to make the number this
- * machine's. ASKS: only to tell whose it is. */
-enum way { WORKS, LOOKS, VISITS, TAKES, ASKS };
+/* LOOKS: without a number, so no call of it writes. TAKES: only to make the number this machine's. ASKS: only to tell whose it is. */
+enum way { WORKS, LOOKS, TAKES, ASKS };
 
 struct mg_host {
     struct handle handle;       /* one of these two is open */
@@ -382,8 +376,9 @@ struct mg_host {
     bool is_endless;            /* that one */
     unsigned tries, disks;
     bool only_looks;
-    char *visited;                /* the folder where each look takes the number `visitor` for a moment; NULL where none does */
+    char *visited;                /* the folder where a look takes the number `visitor` for a moment if marks do not tell the table; NULL where none does */
     unsigned visitor;
+    bool took_number;             /* the last look did */
     int lock;
     int files[MG_DISKS];          /* NO_FILE: every call fails */
     struct device how[MG_DISKS];  /* of a device that several machines use; of other images the sector size is 0 */
@@ -462,8 +457,8 @@ struct facts {
     uint64_t taken; /* slots of it whose commands are learned */
 };
 
-static int32_t open_handle(struct mg_host *host, const struct images *images, unsigned number, struct opened *told, int32_t *disk) {
-    int32_t status = dlm_c_epochs_open(images, number, &host->epochs, told, disk);
+static int32_t open_handle(struct mg_host *host, const struct images *images, unsigned number, enum way way, struct opened *told, int32_t *disk) {
+    int32_t status = way == LOOKS ? dlm_c_epochs_open_to_look(images, &host->epochs, told, disk) : dlm_c_epochs_open(images, number, &host->epochs, told, disk);
     host->is_endless = status == 0;
     return status == HAS_AN_END ? dlm_c_open(images, number, &host->handle, told, disk) : status;
 }
@@ -652,14 +647,14 @@ static void let_go(struct mg_host *host) {
 static void find_other(struct mg_host *host, unsigned disk, int file) {
     struct device how;
     struct header shown;
-    if (!device_first(file, host->room) || host->room[1] != DEVICE_VERSION)
+    if (!device_first(file, host->room) || !device_version(host->room[1]))
         return;
     for (unsigned other = 0; other < MG_DISKS; other++)
         if (other != disk && device_find(file, other, host->room, &how, &shown))
             host->images[disk].other = (int32_t)other;
 }
 
-/* Opens an image anew, past the machine's cache, if it is a device that several machines use. Tells of it as of an image of layout 2. */
+/* Opens an image anew, past the machine's cache, if it is a device that several machines use. Tells of it as of the image that it shows. */
 static bool find_shared(struct mg_host *host, unsigned disk, const char *path, int flags, struct image *image) {
     struct device how;
     struct header shown;
@@ -705,7 +700,7 @@ static bool find_image(struct mg_host *host, const char *folder, unsigned disk, 
             image->is_read = image->is_device && find_shared(host, disk, path, flags, image);
             if (!image->is_read && read_settled(*file, image->bytes, size < HEADER_LENGTH ? (size_t)size : HEADER_LENGTH, 0)) {
                 image->is_read = 1;
-                if (!image->is_device && image->bytes[1] == DEVICE_VERSION)
+                if (!image->is_device && device_version(image->bytes[1]))
                     (void)find_shared(host, disk, path, flags, image);
             }
         }
@@ -821,7 +816,7 @@ static int open_host(struct mg_host *host, struct images *images, const char *fo
     for (unsigned k = 0; k < MG_DISKS; k++)
         if (!find_image(host, folder, k, way == WORKS || way == TAKES ? O_RDWR : O_RDONLY, &images->all[k]))
             return MG_NO_MEMORY;
-    status = open_handle(host, images, number, &told, disk);
+    status = open_handle(host, images, number, way, &told, disk);
     if (status != 0 && *disk >= 0 && *disk < MG_DISKS && (status == MG_UNREADABLE || host->images[*disk].other >= 0))
         say_why_not(host, (unsigned)*disk);
     else if (status == MG_WRONG_HEADER && *disk >= 0 && *disk < MG_DISKS && is_shared(host, (unsigned)*disk))
@@ -839,8 +834,6 @@ static int open_host(struct mg_host *host, struct images *images, const char *fo
             return MG_BAD_ARGUMENT;
         }
     }
-    if (way == LOOKS && host->is_endless)
-        return refuse_endless();
     if (way != WORKS && way != TAKES)
         return MG_OK;
     status = lock_number(folder, number, &host->lock);
@@ -864,7 +857,7 @@ static int open_folder(const char *folder, unsigned number, enum way way, struct
     if (!host)
         return MG_NO_MEMORY;
     host->tries = FIRST_TRIES;
-    host->only_looks = way == LOOKS || way == VISITS;
+    host->only_looks = way == LOOKS;
     host->lock = NO_FILE;
     for (unsigned k = 0; k < MG_DISKS; k++) {
         host->files[k] = NO_FILE;
@@ -944,7 +937,7 @@ uint64_t last_write(const struct mg_host *host) {
 int mg_open_to_look(const char *folder, struct mg_host **out, int *disk) { return open_folder(folder, 0, LOOKS, out, disk); }
 
 int open_to_visit(const char *folder, unsigned number, struct mg_host **out, int *disk) {
-    int status = open_folder(folder, 0, VISITS, out, disk);
+    int status = open_folder(folder, 0, LOOKS, out, disk);
     if (status != MG_OK || !(*out)->is_endless)
         return status;
     (*out)->visited = strdup(folder);
@@ -1198,6 +1191,12 @@ int mg_purge(struct mg_host *host, unsigned client, uint64_t request, unsigned p
     return submit(host, &asked, "", answer);
 }
 
+int mg_forget(struct mg_host *host, unsigned client, uint64_t request, unsigned forgotten, struct mg_answer *answer) {
+    struct request asked = asks(FORGET, client, request, 0);
+    asked.forgotten = forgotten;
+    return submit(host, &asked, "", answer);
+}
+
 /* ---- claims ---- */
 
 void claim_hears(struct claim *claim, struct mg_host *host, enum event event, int status, bool left_over) {
@@ -1286,7 +1285,8 @@ int submit_purge(struct mg_host *host, const struct cleanup *cleanup, unsigned *
 
 /* ---- what others did ---- */
 
-/* A look that finds an epoch full carries its table over, by commands that others may outrun. Any other look is never outrun. */
+/* A host's look that finds an epoch full carries its table over, by commands that others may outrun. Any other look is never outrun. One without a number may learn
+ * of the newest epoch no more than marks tell, and then not know the table. */
 static int look(struct mg_host *host, struct outcome *outcome) {
     unsigned outrun = 0;
     int status;
@@ -1294,23 +1294,25 @@ static int look(struct mg_host *host, struct outcome *outcome) {
     do
         status = host->is_endless ? carry_out_once(host, begin_to_look(host), outcome) : carry_out(host, begin_to_look(host), outcome);
     while (tries_again(host, status, outrun++));
-    return status;
+    return status == NOT_LEARNED ? MG_NO_TABLE : status;
 }
 
-/* Looks by another handle, which has the number meanwhile. What that has learned is shown from then on. */
-static int visit(struct mg_host *host, struct outcome *outcome) {
+/* Looks by another handle, and what that has learned is shown from then on: by one that has the number meanwhile, or by one without. */
+static int look_through(struct mg_host *host, enum way way, struct outcome *outcome) {
     struct mg_host *other, seen;
-    int status = open_folder(host->visited, host->visitor, WORKS, &other, NULL);
+    int status = open_folder(host->visited, way == LOOKS ? 0 : host->visitor, way, &other, NULL);
     *outcome = NO_OUTCOME;
     if (status != MG_OK)
         return status;
     status = look(other, outcome);
-    close(other->lock);
+    if (other->lock != NO_FILE)
+        close(other->lock);
     other->lock = NO_FILE;
     if (status == MG_OK) {
         other->only_looks = true;
         other->visited = host->visited;
         other->visitor = host->visitor;
+        other->took_number = way == WORKS;
         host->visited = NULL;
         seen = *other;
         *other = *host;
@@ -1320,14 +1322,40 @@ static int visit(struct mg_host *host, struct outcome *outcome) {
     return status;
 }
 
+static bool is_behind_a_whole_epoch(struct mg_host *host, uint64_t *epoch) {
+    uint64_t slots, used;
+    return mg_epoch(host, epoch, &slots, &used) == MG_OK && used == slots;
+}
+
+/* A handle that took the number has let it go, so it looks no more. A look without a number ends with the epoch in which it was. Once it knows all of that it looks
+ * again, for there may be a later one. */
+static int look_alone(struct mg_host *host, struct outcome *outcome) {
+    uint64_t epoch, before;
+    int status = host->took_number ? look_through(host, LOOKS, outcome) : look(host, outcome);
+    if (!host->only_looks || !host->is_endless || status != MG_OK || !is_behind_a_whole_epoch(host, &epoch))
+        return status;
+    do {
+        before = epoch;
+        status = look(host, outcome);
+    } while (status == MG_OK && is_behind_a_whole_epoch(host, &epoch) && epoch != before);
+    return status;
+}
+
+static int visit(struct mg_host *host, struct outcome *outcome) {
+    int status = look_alone(host, outcome);
+    return status == MG_NO_TABLE && host->visited ? look_through(host, WORKS, outcome) : status;
+}
+
 int look_once(struct mg_host *host) {
     struct outcome outcome;
-    return host->visited ? visit(host, &outcome) : look(host, &outcome);
+    return visit(host, &outcome);
 }
+
+bool took_number(const struct mg_host *host) { return host->took_number; }
 
 enum { FOR_A_TURN = 5000, LONGEST_TURN = 16 }; /* milliseconds */
 
-/* Waits while somebody else on this machine has the number. */
+/* Waits while somebody else on this machine has a number that the look needs. */
 static int visit_in_turn(struct mg_host *host, struct outcome *outcome) {
     int64_t until = milliseconds() + FOR_A_TURN;
     for (;;) {
@@ -1352,7 +1380,7 @@ int mg_look(struct mg_host *host, uint64_t *learned) {
         *learned = 0;
     if (!host)
         return MG_BAD_ARGUMENT;
-    status = host->visited ? visit_in_turn(host, &outcome) : look(host, &outcome);
+    status = visit_in_turn(host, &outcome);
     if (learned)
         *learned = outcome.learned;
     return status;
@@ -1424,8 +1452,8 @@ static int64_t time_of_recovery(void) { return milliseconds() + BEFORE_A_RECOVER
 static int look_further(struct mg_host *host, int64_t *recovers) {
     uint64_t learned = learned_by(host);
     int status = mg_look(host, NULL);
-    /* Others carry the table over into the next epoch, and mark that. */
-    if (status == MG_OUTRUN)
+    /* Others carry the table over into the next epoch, and mark that; or what tells it is not marked yet. */
+    if (status == MG_OUTRUN || status == MG_NO_TABLE)
         return MG_OK;
     if (status != MG_OK)
         return status;

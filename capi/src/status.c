@@ -1,6 +1,6 @@
 /*
  * mg-lock --status: looks at the images by a handle that has no host number (mg_open_to_look), and reads from Linux which files of the folder
- * somebody has locked. Where the log has no end a look takes a number for a moment. man man/mg-lock.1 says what it prints.
+ * somebody has locked. Only where marks do not tell the table of a log without an end it takes a number for a moment. man man/mg-lock.1 says what it prints.
  *
  * Who has a file locked by flock(2) stands in /proc/locks, by the device and inode of the file. A lock of the file's own would tell it, too, but
  * would keep others from the file for that moment. So no file of the folder is even opened, but for its place (O_PATH).
@@ -16,6 +16,7 @@
 #include <fcntl.h>
 #include <inttypes.h>
 #include <limits.h>
+#include <stdbool.h>
 #include <stdlib.h>
 #include <string.h>
 #include <sys/stat.h>
@@ -39,7 +40,8 @@ struct locked {
 
 /* What is shown. */
 struct status {
-    int refusal; /* of the look */
+    const char *folder; /* as the caller names it */
+    int refusal;        /* of the look */
     struct mg_host_view facts;
     bool is_in_epoch;
     uint64_t epoch, taken; /* of a log without an end: which one, and how many of its slots are used */
@@ -52,6 +54,7 @@ struct status {
     struct mg_lock_view locks[MG_LOCKS];
     enum held signs[MG_LOCKS];
     size_t count;
+    size_t clients; /* that the table knows */
     struct locked *locked;
     size_t locked_count;
     bool is_known;
@@ -158,6 +161,8 @@ static int look_at(struct status *status, struct mg_host *host) {
     status->refusal = refusal;
     if (refusal == MG_OK)
         refusal = mg_locks(host, status->locks, MG_LOCKS, &status->count);
+    if (refusal == MG_OK)
+        refusal = mg_clients(host, NULL, 0, &status->clients);
     if (status->count > MG_LOCKS)
         status->count = MG_LOCKS;
     (void)mg_host_facts(host, &status->facts);
@@ -362,6 +367,7 @@ static void put_status(FILE *out, const struct status *status) {
     put_number(out, "left", is_known && ends, status->facts.slots - status->facts.learned);
     put_disks(out, status);
     put_hosts(out, status);
+    put_number(out, "clients", is_known, status->clients);
     if (is_known)
         put_locks(out, status);
     else
@@ -369,20 +375,231 @@ static void put_status(FILE *out, const struct status *status) {
     fputs("}\n", out);
 }
 
-/* Without a host number; or where a look writes, by the greatest one that nobody has. */
-static int open_to_look(const char *folder, struct mg_host **host, int *disk) {
-    int status = mg_open_to_look(folder, host, disk);
-    if (status != MG_WRONG_HEADER || *disk >= 0)
-        return status;
-    for (unsigned number = MG_HOSTS; number-- > 0;) {
-        status = mg_open(folder, number, host, disk);
-        if (status != MG_HOST_IN_USE)
-            break;
-    }
-    return status;
+/* ---- for Prometheus: https://prometheus.io/docs/instrumenting/exposition_formats ---- */
+
+/* How many bytes a character of UTF-8 has that begins here. 0: none does. */
+static size_t character_at(const char *text) {
+    const unsigned char *bytes = (const unsigned char *)text;
+    unsigned first = bytes[0];
+    size_t length = first < 0x80 ? 1 : first < 0xC2 ? 0 : first < 0xE0 ? 2 : first < 0xF0 ? 3 : first < 0xF5 ? 4 : 0;
+    for (size_t i = 1; i < length; i++)
+        if ((bytes[i] & 0xC0) != 0x80)
+            return 0;
+    /* Longer than it has to be, half of a pair of UTF-16, above the last character. */
+    if ((first == 0xE0 && bytes[1] < 0xA0) || (first == 0xED && bytes[1] > 0x9F) || (first == 0xF0 && bytes[1] < 0x90) ||
+        (first == 0xF4 && bytes[1] > 0x8F))
+        return 0;
+    return length;
 }
 
-int show_status(const char *folder, bool as_json, FILE *out, int *disk) {
+/* A label has characters alone. A byte that is of none is put as four of them, as \xff. */
+static void put_label(FILE *out, const char *label, const char *text) {
+    fprintf(out, "%s=\"", label);
+    while (*text) {
+        size_t length = character_at(text);
+        if (length == 0)
+            fprintf(out, "\\\\x%02x", (unsigned)(unsigned char)*text);
+        else if (*text == '\n')
+            fputs("\\n", out);
+        else if (*text == '"' || *text == '\\')
+            fprintf(out, "\\%c", *text);
+        else
+            fwrite(text, 1, length, out);
+        text += length > 0 ? length : 1;
+    }
+    fputc('"', out);
+}
+
+/* One more label. */
+static void add_label(FILE *out, const char *label, const char *text) {
+    fputc(',', out);
+    put_label(out, label, text);
+}
+
+static void add_number(FILE *out, const char *label, int number) { fprintf(out, ",%s=\"%d\"", label, number); }
+
+static void add_refusal(FILE *out, int refusal) {
+    add_number(out, "number", refusal);
+    add_label(out, "name", mg_name(refusal));
+}
+
+/* All samples of this metric come next. */
+static void put_metric(FILE *out, const char *metric, const char *help) {
+    fprintf(out, "# HELP midgegalena_%s %s\n# TYPE midgegalena_%s gauge\n", metric, help, metric);
+}
+
+/* Folders of one machine are told apart by their names. */
+static void begin_sample(FILE *out, const struct status *status, const char *metric) {
+    fprintf(out, "midgegalena_%s{", metric);
+    put_label(out, "folder", status->folder);
+}
+
+static void end_sample(FILE *out, uint64_t value) { fprintf(out, "} %" PRIu64 "\n", value); }
+
+/* A sample of a disk or of a host. */
+static void put_numbered(FILE *out, const struct status *status, const char *metric, const char *label, size_t number, uint64_t value) {
+    begin_sample(out, status, metric);
+    add_number(out, label, (int)number);
+    end_sample(out, value);
+}
+
+/* A metric that is one sample. */
+static void put_sample(FILE *out, const struct status *status, const char *metric, const char *help, uint64_t value) {
+    put_metric(out, metric, help);
+    begin_sample(out, status, metric);
+    end_sample(out, value);
+}
+
+static void put_samples_of_look(FILE *out, const struct status *status, int refusal) {
+    put_sample(out, status, "up", "Whether the lock table was read (1) or refused (0).", refusal == MG_OK);
+    if (refusal == MG_OK)
+        return;
+    put_metric(out, "refusal_info", "Why the lock table was refused, by number and name.");
+    begin_sample(out, status, "refusal_info");
+    add_refusal(out, refusal);
+    end_sample(out, 1);
+}
+
+static void put_samples_of_disks(FILE *out, const struct status *status) {
+    put_sample(out, status, "disks", "How many disks there are.", status->facts.disks);
+    put_sample(out, status, "disks_answering", "How many disks answer.", status->answering);
+    put_sample(out, status, "disks_may_fail", "How many more disks may fail before no majority is left.", spare(status));
+    put_metric(out, "disk_answering", "Whether a disk answers (1), or is missing or damaged (0).");
+    for (size_t i = 0; i < status->facts.disks; i++)
+        put_numbered(out, status, "disk_answering", "disk", i, status->disks[i].status == MG_OK);
+    put_metric(out, "disk_read_only", "Whether nobody may write to a disk (1).");
+    for (size_t i = 0; i < status->facts.disks; i++)
+        put_numbered(out, status, "disk_read_only", "disk", i, status->images[i].read_only);
+    put_metric(out, "disk_refusal_info", "Why a disk does not answer, by number and name.");
+    for (size_t i = 0; i < status->facts.disks; i++) {
+        if (status->disks[i].status == MG_OK)
+            continue;
+        begin_sample(out, status, "disk_refusal_info");
+        add_number(out, "disk", (int)i);
+        add_refusal(out, status->disks[i].status);
+        end_sample(out, 1);
+    }
+}
+
+static void put_samples_of_hosts(FILE *out, const struct status *status) {
+    put_metric(out, "host_in_use", "Whether a process of this machine has a host number (1).");
+    for (size_t host = 0; host < MG_HOSTS; host++)
+        put_numbered(out, status, "host_in_use", "host", host, status->hosts[host] == IS_HELD);
+}
+
+static void put_samples_of_folder(FILE *out, const struct status *status) {
+    char cluster[21];
+    snprintf(cluster, sizeof cluster, "%" PRIu64, status->facts.cluster);
+    put_metric(out, "cluster_info", "The cluster number of the folder.");
+    begin_sample(out, status, "cluster_info");
+    add_label(out, "cluster", cluster);
+    end_sample(out, 1);
+    put_sample(out, status, "log_endless", "Whether the log has no end (1), or ends (0).", status->facts.endless);
+    put_sample(out, status, "slots", "How many slots the log has, or an epoch of a log without an end.", status->facts.slots);
+}
+
+static void put_samples_of_log(FILE *out, const struct status *status) {
+    put_sample(out, status, "slots_used", "How many slots hold commands, of a log without an end in all epochs.", status->facts.learned);
+    if (!status->facts.endless)
+        put_sample(out, status, "slots_left", "How many slots of a log that ends are left.", status->facts.slots - status->facts.learned);
+    if (status->facts.endless && status->is_in_epoch) {
+        put_sample(out, status, "epoch", "In which epoch a log without an end is.", status->epoch);
+        put_sample(out, status, "epoch_slots_used", "How many slots of this epoch hold commands.", status->taken);
+    }
+    put_sample(out, status, "clients", "How many clients the lock table knows, of 32.", status->clients);
+}
+
+/* How many locks have a mode, or wait for one. */
+static unsigned locks_in(const struct mg_lock_view *locks, size_t count, int mode, bool waits) {
+    unsigned found = 0;
+    for (size_t i = 0; i < count; i++)
+        found += (waits ? locks[i].wanted : locks[i].held) == mode;
+    return found;
+}
+
+/* A sample of each name and mode that there is. The locks of a name are together. */
+static void put_samples_of_names(FILE *out, const struct status *status, const char *metric, bool waits) {
+    for (size_t first = 0, end; first < status->count; first = end) {
+        const struct mg_lock_view *locks = &status->locks[first];
+        for (end = first + 1; end < status->count && strcmp(status->locks[end].name, locks->name) == 0; end++)
+            ;
+        for (int mode = MG_NL; mode <= MG_EX; mode++) {
+            unsigned found = locks_in(locks, end - first, mode, waits);
+            if (found == 0)
+                continue;
+            begin_sample(out, status, metric);
+            add_label(out, "name", locks->name);
+            add_label(out, "mode", MODES[mode]);
+            end_sample(out, found);
+        }
+    }
+}
+
+static void put_samples_of_signs(FILE *out, const struct status *status) {
+    size_t left = 0;
+    for (size_t i = 0; i < status->count; i++) {
+        if (status->signs[i] == NOT_KNOWN)
+            return;
+        left += status->signs[i] == IS_FREE;
+    }
+    put_sample(out, status, "locks_left_over", "How many locks have a sign of life that no process of this machine has.", left);
+}
+
+static void put_samples_of_locks(FILE *out, const struct status *status) {
+    unsigned hosts[MG_HOSTS] = {0};
+    for (size_t i = 0; i < status->count; i++)
+        hosts[status->locks[i].host]++;
+    put_sample(out, status, "locks", "How many locks there are, of 256.", status->count);
+    put_sample(out, status, "locks_granted", "How many locks have a mode.", status->count - locks_in(status->locks, status->count, MG_NONE, false));
+    put_sample(out, status, "locks_waiting", "How many locks wait for a mode, also those that have another.",
+               status->count - locks_in(status->locks, status->count, MG_NONE, true));
+    put_samples_of_signs(out, status);
+    put_metric(out, "name_locks_granted", "How many locks of a name have the mode.");
+    put_samples_of_names(out, status, "name_locks_granted", false);
+    put_metric(out, "name_locks_waiting", "How many locks of a name wait for the mode.");
+    put_samples_of_names(out, status, "name_locks_waiting", true);
+    put_metric(out, "host_locks", "How many locks came through a host that has some.");
+    for (size_t host = 0; host < MG_HOSTS; host++)
+        if (hosts[host] > 0)
+            put_numbered(out, status, "host_locks", "host", host, hosts[host]);
+}
+
+/* What is known, where the table was refused, too. A folder that could not be opened has no disks. */
+static void put_samples(FILE *out, const struct status *status, int refusal) {
+    put_samples_of_look(out, status, refusal);
+    if (status->facts.disks > 0) {
+        put_samples_of_folder(out, status);
+        put_samples_of_disks(out, status);
+    }
+    if (status->knows_hosts)
+        put_samples_of_hosts(out, status);
+    if (refusal == MG_OK) {
+        put_samples_of_log(out, status);
+        put_samples_of_locks(out, status);
+    }
+}
+
+/* ---- all of it ---- */
+
+/* Looks without a host number. Where marks do not tell the table it looks by the greatest number that nobody has. */
+static int look_by_any(struct status *status, const char *folder, struct mg_host **host, int *disk) {
+    struct mg_host *by_number = NULL;
+    const char *given = status->folder;
+    int result = look_at(status, *host), opened = MG_HOST_IN_USE;
+    if (status->refusal != MG_NO_TABLE)
+        return result;
+    for (unsigned number = MG_HOSTS; opened == MG_HOST_IN_USE && number-- > 0;)
+        opened = mg_open(folder, number, &by_number, disk);
+    if (opened != MG_OK)
+        return result;
+    mg_close(*host);
+    *host = by_number;
+    memset(status, 0, sizeof *status);
+    status->folder = given;
+    return look_at(status, *host);
+}
+
+int show_status(const char *folder, enum status_form form, FILE *out, int *disk) {
     struct mg_host *host;
     struct status *status;
     char *followed = NULL;
@@ -391,19 +608,22 @@ int show_status(const char *folder, bool as_json, FILE *out, int *disk) {
     status = calloc(1, sizeof *status);
     if (!status)
         return MG_NO_MEMORY;
+    status->folder = folder;
     /* A link is followed once, so that all is of one folder. */
     followed = realpath(folder, NULL);
     folder = followed ? followed : folder;
-    result = open_to_look(folder, &host, disk);
+    result = mg_open_to_look(folder, &host, disk);
     if (result == MG_OK) {
-        result = look_at(status, host);
+        result = look_by_any(status, folder, &host, disk);
         mg_close(host);
         read_locked(status);
         find_hosts(status, folder);
         find_signs(status, folder);
-        if (result == MG_OK || status->refusal != MG_OK)
-            (as_json ? put_status : print_status)(out, status);
     }
+    if (form == FOR_PROMETHEUS)
+        put_samples(out, status, result);
+    else if (result == MG_OK || status->refusal != MG_OK)
+        (form == AS_JSON ? put_status : print_status)(out, status);
     free(followed);
     free(status->locked);
     free(status);

@@ -46,6 +46,7 @@ static void bad_arguments(const char *folder) {
     IS(mg_cancel(NULL, 1, 1, 1, NULL), MG_BAD_ARGUMENT);
     IS(mg_status(NULL, 1, 1, 1, NULL), MG_BAD_ARGUMENT);
     IS(mg_purge(NULL, 1, 1, 1, NULL), MG_BAD_ARGUMENT);
+    IS(mg_forget(NULL, 1, 1, 1, NULL), MG_BAD_ARGUMENT);
     IS(mg_refresh(NULL, NULL), MG_BAD_ARGUMENT);
     IS(mg_look(NULL, NULL), MG_BAD_ARGUMENT);
     IS(mg_mark(NULL, NULL), MG_BAD_ARGUMENT);
@@ -67,10 +68,10 @@ struct asked {
     int mode;
     const char *name;
     unsigned flags;
-    unsigned purged;
+    unsigned gone; /* the host that is purged, or the client that is forgotten */
 };
 
-enum { ENQUEUE = 1, CONVERT = 2, RELEASE = 4, CANCEL = 8, STATUS = 16, PURGE = 32, ALL = 63, OF_A_LOCK = ALL - PURGE };
+enum { ENQUEUE = 1, CONVERT = 2, RELEASE = 4, CANCEL = 8, STATUS = 16, PURGE = 32, FORGET = 64, ALL = 127, OF_A_LOCK = ALL - PURGE - FORGET };
 
 static int ask(struct mg_host *host, unsigned command, const struct asked *a, struct mg_answer *answer) {
     switch (command) {
@@ -79,7 +80,8 @@ static int ask(struct mg_host *host, unsigned command, const struct asked *a, st
     case RELEASE: return mg_release(host, a->client, a->request, a->lock, answer);
     case CANCEL: return mg_cancel(host, a->client, a->request, a->lock, answer);
     case STATUS: return mg_status(host, a->client, a->request, a->lock, answer);
-    default: return mg_purge(host, a->client, a->request, a->purged, answer);
+    case PURGE: return mg_purge(host, a->client, a->request, a->gone, answer);
+    default: return mg_forget(host, a->client, a->request, a->gone, answer);
     }
 }
 
@@ -107,12 +109,14 @@ static void bad_commands(struct mg_host *host) {
         {ENQUEUE, 1, 1, 1, MG_EX, "\xc3\xa4", 0, 1},
         {PURGE, 1, 1, 1, MG_EX, "a", 0, 16},
         {PURGE, 1, 1, 1, MG_EX, "a", 0, 256},
+        {FORGET, 1, 1, 1, MG_EX, "a", 0, 256},
+        {FORGET, 1, 1, 1, MG_EX, "a", 0, (unsigned)-1},
     };
     static char long_name[300];
     const struct asked long_named = {ENQUEUE, 1, 1, 1, MG_EX, long_name, 0, 1};
     struct mg_answer answer;
     uint64_t learned;
-    for (unsigned command = ENQUEUE; command <= PURGE; command *= 2)
+    for (unsigned command = ENQUEUE; command <= FORGET; command *= 2)
         for (size_t i = 0; i < sizeof BAD / sizeof BAD[0]; i++)
             if (BAD[i].commands & command) {
                 memset(&answer, 9, sizeof answer);
@@ -276,6 +280,7 @@ static void only_looks(const char *folder) {
     IS(mg_cancel(eye, 1, 99, 1, NULL), MG_ONLY_LOOKS);
     IS(mg_status(eye, 1, 99, 1, NULL), MG_ONLY_LOOKS);
     IS(mg_purge(eye, 1, 99, 1, NULL), MG_ONLY_LOOKS);
+    IS(mg_forget(eye, 1, 99, 1, NULL), MG_ONLY_LOOKS);
     mg_close(eye);
 }
 

@@ -80,7 +80,7 @@ int __wrap_fdatasync(int file) {
 /* Disk 1 of three. The image that it shows has the same first bytes but for the version, and zeros behind them. */
 enum { DISKS = 3, DISK = 1, CLUSTER = 9 };
 static const uint8_t FIRST[24] = {0xA5, 3, 1, 3, 0, 0, 0, 4, 0, 0, 0, 0, 0, 0, 0, 9, 0, 0, 0x10, 0, 1, 4, 1, 0};
-static const struct device HOW = {4096, 4, 4, 1};
+static const struct device HOW = {4096, 4, 4, 1, 0};
 
 static uint8_t *room;
 
@@ -94,8 +94,8 @@ static int gate(int file) {
 static void crosses(void) {
     static const uint8_t wanted[24] = {0xA5, 3, 2, 5, 0, 0, 0, 7, 1, 2, 3, 4, 5, 6, 7, 8, 0, 0, 2, 0, 1, 3, 0, 0};
     static const uint8_t given[3] = {1, 2, 3};
-    const struct device how = {512, 3, 7, 0}, wrong = {512, 3, 4097, 0};
-    struct device found = {0, 0, 0, 9};
+    const struct device how = {512, 3, 7, 0, 0}, wrong = {512, 3, 4097, 0, 0};
+    struct device found = {0, 0, 0, 9, 9};
     struct first_bytes first;
     struct header image = {0, {0}};
     struct sectors at = {9, 9, 9};
@@ -167,6 +167,40 @@ static void crosses(void) {
     IS(dlm_c_device_owner(&said, &ours, &other), IS_UNHEARD);
     said.disks = 8;
     IS(dlm_c_device_owner(&said, &ours, &other), -1);
+}
+
+/* The same of a log without an end, whose image has two areas of 320 slots and two rows of standings: 644 rows. */
+static void crosses_endless(void) {
+    static const uint8_t wanted[24] = {0xA5, 5, 2, 5, 0, 0, 1, 64, 1, 2, 3, 4, 5, 6, 7, 8, 0, 0, 2, 0, 1, 3, 1, 0};
+    const struct device how = {512, 3, 320, 1, 1}, wrong = {512, 3, 319, 1, 1};
+    struct device found = {0, 0, 0, 9, 9};
+    struct first_bytes first;
+    struct header image = {0, {0}};
+    struct sectors at = {9, 9, 9};
+    uint64_t size = 0, area = 8192 + 4096 * 320;
+    IS(dlm_c_device_header(&wrong, 5, 7, 2, &first, &size), -1);
+    IS(dlm_c_device_header(&how, 5, 0x0102030405060708, 2, &first, &size), 0);
+    IS(size, 4096 + 644 * 3 * 512);
+    IS(memcmp(first.bytes, wanted, sizeof wanted), 0);
+    for (size_t i = sizeof wanted; i < sizeof first.bytes; i++)
+        is_at(1200, first.bytes[i], 0);
+    IS(dlm_c_device(2, size, &first, &found, &image), 0);
+    IS(memcmp(&found, &how, sizeof how), 0);
+    IS(image.size, 2 * area + 4096);
+    IS(image.bytes[1], 4);
+    for (size_t i = 0; i < sizeof image.bytes; i++)
+        is_at(1300, i == 1 ? 5 : image.bytes[i], i < 16 ? wanted[i] : 0);
+    IS(dlm_c_device(2, size - 1, &first, &found, &image), -1);
+    /* The first row of standings, and host 2's block of the last slot. */
+    IS(dlm_c_device_row(&how, area, &at) == 0 && at.place == 4096 + 321 * 3 * 512, true);
+    IS(dlm_c_device_block(&how, 2 * area + 512, 256, &at) == 0 && at.place == size - 512 && at.offset == 0, true);
+    IS(dlm_c_device_row(&how, 2 * area + 4096, &at), -1);
+    /* One of a later program, and the image itself. */
+    first.bytes[1] = 6;
+    IS(dlm_c_device(2, size, &first, &found, &image), -1);
+    first.bytes[1] = 4;
+    IS(dlm_c_device(2, size, &first, &found, &image), -1);
+    IS(device_version(3) && device_version(5) && !device_version(4) && !device_version(6), true);
 }
 
 /* What each disk says: 'a' our name, 'b' and 'c' of others, '-' nobody's, '?' not heard. Whose the number is: "ours", another one's name, or '?'. */
@@ -332,7 +366,7 @@ static void reads_and_writes(int file) {
 }
 
 static void claims(int *files, char **paths) {
-    const struct device how[3] = {HOW, HOW, HOW}, mixed[3] = {HOW, {0, 0, 0, 0}, HOW};
+    const struct device how[3] = {HOW, HOW, HOW}, mixed[3] = {HOW, {0, 0, 0, 0, 0}, HOW};
     struct machine ours, theirs, owner, nobody = {{0}};
     int two[3], one[3];
     memset(ours.bytes, 1, sizeof ours.bytes);
@@ -389,6 +423,7 @@ int main(int argc, char **argv) {
     if (argc < 4)
         return 2;
     crosses();
+    crosses_endless();
     owners();
     room = device_room();
     reset(NONE, 0);

@@ -119,12 +119,10 @@ static void does(struct mg_host *host, unsigned client, unsigned name) {
     upto = place + 1;
 }
 
-/* The host knows just what is in the list, and where the log ends. */
-static void is_the_list(struct mg_host *host) {
+/* The host shows the locks and clients of the list, and no other ones. */
+static void is_the_table(struct mg_host *host) {
     struct mg_lock_view locks[MG_LOCKS];
     struct mg_client_view clients[MG_CLIENTS];
-    struct mg_host_view facts;
-    uint64_t epoch = 99, slots = 99, used = 99;
     size_t count = 0, at = 0;
     IS(mg_locks(host, locks, MG_LOCKS, &count), MG_OK);
     IS(count, listed);
@@ -143,6 +141,13 @@ static void is_the_list(struct mg_host *host) {
     IS(count, known());
     for (size_t i = 0; i < count; i++)
         IS(clients[i].request, requests[clients[i].client - 1]);
+}
+
+/* The host knows just what is in the list, and where the log ends. */
+static void is_the_list(struct mg_host *host) {
+    struct mg_host_view facts;
+    uint64_t epoch = 99, slots = 99, used = 99;
+    is_the_table(host);
     IS(mg_log(host, &slots, &used), MG_OK);
     IS(slots == UINT64_MAX, 1);
     IS(used, upto);
@@ -161,6 +166,14 @@ static void learns(struct mg_host *host, int (*learn)(struct mg_host *host, uint
     IS(learn(host, &learned), MG_OK);
     IS(learned, upto);
     is_the_list(host);
+}
+
+/* Who only looks sees the same table. What nobody but a host has put behind it, to carry it over, it may not count. */
+static void sees(struct mg_host *eye) {
+    uint64_t learned = 0;
+    IS(mg_look(eye, &learned), MG_OK);
+    IS(learned <= (uint64_t)upto, 1);
+    is_the_table(eye);
 }
 
 static void forget(void) {
@@ -192,29 +205,36 @@ static int64_t changed(const char *folder, int disk) {
     return (int64_t)facts.st_mtim.tv_sec * 1000000000 + facts.st_mtim.tv_nsec;
 }
 
-static void is_refused(int line, int status, int disk) {
-    is_at(line, status, MG_WRONG_HEADER);
-    is_at(line, disk, -1);
-    is_at(line, strncmp(mg_cause(), "the log of this folder has no end: ", 35), 0);
+/* It shows no table before it has looked, and needs no number for that, though somebody has it. */
+static void looks_alone(struct mg_host *eye) {
+    size_t count = 99, locks = 0;
+    IS(mg_locks(eye, NULL, 0, &count), MG_NO_TABLE);
+    IS(mg_refresh(eye, NULL), MG_ONLY_LOOKS);
+    IS(mg_mark(eye, NULL), MG_ONLY_LOOKS);
+    IS(mg_enqueue(eye, 1, 9999, 1, MG_EX, "eye", 0, NULL), MG_ONLY_LOOKS);
+    IS(mg_wait(eye, 999, 1, 1, NULL), MG_NO_SUCH_LOCK);
+    IS(mg_look(eye, NULL), MG_OK);
+    IS(mg_locks(eye, NULL, 0, &locks), MG_OK);
+    IS(mg_epoch(eye, NULL, NULL, NULL), MG_OK);
 }
 
-/* A look without a number; nothing is written. A session that shares its number takes it for a look, and writes nothing as it begins. */
-static void refuses(const char *folder) {
-    struct mg_host *eye = (struct mg_host *)&failures, *has_number;
+/* A look without a number, as a session makes it, too, that shares its number; nothing is written. */
+static void looks(const char *folder) {
+    struct mg_host *eye = (struct mg_host *)&failures, *has_number = opened(folder, 0);
     struct mg_session *session = (struct mg_session *)&failures;
     char machine[33] = "?";
-    size_t count = 99;
     int64_t before = changed(folder, 0);
-    int disk = 5, status = mg_open_to_look(folder, &eye, &disk);
-    is_refused(__LINE__, status, disk);
-    IS(eye == NULL, 1);
+    int disk = 5;
+    IS(mg_open_to_look(folder, &eye, &disk), MG_OK);
+    IS(disk, -1);
+    looks_alone(eye);
+    mg_close(eye);
+    mg_close(has_number);
     IS(mg_begin(folder, 0, MG_SHARE, &session, NULL), MG_OK);
+    has_number = opened(folder, 0);
     IS(mg_host_of(session, &eye), MG_OK);
-    IS(mg_locks(eye, NULL, 0, &count), MG_NO_TABLE);
-    IS(mg_mark(eye, NULL), MG_ONLY_LOOKS);
-    IS(mg_open(folder, 0, &has_number, NULL), MG_OK);
-    IS(mg_look(eye, NULL), MG_HOST_IN_USE);
-    IS(mg_locks(eye, NULL, 0, &count), MG_NO_TABLE);
+    looks_alone(eye);
+    IS(mg_has_number(session), 0);
     mg_close(has_number);
     mg_end(session);
     IS(mg_machine_of(folder, 0, machine, sizeof machine), MG_OK);
@@ -389,18 +409,25 @@ static void arguments(const char *folder) {
 
 /* ---- through epochs ---- */
 
-/* Two hosts in turn. Of what they do not submit themselves they learn by looks. */
+/* Two hosts in turn. Of what they do not submit themselves they learn by looks. Somebody looks without a number. */
 static void through_epochs(const char *folder) {
-    struct mg_host *hosts[2] = {opened(folder, 0), opened(folder, 1)};
+    struct mg_host *hosts[2] = {opened(folder, 0), opened(folder, 1)}, *eye = NULL, *late_eye = NULL;
+    IS(mg_open_to_look(folder, &eye, NULL), MG_OK);
     srand(1);
     for (int i = 0; upto < 2 * SLOTS + 40 && failures <= 20; i++) {
         unsigned client = 1 + (unsigned)rand() % (CLIENTS - 1);
         does(hosts[client % 2], client, (unsigned)rand() % NAMES);
         if (i % 40 == 0 || upto % SLOTS < 30) {
             is_the_list(hosts[client % 2]);
+            sees(eye);
             learns(hosts[(client + 1) % 2], mg_look);
+            sees(eye);
         }
     }
+    IS(mg_open_to_look(folder, &late_eye, NULL), MG_OK);
+    sees(late_eye);
+    mg_close(late_eye);
+    mg_close(eye);
     /* Who comes later learns all of it. */
     for (unsigned number = 4; number <= 5; number++) {
         struct mg_host *late = opened(folder, number);
@@ -697,12 +724,12 @@ int main(int argc, char **argv) {
     setvbuf(stdout, NULL, _IOLBF, 0);
     IS_TEXT(mg_name(MG_NO_TABLE), "");
     folder = laid_out("epochs");
-    refuses(folder);
+    looks(folder);
     arguments(folder);
     wrong_images(laid_out("wrong"));
     looks_by_turns(laid_out("turns"));
     through_epochs(folder);
-    refuses(folder);
+    looks(folder);
     loses_disks(folder);
     asks_again(folder);
     waits(folder);

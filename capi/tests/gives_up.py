@@ -1,7 +1,6 @@
 #!/usr/bin/env python3
 """What is left in the table when a wait gives up, or a holder ends, and the log is full or no majority of the disks answers. Nothing of it
-stays unsaid. Once the log is renewed, or the disks are back, the next process under the host number releases it, and another host gets
-the lock.
+stays unsaid. Once the table is carried over into a new folder, or the disks are back, what is left is released, and another host gets the lock.
 
     gives_up.py MG_LOCK DLM LIBRARY WORK
 
@@ -11,7 +10,6 @@ import re
 import signal
 import subprocess
 import sys
-import time
 
 import heard  # noqa: F401
 from checks import expect, finish, until
@@ -91,8 +89,9 @@ def is_said(what, host, status, said, wanted):
 
 
 def is_released(what, folder, host):
-    """The next process of the host number releases what is left, and another host gets the lock."""
-    status, said = run("-n", folder.at, host, "other", "--", "true")
+    """The next process of the host number releases what is left; in a new folder, where no lock has a sign of life, only with --all."""
+    words = ("--recover", "--all", folder.at, host) if folder.at == folder.renewed else ("-n", folder.at, host, "other", "--", "true")
+    status, said = run(*words)
     expect(status == 0, f"{what}: the next mg-lock under host {host}: status {status}, {said}")
     left = folder.locks(host)
     expect(left == [], f"{what}: the next mg-lock under host {host} has left this in the table: {left}")
@@ -184,31 +183,12 @@ def program_ends():
     expect(status == 125 and "9 LogFull" in said,
            f"{what}: --recover --all ended with {status}, said {said or 'nothing'}, and the table has {folder.locks(0)}")
     folder.renew()
+    is_released(what, folder, 0)
     status, said = begins(folder, 0)
-    expect(status == 0, f"{what}: mg_begin in the renewed folder said {status} ({said})")
-    left = folder.locks(0)
-    expect(left == [], f"{what}: mg_begin in the renewed folder has left this in the table: {left}")
+    expect(status == 0, f"{what}: mg_begin in the new folder said {status} ({said})")
     another_gets_it(what, folder)
 
 
-def purged_after_renewal():
-    """With -k a command is ended soon after its lock was purged, in the folder that the link has moved to."""
-    folder, link = Folder("checked"), os.path.join(work, "current")
-    os.symlink(folder.at, link)
-    process = begin("-k", 1, link, 0, "db", "--", "sleep", 10)
-    expect(until(lambda: len(folder.locks(0)) == 1), "it holds")
-    folder.fill()
-    folder.renew()
-    os.symlink(folder.at, link + ".next")
-    os.rename(link + ".next", link)
-    do("submit", folder.at, HOLDER, "purge", 7, 1, 0)
-    begun = time.monotonic()
-    status, said = told(process)
-    lasted = time.monotonic() - begun
-    expect(status == 143 and lasted < 5,
-           f"-k 1: the command ran for {lasted:.1f} s after its lock was purged: status {status}, {said or 'said nothing'}")
-
-
-for test in (waits_give_up, holder_ends, program_ends, purged_after_renewal):
+for test in (waits_give_up, holder_ends, program_ends):
     test()
 finish("gives_up")

@@ -5,7 +5,7 @@
 
 MG_LOCK and DLM are the programs, WORK an empty folder. ROUNDS: turns of each of eight processes that count, 4 if left out. With LIBRARY,
 libmidgegalena.so, half of those that count are in Python. ANSWERS is the mg-lock of answers.c. Prints what was wrong, and how many checks
-there were. --endless: over logs without an end, but for renewals."""
+there were. --endless: over logs without an end."""
 import contextlib
 import os
 import pty
@@ -27,7 +27,6 @@ rounds = int(sys.argv[4]) if len(sys.argv) > 4 else 4
 library = os.path.abspath(sys.argv[5]) if len(sys.argv) > 5 else None
 with_answers = os.path.abspath(sys.argv[6]) if len(sys.argv) > 6 else None
 images = os.path.join(work, "images")
-current = os.path.join(work, "current")
 package = os.path.join(os.path.dirname(os.path.abspath(__file__)), "..", "python")
 sys.path.insert(0, package)
 from midgegalena import Session  # noqa: E402
@@ -68,12 +67,12 @@ def left_nothing(what):
     expect(signs() == [], f"{what}: no sign is left: {signs()}")
 
 
-def holder(host=0, name="db", *options, of=images):
+def holder(host=0, name="db", *options):
     """A process that holds a lock until it is told to end; returns once it holds it."""
     at = os.path.join(work, "held")
     if os.path.exists(at):
         os.unlink(at)
-    process = begin(*options, of, host, name, "--", "sh", "-c", f"echo > {at}; exec sleep 1000")
+    process = begin(*options, images, host, name, "--", "sh", "-c", f"echo > {at}; exec sleep 1000")
     expect(until(lambda: os.path.exists(at)), "the holder holds")
     return process
 
@@ -105,7 +104,7 @@ def pages():
     """The commands of the pages, over this folder, with programs that are there. Those of two machines at once are run by tests/machines.sh."""
     folder()
     top = os.path.join(os.path.dirname(os.path.abspath(__file__)), "..", "..")
-    stands_for = {"images": images, "/var/lib/dlm/current": images, "/var/lib/dlm/shared": images, "./backup": "true", "/usr/local/bin/backup": "true", "/shared/config": __file__}
+    stands_for = {"images": images, "/var/lib/dlm/images": images, "/var/lib/dlm/shared": images, "./backup": "true", "/usr/local/bin/backup": "true", "/shared/config": __file__}
     tried = 0
     for page in ("README.md", "docs/LIBRARY.md", "docs/OPERATIONS.md"):
         with open(os.path.join(top, page), encoding="utf-8") as file:
@@ -368,166 +367,6 @@ def ends_of_logs():
     expect(re.fullmatch("mg-lock: 1 locks whose processes are gone stay in the table\nmg-lock: 9 LogFull .*\n", said.stderr), f"and how many: {said}")
 
 
-def renew(number, slots):
-    """Fills the log that `current` leads to, carries its table over, and moves the link."""
-    new = os.path.join(work, f"set{number}")
-    os.mkdir(new)
-    for words in (["fill", current, "15"], ["renew", current, "15", new, "3", str(slots), str(number)]):
-        said = subprocess.run([dlm, *words], capture_output=True, text=True)
-        expect(said.returncode == 0, f"{words}: {said}")
-    time.sleep(0.3)
-    os.symlink(new, os.path.join(work, "next"))
-    os.rename(os.path.join(work, "next"), current)
-
-
-def table_of_current():
-    return subprocess.run([dlm, "table", current, "14"], capture_output=True, text=True).stdout
-
-
-def renewed():
-    """Across renewals: one that holds lets go in the new folder, those that wait get it there, and one that gives up leaves nothing."""
-    os.mkdir(os.path.join(work, "set7"))
-    subprocess.run([dlm, "format", os.path.join(work, "set7"), "3", "40", "7"], check=True, stdout=subprocess.DEVNULL)
-    os.symlink("set7", current)
-    first = holder(0, "db", of=current)
-    tokens = os.path.join(work, "tokens")
-    command = ["sh", "-c", f"echo $MG_LOCK_CLUSTER $MG_LOCK_SLOT >> {tokens}"]
-    waiting = []
-    for host in (0, 1):
-        waiting.append(begin(current, host, "db", "--", *command))
-        expect(until(lambda: table_of_current().count("waiting") == host + 1), "it waits")
-    gives_up = begin("-w", 1.5, current, 2, "db", "--", "true")
-    expect(until(lambda: table_of_current().count("waiting") == 3), "the third waits")
-    renew(8, 64)
-    # Where the log is full by then it says what may stay, and the next one under its number releases that.
-    expect(gives_up.wait(30) in (1, 125), "one gives up in the midst of it")
-    waiting.append(begin(current, 2, "db", "--", *command))
-    expect(until(lambda: table_of_current().count("waiting") == 3), "it waits in the new folder")
-    expect(end(first) == 143, "one that held lets go there")
-    for process in waiting:
-        expect(process.wait(30) == 0, "each gets it there")
-    with open(tokens) as file:
-        order = [tuple(map(int, line.split())) for line in file]
-    expect(order == sorted(order) and [it[0] for it in order] == [7, 7, 8], f"tokens grow, cluster first: {order}")
-    expect("granted" not in table_of_current() and "waiting" not in table_of_current(), f"no lock is left:\n{table_of_current()}")
-    # Processes that count, while the log is renewed twice.
-    counter = os.path.join(work, "renewed")
-    with open(counter, "w") as file:
-        file.write("0")
-    count = f"n=$(cat {counter}); echo $((n + 1)) > {counter}.new; mv {counter}.new {counter}"
-    loop = 'n=0; while [ $n -lt 6 ]; do if "$@" 2> /dev/null; then n=$((n + 1)); else [ $? -eq 125 ] || exit 1; sleep 0.05; fi; done'
-    counting = [subprocess.Popen(["sh", "-c", loop, "sh", mg_lock, current, str(host % 2), "counter", "--", "sh", "-c", count]) for host in range(4)]
-    for number in (9, 10):
-        time.sleep(0.3)
-        renew(number, 64)
-    for process in counting:
-        expect(process.wait(60) == 0, "each counts to its end")
-    with open(counter) as file:
-        expect(file.read() == "24\n", "counted across renewals")
-    # A session that has its number to itself.
-    if library:
-        process = subprocess.Popen([sys.executable, "-c", ACROSS.format(package=package, folder=current, library=library)],
-                                   stdin=subprocess.PIPE, stdout=subprocess.PIPE, text=True)
-        expect(process.stdout.readline() == "10\n", "a session holds")
-        renew(11, 64)
-        expect(process.communicate("\n", timeout=60)[0] == "11\n" and process.returncode == 0, "and goes on in the new folder")
-    expect("granted" not in table_of_current() and "waiting" not in table_of_current(), f"no lock is left:\n{table_of_current()}")
-
-    # In each order of a kill, a renewal and a wait: while its process lives nobody gets the lock, and then it is left over.
-    for number, order in ((12, "kill renew wait"), (13, "renew kill wait"), (14, "renew wait kill"), (15, "wait renew kill"), (16, "wait kill renew")):
-        first, waiting, lives = holder(1, "db", of=current), None, True
-        for step in order.split():
-            if step == "kill":
-                os.killpg(first.pid, signal.SIGKILL)
-                first.wait()
-                lives = False
-            elif step == "renew":
-                renew(number, 64)
-                if lives:
-                    said = run("--recover", "--all", current, 1)
-                    expect(said.stdout == "released 0\n", f"{order}: a lock that somebody has: {said}")
-            else:
-                waiting = begin(current, 1, "db", "--", "true")
-                if lives:
-                    expect(until(lambda: "waiting" in table_of_current()), f"{order}: it waits")
-            if lives and waiting:
-                time.sleep(0.5)
-                expect(waiting.poll() is None, f"{order}: it goes on waiting while the other one lives")
-        expect(waiting.wait(30) == 0, f"{order}: it gets a lock that is left over")
-        expect("granted" not in table_of_current() and "waiting" not in table_of_current(), f"{order}: no lock is left:\n{table_of_current()}")
-
-
-def of_another_machine():
-    """Two machines share the disks, and each has a folder of its own: the renewal does not link the second one's signs. In its new folder are signs
-    of earlier lives, of the very locks that are carried over."""
-    sets = {number: os.path.join(work, f"shared{number}") for number in (7, 8)}
-    near = {number: os.path.join(work, f"near{number}") for number in sets}
-    link = os.path.join(work, "near")
-    for number in sets:
-        os.mkdir(sets[number])
-        os.mkdir(near[number])
-        for disk in range(3):
-            os.symlink(f"{sets[number]}/disk{disk}.img", f"{near[number]}/disk{disk}.img")
-    subprocess.run([dlm, "format", sets[7], "3", "40", "7"], check=True, stdout=subprocess.DEVNULL)
-    os.symlink(near[7], link)
-
-    def lines():
-        return [it for it in subprocess.run([dlm, "table", link, "14"], capture_output=True, text=True).stdout.splitlines() if it.startswith("  ")]
-
-    first = holder(1, "db", of=link)
-    waiting = begin(link, 1, "db", "--", "true")
-    expect(until(lambda: len(lines()) == 2), "one holds and one waits")
-    held, waited = (int(line.split()[1]) for line in lines())
-    old = [f"mg-lock.1.{held}", f"mg-lock.1.{waited}", f"mg-lock.6.1.{held}", f"mg-lock.6.1.{waited}", f"mg-lock.6.2.{held}"]
-    for name in old:
-        with open(os.path.join(near[8], name), "x"):
-            pass
-    for words in (["fill", sets[7], "15"], ["renew", sets[7], "15", sets[8], "3", "64", "8"]):
-        said = subprocess.run([dlm, *words], capture_output=True, text=True)
-        expect(said.returncode == 0, f"{words}: {said}")
-    os.symlink(near[8], link + ".next")
-    os.rename(link + ".next", link)
-    said = run("-n", link, 1, "other", "--", "true")
-    expect(said.returncode == 0 and said.stderr == "", f"nobody's sign is taken for a lock's: {said}")
-    expect(run("-n", link, 1, "db", "--", "true").returncode == 1, "it is still held")
-    # One that waits makes another sign in its next talk. So it is known once it is killed.
-    expect(until(lambda: os.path.exists(f"{near[8]}/mg-lock.8.1.{waited}")), "a sign is made anew")
-    expect(run("--recover", link, 1).stdout == "released 0\n", "it waits on")
-    waiting.kill()
-    waiting.wait()
-    expect(run("--recover", link, 1).stdout == "released 1\n", "a waiting lock that is left over")
-    # The command of one that holds has the first sign alone.
-    first.kill()
-    first.wait()
-    expect(run("--recover", link, 1).stdout == "released 0\n", "the command of a killed mg-lock keeps the lock")
-    os.killpg(first.pid, signal.SIGKILL)
-    expect(run("--recover", link, 1).stdout == "released 0\n", "a lock without a sign stays")
-    expect(run("--recover", "--all", link, 1).stdout == "released 1\n", "until all are released")
-    expect(lines() == [], f"no lock is left: {lines()}")
-    left = sorted(it for it in os.listdir(near[8]) if it.startswith("mg-lock."))
-    expect(left == [f"mg-lock.6.2.{held}"], f"old signs of this host number are removed: {left}")
-
-
-def numbers():
-    """A session has its host number to itself, also while the log is renewed: nobody gets it in the new folder before it is there."""
-    if not library:
-        return
-    os.mkdir(os.path.join(work, "set17"))
-    subprocess.run([dlm, "format", os.path.join(work, "set17"), "3", "40", "17"], check=True, stdout=subprocess.DEVNULL)
-    os.symlink("set17", os.path.join(work, "next"))
-    os.rename(os.path.join(work, "next"), current)
-    across, begins = ([sys.executable, "-c", text.format(package=package, folder=current, library=library)] for text in (ACROSS, BEGINS))
-    first = subprocess.Popen(across, stdin=subprocess.PIPE, stdout=subprocess.PIPE, text=True)
-    expect(first.stdout.readline() == "17\n", "a session holds")
-    renew(18, 64)
-    said = subprocess.run(begins, capture_output=True, text=True, timeout=60)
-    expect(said.returncode == 1 and "somebody else works under this host number" in said.stderr, f"another one is refused: {said}")
-    expect(first.communicate("\n", timeout=60)[0] == "18\n" and first.returncode == 0, "the first one goes on in the new folder")
-    said = subprocess.run(begins, capture_output=True, text=True, timeout=60)
-    expect(said.returncode == 0, f"once it has ended another one begins: {said}")
-    expect("granted" not in table_of_current(), f"no lock is left:\n{table_of_current()}")
-
-
 def lost_disks():
     folder()
     first = holder()
@@ -575,27 +414,6 @@ for i in range({rounds}):
     with session.lock("counter") as held:
         os.environ["MG_LOCK_SLOT"] = str(held.slot)
         subprocess.run({command!r}, check=True)
-"""
-
-
-ACROSS = """
-import sys
-sys.path.insert(0, {package!r}); sys.dont_write_bytecode = True
-from midgegalena import Session
-session = Session({folder!r}, 3, library={library!r})
-with session.lock("mine") as held:
-    print(held.cluster, flush=True)
-    sys.stdin.readline()
-with session.lock("mine", timeout=5) as held:
-    print(held.cluster)
-"""
-
-
-BEGINS = """
-import sys
-sys.path.insert(0, {package!r}); sys.dont_write_bytecode = True
-from midgegalena import Session
-Session({folder!r}, 3, library={library!r}).close()
 """
 
 
@@ -661,7 +479,7 @@ def counted(hosts, kills=0):
 
 
 for test in (statuses, pages, environment, waits, modes, signals, before_the_command, in_use, answers, killed, taken_away,
-             *(() if endless else (ends_of_logs, renewed, of_another_machine, numbers)), lost_disks, unmarked,
+             *(() if endless else (ends_of_logs,)), lost_disks, unmarked,
              lambda: counted(1), lambda: counted(8), lambda: counted(2, kills=4 * rounds)):
     test()
 finish("mg_lock")

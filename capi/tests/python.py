@@ -121,7 +121,7 @@ def interrupted():
 
 
 def purge(host):
-    """By the six commands: a session purges none that is alive."""
+    """By the seven commands: a session purges none that is alive."""
     handle = ctypes.c_void_p()
     assert refused.lib.mg_open(os.fsencode(folder), 9, ctypes.byref(handle), None) == 0
     assert refused.lib.mg_purge(handle, 9, ctypes.c_uint64(time.time_ns()), host, None) == 0

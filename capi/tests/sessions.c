@@ -1,6 +1,6 @@
 /*
  * Tries sessions, one after another in this process and in children: arguments, modes, values, timeouts, what a killed one left, purges,
- * full logs and renewed ones, lost disks, and names, numbers and replies that somebody else has used.
+ * full logs, other images, lost disks, and names, numbers and replies that somebody else has used.
  *
  *   sessions FOLDER      an empty folder
  */
@@ -385,7 +385,6 @@ static void purged(void) {
 
 static void full(void) {
     const char *path = folder("full", 5, 8);
-    char link[300], next[300];
     struct mg_session *session, *shares;
     struct mg_held a, b;
     unsigned count;
@@ -417,54 +416,20 @@ static void full(void) {
     IS(mg_stay(shares), 1);
     IS(mg_stay(NULL), 0);
     mg_end(shares);
-    /* A link is followed to where it goes on. (No renewal here: the other folder is an empty one.) */
-    snprintf(link, sizeof link, "%s/current", work);
-    snprintf(next, sizeof next, "%s/next", work);
-    IS(symlink("full", link), 0);
-    session = begun(link, 1, 0);
-    shares = begun(link, 2, MG_SHARE);
-    IS(mg_take(session, "other", MG_EX, 0, &a), MG_LOG_FULL);
-    (void)folder("goes_on", 64, 9);
-    IS(symlink("goes_on", next), 0);
-    IS(rename(next, link), 0);
-    IS(mg_take(session, "other", MG_EX, 0, &a), MG_OK);
-    IS(a.cluster, 9);
-    IS(mg_take(shares, "other", MG_EX, 10, &b), MG_TIMED_OUT);
-    IS(mg_give(session, a.lock, NULL), MG_OK);
-    IS(mg_take(shares, "other", MG_EX, 5000, &b), MG_OK);
-    IS(mg_give(shares, b.lock, NULL), MG_OK);
-    mg_end(session);
-    mg_end(shares);
 }
 
-/* The last slot of a log is a purge, and then that is renewed. (No renewal here: the other folder is an empty one.) */
+/* The last slot of a log is a purge. */
 static void purged_in_full(const char *name, unsigned flags) {
     const char *path = folder(name, 2, 8);
-    char link[300], next[300];
-    struct mg_session *session;
-    struct mg_host *host, *looks;
-    struct mg_host_view facts;
+    struct mg_session *session = begun(path, 0, flags);
+    struct mg_host *host;
     struct mg_held a;
-    snprintf(link, sizeof link, "%s/%s_current", work, name);
-    snprintf(next, sizeof next, "%s/%s_next", work, name);
-    IS(symlink(name, link), 0);
-    session = begun(link, 0, flags);
     IS(mg_take(session, "db", MG_EX, 0, &a), MG_OK);
     IS(mg_check(session, a.lock), MG_OK);
     IS(mg_open(path, 1, &host, NULL), MG_OK);
     IS(mg_purge(host, 9, 1, 0, NULL), MG_OK);
     mg_close(host);
     IS(mg_check(session, a.lock), MG_NO_SUCH_LOCK);
-    /* Who only looks comes to the next folder, too. */
-    snprintf(next, sizeof next, "%s_on", name);
-    (void)folder(next, 64, 9);
-    snprintf(link, sizeof link, "%s/%s_link", work, name);
-    IS(symlink(next, link), 0);
-    snprintf(next, sizeof next, "%s/%s_current", work, name);
-    IS(rename(link, next), 0);
-    IS(mg_host_of(session, &looks), MG_OK);
-    IS(mg_host_facts(looks, &facts), MG_OK);
-    IS((long)facts.cluster, 9);
     mg_end(session);
 }
 
@@ -513,55 +478,26 @@ static void used_while_it_rests(const char *name, unsigned flags) {
     mg_end(other);
 }
 
-/* The link comes to lead back to a folder with a lower cluster number: what is known of the later one is not looked for there. */
-static void led_back(const char *name, unsigned flags) {
-    char from[40], link[300], next[300];
+/* Images of another cluster number come to stand in the folder: nothing that is known is looked for there. */
+static void other_images(const char *name, unsigned flags) {
+    char path[300], moved[300], other[300], new_name[40];
     struct mg_session *session;
     struct mg_held a, b;
-    snprintf(from, sizeof from, "%s_later", name);
-    (void)folder(from, 64, 8);
-    (void)folder(name, 64, 7);
-    snprintf(link, sizeof link, "%s/%s_current", work, name);
-    snprintf(next, sizeof next, "%s/%s_next", work, name);
-    IS(symlink(from, link), 0);
-    session = begun(link, 0, flags);
+    snprintf(new_name, sizeof new_name, "%s_new", name);
+    snprintf(path, sizeof path, "%s", folder(name, 64, 7));
+    snprintf(other, sizeof other, "%s", folder(new_name, 64, 8));
+    snprintf(moved, sizeof moved, "%s/%s_moved", work, name);
+    session = begun(path, 0, flags);
     IS(mg_take(session, "db", MG_EX, 0, &a), MG_OK);
-    IS(symlink(name, next), 0);
-    IS(rename(next, link), 0);
+    IS(a.cluster, 7);
+    IS(rename(path, moved), 0);
+    IS(rename(other, path), 0);
     IS(mg_check(session, a.lock), MG_WRONG_HEADER);
     IS(mg_take(session, "other", MG_EX, 0, &b), MG_WRONG_HEADER);
-    IS(symlink(from, next), 0);
-    IS(rename(next, link), 0);
+    IS(rename(path, other), 0);
+    IS(rename(moved, path), 0);
     IS(mg_check(session, a.lock), MG_OK);
     IS(mg_give(session, a.lock, NULL), MG_OK);
-    mg_end(session);
-}
-
-/* The link comes to lead to a folder that knows nothing of our lock, and another process has its number, name and mode there. */
-static void anothers_number(void) {
-    char link[300], next[300], sign[400];
-    struct mg_session *session, *other;
-    struct mg_held a, b;
-    (void)folder("renumbered_1", 64, 7);
-    (void)folder("renumbered_2", 64, 8);
-    snprintf(link, sizeof link, "%s/renumbered", work);
-    snprintf(next, sizeof next, "%s/renumbered_next", work);
-    IS(symlink("renumbered_1", link), 0);
-    session = begun(link, 0, MG_SHARE);
-    IS(mg_take(session, "db", MG_EX, 0, &a), MG_OK);
-    IS(symlink("renumbered_2", next), 0);
-    IS(rename(next, link), 0);
-    other = begun(link, 0, MG_SHARE);
-    IS(mg_take(other, "db", MG_EX, 0, &b), MG_OK);
-    IS(b.lock, a.lock);
-    snprintf(sign, sizeof sign, "%s/mg-lock.8.0.%u", link, (unsigned)b.lock);
-    IS(mg_give(session, a.lock, NULL), MG_NO_SUCH_LOCK);
-    IS(mg_give(session, a.lock, NULL), MG_NO_SUCH_LOCK);
-    IS(access(sign, F_OK), 0);
-    IS(mg_check(other, b.lock), MG_OK);
-    IS(mg_give(other, b.lock, NULL), MG_OK);
-    IS(access(sign, F_OK), -1);
-    mg_end(other);
     mg_end(session);
 }
 
@@ -748,9 +684,8 @@ int main(int argc, char **argv) {
     }
     for (unsigned flags = 0; flags <= MG_SHARE; flags += MG_SHARE) {
         used_while_it_rests(flags ? "resting_shared" : "resting", flags);
-        led_back(flags ? "back_shared" : "back", flags);
+        other_images(flags ? "other_shared" : "other", flags);
     }
-    anothers_number();
     elsewhere();
     last_number();
     lost_disks();

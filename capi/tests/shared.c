@@ -78,7 +78,10 @@ static void formats(const char *folder) {
     IS(mg_format_shared(folder, 3, 16, 7, 17, 0, 0, NULL), MG_BAD_ARGUMENT);
     IS(mg_format_shared(folder, 3, 16, 7, 4, 256, 0, NULL), MG_BAD_ARGUMENT);
     IS(mg_format_shared(folder, 3, 16, 7, 4, 8192, 0, NULL), MG_BAD_ARGUMENT);
-    IS(mg_format_shared(folder, 3, 16, 7, 4, 0, 4, &disk), MG_BAD_ARGUMENT);
+    IS(mg_format_shared(folder, 3, 16, 7, 4, 0, 8, &disk), MG_BAD_ARGUMENT);
+    IS(mg_format_shared(folder, 3, 0, 7, 4, 0, 0, &disk), MG_BAD_ARGUMENT);
+    IS(mg_format_shared(folder, 3, 319, 7, 4, 0, MG_ENDLESS, &disk), MG_BAD_ARGUMENT);
+    IS(mg_format_shared(folder, 3, 4097, 7, 4, 0, MG_ENDLESS, &disk), MG_BAD_ARGUMENT);
     IS(disk, -1);
     IS_TEXT(mg_cause(), "");
     /* A file is made only where it is asked for. */

@@ -108,8 +108,11 @@ def witnesses():
     process.stdout.readline()
     children = children_of(process.pid)
     expect(len(children) == 2, f"a witness and the command: {children}")
-    found = [child for child in children if b"mg-lock" in words_of(child)]
-    expect(found == [], f"these look like mg-lock: {found}")
+    # The witness has another name once it has begun, which takes a moment.
+    def found():
+        return [child for child in children if b"mg-lock" in words_of(child)]
+
+    expect(until(lambda: found() == []), f"these look like mg-lock: {found()}")
     command = [child for child in children if b"sleep" in words_of(child)]
     process.kill()
     process.wait()

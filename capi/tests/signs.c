@@ -91,34 +91,6 @@ static void left_over(const char *name, int cause, unsigned flags) {
     mg_end(session);
 }
 
-/* The lock is carried into a later set, and its sign is linked there, as a renewal does it; then that cannot be looked at. (No renewal here.) */
-static void carried(void) {
-    const char *old = folder("old", 64, 7), *next = folder("next", 64, 8);
-    char link_to[300], moved[300], sign[400], linked[400];
-    struct mg_session *session;
-    struct mg_host *host;
-    struct mg_held held;
-    snprintf(link_to, sizeof link_to, "%s/current", work);
-    snprintf(moved, sizeof moved, "%s/moved", work);
-    IS(symlink("old", link_to), 0);
-    IS(mg_begin(link_to, 0, 0, &session, NULL), MG_OK);
-    IS(mg_take(session, "db", MG_EX, 0, &held), MG_OK);
-    snprintf(sign, sizeof sign, "%s/mg-lock.7.0.%u", old, (unsigned)held.lock);
-    snprintf(linked, sizeof linked, "%s/mg-lock.8.0.%u", next, (unsigned)held.lock);
-    IS(link(sign, linked), 0);
-    IS(mg_open(next, 0, &host, NULL), MG_OK);
-    IS(mg_enqueue(host, 240, 1, held.lock, MG_EX, "db", 0, NULL), MG_OK);
-    mg_close(host);
-    IS(symlink("next", moved), 0);
-    IS(rename(moved, link_to), 0);
-    refusal = EIO;
-    IS(mg_check(session, held.lock), MG_OK);
-    refusal = 0;
-    IS(mg_give(session, held.lock, NULL), MG_OK);
-    IS(access(linked, F_OK), -1);
-    mg_end(session);
-}
-
 /* A sign that is a link is nobody's: what it leads to is neither made nor locked. */
 static void linked(void) {
     const char *path = folder("linked", 64, 7);
@@ -142,7 +114,6 @@ int main(int argc, char **argv) {
     left_over("files_shared", EMFILE, MG_SHARE);
     left_over("rights", EACCES, 0);
     left_over("rights_shared", EACCES, MG_SHARE);
-    carried();
     linked();
     if (failures == 0)
         puts("signs: as they should be");

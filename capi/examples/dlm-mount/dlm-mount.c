@@ -1,5 +1,5 @@
 /*
- * dlm-mount: shows devices that several machines use at once as a folder of images of layout 2, to programs of this machine, such as dlm. It keeps no bytes:
+ * dlm-mount: shows devices that several machines use at once as a folder of images, to programs of this machine, such as dlm. It keeps no bytes:
  * each read, write and sync of an image is one of whole sectors on its device, past the machine's cache.
  *
  *   dlm-mount FOLDER MOUNTPOINT      FOLDER has links diskK.img to formatted devices (dlm-shared format)
@@ -27,7 +27,7 @@
 #define USAGE "usage: dlm-mount FOLDER MOUNTPOINT\n       dlm-mount -h | -V"
 
 enum { DISKS = 7, ROOT = 1, FIRST_DISK = 10, FIRST_LOCK = 100, BUFFER = 1 << 20, MOST = 1 << 17 };
-enum { SET_FROM = 3, SET_TO = 16 }; /* the header's bytes that all disks of a set have: disks, slots, cluster */
+enum { KIND = 1, SET_FROM = 3, SET_TO = 16 }; /* the header's bytes that all disks of a set have: the kind of log; disks, slots, cluster */
 
 static const char *folder;
 static int files[DISKS], fuse; /* below 0: it is not there */
@@ -59,7 +59,7 @@ static bool attach(unsigned disk) {
     snprintf(path, sizeof path, "%s/disk%u.img", folder, disk);
     file = open(path, O_RDWR | O_DIRECT | O_DSYNC | O_CLOEXEC);
     if (file >= 0 && (!device_find(file, disk, room, &how[disk], &found) ||
-                      (other && memcmp(found.bytes + SET_FROM, other->bytes + SET_FROM, SET_TO - SET_FROM) != 0))) {
+                      (other && found.bytes[KIND] != other->bytes[KIND]) || (other && memcmp(found.bytes + SET_FROM, other->bytes + SET_FROM, SET_TO - SET_FROM) != 0))) {
         close(file);
         file = -1;
     }

@@ -32,7 +32,7 @@ with Session(folder, host=0, library=library) as first, Session(folder, host=1, 
         with second.lock("seats", PR) as held:
             print("sold", int.from_bytes(held.value, "big"), "valid" if held.valid else "perhaps")
     slots, used = second.log()
-    print("renew the log" if 10 * used >= 9 * slots else f"{slots - used} slots are left")
+    print("the log is nearly full" if 10 * used >= 9 * slots else f"{slots - used} slots are left")
     try:
         Session(folder, host=1, library=library)
     except Refused as why:
