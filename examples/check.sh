@@ -13,7 +13,7 @@ listed() {
     for script in "$examples"/*.dlm; do
         name=$(basename -- "$script" .dlm)
         [[ $(head -c 2 -- "$script") == '# ' ]] || { echo "$name does not say what it shows"; wrong=1; }
-        grep -qF "| \`$name\` |" "$examples/README.md" || { echo "$name is not in examples/README.md"; wrong=1; }
+        grep -qF -- "- \`$name\`: " "$examples/README.md" || { echo "$name is not in examples/README.md"; wrong=1; }
     done
     return "$wrong"
 }

@@ -1,6 +1,6 @@
 #!/usr/bin/env bash
-# all.sh: the tests of the program, by the proved one: all scripts of tests/scripts/ and examples/, words, folders, races, faults of files, damaged
-# images, kills, migrations, logs made endless in place, renewals, hosts at once, logs without an end, and README's own command over a folder twice. `rt ci` is the gate, which proves; it stands beside.
+# all.sh: the tests of the program, by the proved one: all scripts of tests/scripts/ and examples/, those with epochs by a plain table, words, folders, races, faults of files, damaged
+# images, kills, migrations, logs made endless in place, renewals, hosts at once, and logs without an end. `rt ci` is the gate, which proves; it stands beside.
 # The last line counts the tests, and the status is 1 where one failed.
 set -uo pipefail
 
@@ -24,8 +24,8 @@ try() {
     fi
 }
 
-try readme.sh 'F=$(mktemp -d)' 2
 try check.sh "$tests/scripts" "$top/examples"
+try epoch_scripts.py
 try program.py
 try closed.py
 try race.sh

@@ -45,8 +45,8 @@ expect() {
     sleep 0.02
 }
 
-# As `cp -r` leaves it, where the program is copied first.
-all_newer() { find "$work/crates/"*/{src,specs} "$work/crates.txt" -exec touch {} + 2> /dev/null; sleep 0.02; }
+# As `cp -r` leaves it, where the program is copied first, and a while before the rest.
+all_newer() { sleep 0.02; find "$work/crates/"*/{src,specs} "$work/crates.txt" -exec touch {} + 2> /dev/null; sleep 0.02; }
 
 expect "no program" yes
 expect "nothing changed" no

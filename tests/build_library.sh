@@ -13,10 +13,11 @@ printf '#define MG_VERSION_MAJOR 1\n#define MG_VERSION_MINOR 7\n' > "$work/capi/
 touch -- "$work/HANDLES" "$work/crates/"{dlm_c,disk}/src/lib.rt "$work/capi/src/mg-lock.c" "$work/stand_ins/c/"{libos_c,liblibc_c}.a
 
 # `rt check` says in which crate it is run, and fails where there is a file `unproved`. `rt lib` makes the archive of the crate that it is run in, says so, and
-# fails where there is a file `broken`; it edits a source in the midst where there is `late`.
+# fails where there is a file `broken`; it edits a source in the midst where there is `late`. `rt ci` makes the program of crates/mg, and says so.
 cat > "$work/stand_ins/bin/rt" << END
 #!/usr/bin/env bash
 [[ \$1 != check ]] || { echo "\${PWD##*/}" >> "$work/calls"; [[ ! -e "$work/unproved" ]]; exit; }
+[[ \$1 != ci ]] || { echo ci >> "$work/calls"; [[ ! -e "$work/broken" ]] || exit 1; mkdir -p crates/mg/out && date +%N > crates/mg/out/mg && chmod +x crates/mg/out/mg; exit; }
 [[ \$1 == lib && \${PWD##*/} == dlm_c && ! -e "$work/broken" ]] || exit 1
 echo rt >> "$work/calls"
 mkdir -p out && date +%N > out/libdlm_c.a
@@ -71,6 +72,28 @@ touch -- "$work/capi/src/mg-lock.c"
 expect "after an edit during the proof" 'disk torn_block rt cc'
 rm -- "$work/capi/out/mg-lock"
 expect "a program was taken away" cc
+
+# With crates/mg there is mg-folder, which is its program.
+[[ ! -e $work/capi/out/mg-folder ]] || fail "mg-folder without crates/mg"
+mkdir -p -- "$work/crates/mg/src"
+touch -- "$work/crates/mg/src/main.rt"
+echo 'mg: disk' >> "$work/crates.txt"
+expect "crates/mg is there" 'ci cc'
+cmp -- "$work/crates/mg/out/mg" "$work/capi/out/mg-folder" || fail "mg-folder is not the program of crates/mg"
+expect "nothing changed since" ''
+touch -- "$work/capi/src/mg.c"
+expect "the front changed" cc
+echo more >> "$work/crates/mg/src/main.rt"
+expect "crates/mg changed" 'ci cc'
+echo other > "$work/capi/out/mg-folder"
+expect "another mg-folder" cc
+cmp -- "$work/crates/mg/out/mg" "$work/capi/out/mg-folder" || fail "another mg-folder stays"
+(top=$work && source "$work/build.sh" && is_proved mg) || fail "it is not known that mg-folder was proved"
+touch -- "$work/broken"
+rm -- "$work/crates/mg/out/mg"
+"$work/capi/build.sh" 2> "$work/said"
+[[ $? -eq 125 && $(<"$work/said") == *'mg: not built: '*'/crates/mg/out/build.log says why' ]] || fail "crates/mg is not proved: $(<"$work/said")"
+rm -- "$work/broken"
 
 # failing NAME TEXT: the build ends with 125, and says this.
 failing() {

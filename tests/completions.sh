@@ -1,5 +1,5 @@
 #!/usr/bin/env bash
-# The completions: lines are typed into an interactive bash, which has read dlm.bash, mg-lock.bash and dlm-shared.bash of completions/, and then the key that puts in all
+# The completions: lines are typed into an interactive bash, which has read those of completions/ for it, and then the key that puts in all
 # that could stand here (M-*); what the line has come to is compared. fish is asked, and lines are typed into an interactive zsh, where they are installed: what it
 # offers is compared, and what it says of a number that it cannot offer.
 set -uo pipefail
@@ -12,13 +12,14 @@ printf '#!/usr/bin/env bash\nprintf "line:"; printf " <%%s>" "$@"; echo\n' >"$wo
 chmod +x "$work/dlm"
 cp -- "$work/dlm" "$work/mg-lock"
 cp -- "$work/dlm" "$work/dlm-shared"
+cp -- "$work/dlm" "$work/mg"
 cd -- "$work" || exit 1
 tried=0
 
 # The words of the line that bash makes of what is typed.
 completed() {
     {
-        printf 'source "%s"\n' "$top/completions/"{dlm,mg-lock,dlm-shared}.bash
+        printf 'source "%s"\n' "$top/completions/"{dlm,mg-lock,dlm-shared,mg}.bash
         printf '%s\e*\n' "$1"
     } | PATH=$work:$PATH INPUTRC=/dev/null PS1='' bash --norc --noprofile -i 2>/dev/null | grep '^line:' | cut -c 7-
 }
@@ -55,7 +56,7 @@ expect 'dlm migrate images ' '<migrate> <images> <images> <more images>'
 expect 'dlm renew images 1 ' '<renew> <images> <1> <images> <more images>'
 expect 'dlm renew images 1 images ' '<renew> <images> <1> <images> <1> <2> <3> <4> <5> <6> <7>'
 expect 'dlm mark images ' '<mark> <images> <0> <1> <2> <3> <4> <5> <6> <7> <8> <9> <10> <11> <12> <13> <14> <15>'
-expect 'dlm submit images 0 ' '<submit> <images> <0> <cancel> <convert> <enqueue> <purge> <release> <status>'
+expect 'dlm submit images 0 ' '<submit> <images> <0> <cancel> <convert> <enqueue> <forget> <purge> <release> <status>'
 expect 'dlm submit images 0 c' '<submit> <images> <0> <cancel> <convert>'
 expect 'dlm submit images 0 enqueue 1 1 1 ' '<submit> <images> <0> <enqueue> <1> <1> <1> <CR> <CW> <EX> <NL> <PR> <PW>'
 expect 'dlm submit images 0 enqueue 1 1 1 EX db n' '<submit> <images> <0> <enqueue> <1> <1> <1> <EX> <db> <noqueue>'
@@ -80,7 +81,30 @@ expect 'mg-lock images 0 ' '<images> <0>'
 expect 'mg-lock images 0 db -- one' '<images> <0> <db> <--> <one.dlm>'
 expect 'mg-lock --st' '<--status>'
 expect 'mg-lock --status --json im' '<--status> <--json> <images>'
+expect 'mg-lock --status --p' '<--status> <--prometheus>'
 expect 'mg-lock --status images ' '<--status> <images>'
+expect 'mg s' '<status> <submit> <sweep>'
+expect 'mg help m' '<help> <mark> <migrate>'
+expect 'mg create im' '<create> <images>'
+expect 'mg create images --' '<create> <images> <--cluster> <--disks> <--help> <--slots>'
+expect 'mg create images --disks ' '<create> <images> <--disks> <1> <2> <3> <4> <5> <6> <7>'
+expect 'mg create images --cluster ' '<create> <images> <--cluster>'
+expect 'mg run o' '<run> <one.dlm>'
+expect 'mg table ' '<table> <images> <more images>'
+expect 'mg table --host ' '<table> <--host> <0> <1> <2> <3> <4> <5> <6> <7> <8> <9> <10> <11> <12> <13> <14> <15>'
+expect 'mg table --host 3 im' '<table> <--host> <3> <images>'
+expect 'mg table images --h' '<table> <images> <--help> <--host>'
+expect 'mg table images ' '<table> <images>'
+expect 'mg submit images f' '<submit> <images> <forget>'
+expect 'mg submit images c' '<submit> <images> <cancel> <convert>'
+expect 'mg submit images --host 3 p' '<submit> <images> <--host> <3> <purge>'
+expect 'mg submit --json images enqueue 1 1 1 P' '<submit> <--json> <images> <enqueue> <1> <1> <1> <PR> <PW>'
+expect 'mg lock images ' '<lock> <images>'
+expect 'mg lock images db --mode P' '<lock> <images> <db> <--mode> <PR> <PW>'
+expect 'mg lock images db -w 3 --no' '<lock> <images> <db> <-w> <3> <--nonblock>'
+expect 'mg lock images db -- one' '<lock> <images> <db> <--> <one.dlm>'
+expect 'mg lock images db --host 2 -- ls --mode one' '<lock> <images> <db> <--host> <2> <--> <ls> <--mode> <one.dlm>'
+expect 'mg status images --p' '<status> <images> <--prometheus>'
 
 # asked TYPED WORDS: fish offers these words.
 asked() {
@@ -96,7 +120,7 @@ asked() {
 if command -v fish >/dev/null; then
     asked 'dlm ' 'check fill format mark migrate race renew run submit sweep table'
     asked 'dlm table ' 'images/ more images/'
-    asked 'dlm submit images 0 ' 'cancel convert enqueue purge release status'
+    asked 'dlm submit images 0 ' 'cancel convert enqueue forget purge release status'
     asked 'dlm submit images 0 enqueue 1 1 1 ' 'CR CW EX NL PR PW'
     asked 'dlm submit images 0 convert 1 2 1 PW ' 'noqueue value'
     asked 'dlm-shared take images ' '0 1 10 11 12 13 14 15 2 3 4 5 6 7 8 9'
@@ -114,7 +138,7 @@ shown() {
 }
 
 if command -v zsh >/dev/null; then
-    for file in _dlm _mg-lock _dlm-shared; do
+    for file in _dlm _mg-lock _dlm-shared _mg; do
         tried=$((tried + 1))
         zsh -n "$top/completions/$file" || failed=$((failed + 1))
     done

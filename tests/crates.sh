@@ -1,6 +1,6 @@
 #!/usr/bin/env bash
 # crates.sh: says where crates.txt names for a crate a library that none of its files cites. Each such name makes a build of all that stands above it slower.
-# Then it compares the table of docs/ARCHITECTURE.md with what each crate says of itself first, in the order of crates.txt.
+# Then it sees that docs/ARCHITECTURE.md has a link to each crate. `crates.sh all` prints what each says of itself first, in the order of crates.txt.
 # Last it lists where a crate names another one of crates.txt because of one name or two: such an edge may be an accident. The list fails nothing.
 # It says of each whether the crate waits for the other one because of that alone. Else the other one is below one that is named, too.
 # It counts the names that the crate's files import from the other, and those that code cites by path. A module that is imported whole counts as one.
@@ -18,12 +18,20 @@ cites() {
     grep -rqE --include='*.rt' --include='*.antt' "\\b$2::|\\buse $2\\b|\\bRattle\\.$2\\." "${folders[@]}"
 }
 
-# The crate's row: what the lines `//!` at the head of its root say.
-row() {
+# What the lines `//!` at the head of the crate's root say.
+purpose() {
     local root=crates/$1/src/lib.rt
     [[ -f $root ]] || root=crates/$1/src/main.rt
-    echo "| [\`$1\`](../crates/$1/README.md) | $(sed -n '/^\/\/!/!q; s/^\/\/! //p' "$root" | paste -sd ' ') |"
+    sed -n '/^\/\/!/!q; s/^\/\/! //p' "$root" | paste -sd ' '
 }
+
+if [[ ${1-} == all ]]; then
+    while read -r name _; do
+        [[ -n $name && $name != '#'* ]] || continue
+        echo "${name%:}: $(purpose "${name%:}")"
+    done < crates.txt
+    exit 0
+fi
 
 # The edges that rest on fewer than three names, each with these names.
 thin() {
@@ -80,11 +88,17 @@ END
 }
 
 status=0
-rows=()
 while read -r name libraries; do
     [[ -n $name && $name != '#'* ]] || continue
     name=${name%:}
-    rows+=("$(row "$name")")
+    if [[ -z $(purpose "$name") ]]; then
+        echo "$name does not say what it is for"
+        status=1
+    fi
+    if ! grep -qF "[\`$name\`](../crates/$name/README.md)" docs/ARCHITECTURE.md; then
+        echo "docs/ARCHITECTURE.md has no link to $name"
+        status=1
+    fi
     libraries=${libraries#staticlib:}
     for library in $libraries; do
         if ! cites "$name" "$library"; then
@@ -93,7 +107,6 @@ while read -r name libraries; do
         fi
     done
 done < crates.txt
-diff --label docs/ARCHITECTURE.md --label "the crates" <(grep '^| \[`' docs/ARCHITECTURE.md) <(printf '%s\n' "${rows[@]}") || status=1
 
 thin
 exit "$status"

@@ -424,7 +424,6 @@ def tasks_for_logs_that_end():
         refused(text, "dlm: 25 WrongHeader disk0\n")
         as_it_was("d", before, text)
     wants("new images", images_in("e"), {})
-    wants("a successor", os.path.exists("d/renewed"), False)
 
 
 # LOST DISKS, AND DAMAGE

@@ -68,6 +68,19 @@ def images_of(folder):
     return images
 
 
+def of_device(data):
+    """The image that a device shows whose blocks have sectors of their own (version 5 of docs/FORMAT.md)."""
+    slots, sector, hosts = slots_of(data), int.from_bytes(data[16:20], "big"), data[21]
+    shown = bytearray(length(slots))
+    shown[:16] = data[:16]
+    shown[1] = 4
+    for row in range(1, length(slots) // ROW):
+        for host in range(hosts):
+            at, begin = ROW * row + BLOCK * host, 4096 + ((row - 1) * hosts + host) * sector
+            shown[at:at + BLOCK] = data[begin:begin + BLOCK]
+    return bytes(shown)
+
+
 def slots_of(data):
     return int.from_bytes(data[4:8], "big")
 
@@ -138,7 +151,7 @@ def vote_of(block, host, what, wrong):
 
 REFUSALS = {int(text.split()[0]): text for text in ("11 LockInUse", "12 NoSuchLock", "13 NotOwner", "14 AlreadyConverting", "15 StillWaiting", "16 NotQueued",
                                                     "17 TableFull", "20 NothingToCancel")}
-ANSWERS = {8: "Granted", 9: "Queued", 10: "Released", 21: "Cancelled", **REFUSALS}
+ANSWERS = {8: "Granted", 9: "Queued", 10: "Released", 21: "Cancelled", 23: "Forgotten", **REFUSALS}
 
 
 def modes_of(state, mode):

@@ -68,7 +68,7 @@ class Loop:
     def submits(self, words):
         """One process. Whether the same words are to be submitted again is the result."""
         run, began, killed = self.run, time.monotonic(), False
-        process = subprocess.Popen([run.given.program, "submit", run.folder, str(self.host), *words], stdin=subprocess.DEVNULL,
+        process = subprocess.Popen([run.given.program, "submit", run.folder_of(self.host), str(self.host), *words], stdin=subprocess.DEVNULL,
                                    stdout=subprocess.PIPE, stderr=subprocess.PIPE, text=True)
         if self.rng.random() * 100 < run.given.kill:
             try:
@@ -95,8 +95,19 @@ class Run:
         self.tells = collections.Counter()
         self.wrong = []
         self.spans, self.typical = collections.deque(maxlen=40), 0.005
-        self.away, self.absences = None, 0
-        endless_log.make(folder, given.disks, given.slots)
+        self.away, self.absences, self.took = None, 0, 0
+        self.make()
+
+    def make(self):
+        endless_log.make(self.folder, self.given.disks, self.given.slots)
+
+    def folder_of(self, host):
+        """Where a host finds the images."""
+        return self.folder
+
+    def images(self):
+        """A folder whose images have what stands there."""
+        return self.folder
 
     def takes(self, seconds):
         self.spans.append(seconds)
@@ -118,7 +129,7 @@ class Run:
             self.tells["killed"] += 1
             return rng.random() < 0.5
         # While others come to an epoch, a row may not be shown in time: that disk fails for this attempt. So two may.
-        refusal = re.fullmatch(r"dlm: (6 Outrun|7 NoMajority)\n", err)
+        refusal = re.fullmatch(r"dlm: (6 Outrun|7 NoMajority)( \(.*\))?\n", err)
         if refusal and (status, out) == (1, ""):
             self.tells[refusal[1]] += 1
             return True
@@ -126,6 +137,7 @@ class Run:
         return False
 
     def bursts(self):
+        began = time.monotonic()
         while len(self.acks) < self.given.commands and not self.wrong:
             # With what carries a table over these are fewer than an epoch has slots.
             threads = [threading.Thread(target=loop.burst, args=[self.given.slots // 2 // self.given.hosts]) for loop in self.loops]
@@ -138,16 +150,17 @@ class Run:
         self.bring_back()
         if not self.wrong:
             self.end()
+        self.took = time.monotonic() - began
 
     def look(self):
         """While nobody works: the table is that of the plain one, and so is each reply."""
-        status, out, err = self.ask("table", self.folder)
+        status, out, err = self.ask("table")
         recovered = re.match(r"recovered (\d+)\n", out)
         if status or not recovered:
             self.wrong.append(f"dlm table: status {status}, {out!r}, {err!r}")
             return
         before = self.log.upto
-        self.wrong += self.log.read(self.folder, int(recovered[1]))
+        self.wrong += self.log.read(self.images(), int(recovered[1]))
         if lock_log.sorted_below(out.splitlines()) != [recovered[0].strip(), *self.log.table.text()]:
             self.wrong.append(f"dlm table: {out}\nplain table: {self.log.table.text()}")
         for place in self.fresh:
@@ -160,12 +173,13 @@ class Run:
                 self.wrong.append(f"place {place} has {self.log.replies[place]}, which nobody submitted")
         if self.random.random() < 0.5:
             # Where many were killed before their mark, each process after them would be slow.
-            status, out, err = self.ask("mark", self.folder)
+            status, out, err = self.ask("mark")
             if status or not re.fullmatch(rf"recovered {self.log.upto}\nmarked \d+ slots\n", out):
                 self.wrong.append(f"dlm mark: status {status}, {out!r}, {err!r}, {self.log.upto} places")
 
-    def ask(self, task, folder):
-        told = subprocess.run([self.given.program, task, folder, str(self.random.randrange(lock_log.HOSTS))], capture_output=True, text=True)
+    def ask(self, task, folder=None):
+        host = self.random.randrange(lock_log.HOSTS)
+        told = subprocess.run([self.given.program, task, folder or self.folder_of(host), str(host)], capture_output=True, text=True)
         return told.returncode, told.stdout, told.stderr
 
     def move_a_disk(self):
@@ -175,17 +189,20 @@ class Run:
         elif self.given.disks > 2 and self.random.random() < 0.3:
             self.away = self.random.randrange(self.given.disks)
             self.absences += 1
-            os.rename(f"{self.folder}/disk{self.away}.img", f"{self.folder}/away")
+            self.move(f"disk{self.away}.img", "away")
 
     def bring_back(self):
         if self.away is not None:
-            os.rename(f"{self.folder}/away", f"{self.folder}/disk{self.away}.img")
+            self.move("away", f"disk{self.away}.img")
             self.away = None
+
+    def move(self, name, other):
+        os.rename(f"{self.folder}/{name}", f"{self.folder}/{other}")
 
     def end(self):
         """The same table without any minority of the disks; and no block is damaged."""
         self.look()
-        whole = self.ask("table", self.folder)
+        whole = self.ask("table")
         gone = (self.given.disks - 1) // 2
         for out in itertools.combinations(range(self.given.disks), gone) if gone else []:
             with tempfile.TemporaryDirectory(dir=self.given.where) as apart:
@@ -202,16 +219,19 @@ class Run:
 def at_once(given):
     with tempfile.TemporaryDirectory(dir=given.where) as work:
         run = Run(given, os.path.join(work, "folder"))
-        began = time.monotonic()
         run.bursts()
-        took = time.monotonic() - began
+    return tell(given, run)
+
+
+def tell(given, run, ways=""):
+    """Prints how a run ended. The status is the result."""
     for each in run.wrong[:6]:
         print("  " + each[:700])
     ends = ", ".join(f"{count} {name}" for name, count in sorted(run.tells.items()))
     late = len(run.log.replies) - len(run.acks)
-    print(f"{given.hosts} hosts over {given.disks} disks, {given.slots} slots an epoch, seed {given.seed}: {ends}; {run.log.upto // given.slots + 1} epochs, up to"
+    print(f"{ways}{given.hosts} hosts over {given.disks} disks, {given.slots} slots an epoch, seed {given.seed}: {ends}; {run.log.upto // given.slots + 1} epochs, up to"
           f" {run.log.most_carried} commands carried over; {late} places of clients by nobody who was acknowledged; a disk away {run.absences} times;"
-          f" {took:.0f} s, {run.typical * 1000:.1f} ms a process; {len(run.wrong)} wrong")
+          f" {run.took:.0f} s, {run.typical * 1000:.1f} ms a process; {len(run.wrong)} wrong")
     return 1 if run.wrong else 0
 
 

@@ -1,6 +1,6 @@
 #!/usr/bin/env bash
 # Faults of files: full disks, an image that can only be read, one that is cut off, also while a command is submitted, one of
-# zeros and one of another cluster, marks that are missing or damaged. Each is told by the right refusal, and nothing is lost on the others. slots.sh names images that are lost.
+# zeros and one of another cluster, marks that are missing or damaged. Each is told by the right refusal, and nothing is lost on the others.
 set -uo pipefail
 
 source "$(dirname -- "$(readlink -f -- "${BASH_SOURCE[0]}")")/lib.sh"
@@ -77,29 +77,6 @@ chmod 444 -- "$work/d/disk1.img"
 expect "all read only" 1 "dlm: 26 Unreadable disk0" as_nobody "$work/dlm" table "$work/d" 2
 chmod 666 -- "$work"/d/*.img
 expect "written again" 0 "$held" as_nobody "$work/dlm" table "$work/d" 2
-
-# slots.sh beside that program names each image that is lost, and counts by the others.
-mkdir -- "$work/examples"
-cp -- "$top/examples/slots.sh" "$work/examples"
-lost="slots.sh: $work/d/disk"
-fresh
-expect "slots, all there" 0 "1 of 16 slots" "$work/examples/slots.sh" "$work/d" 15
-dd if=/dev/zero of="$work/d/disk0.img" bs=16 count=1 conv=notrunc status=none
-expect "slots, one of zeros" 0 "${lost}0.img cannot be read, or has another header"$'\n'"1 of 16 slots" "$work/examples/slots.sh" "$work/d" 15
-fresh
-truncate -s -1 "$work/d/disk1.img"
-expect "slots, one cut off" 0 "${lost}1.img is cut off"$'\n'"1 of 16 slots" "$work/examples/slots.sh" "$work/d" 15
-rm -- "$work/d/disk2.img"
-expect "slots, two lost" 2 "${lost}1.img is cut off"$'\n'"${lost}2.img is not there"$'\n'"dlm: 7 NoMajority" "$work/examples/slots.sh" "$work/d" 15
-rm -- "$work"/d/*.img
-expect "slots of nothing" 2 "dlm: 26 Unreadable disk0" "$work/examples/slots.sh" "$work/d" 15
-
-mkdir -- "$work/endless"
-"$program" format "$work/endless" 3 7 >/dev/null
-"$program" submit "$work/endless" 0 enqueue 1 1 1 EX db >/dev/null
-expect "slots, no end" 0 "1 places of a log without an end" "$work/examples/slots.sh" "$work/endless" 15
-truncate -s -1 "$work/endless/disk1.img"
-expect "slots, no end, one cut off" 0 "slots.sh: $work/endless/disk1.img is cut off"$'\n'"1 places of a log without an end" "$work/examples/slots.sh" "$work/endless" 15
 
 # Cut off.
 fresh

@@ -3,9 +3,10 @@
 set -uo pipefail
 
 source "$(dirname -- "$(readlink -f -- "${BASH_SOURCE[0]}")")/lib.sh"
-# With the library for C there are twenty more, one of them a link (two from version 1 on). Without it that is said.
+# With the library for C there are 25 more, one of them a link (two from version 1 on), and mg-folder where it is built. Without the library that is said.
 files=5 says='without the library for C'
-[[ ! -f $top/capi/out/made ]] || files=25 says=
+[[ ! -f $top/capi/out/made ]] || files=30 says=
+[[ ! -f $top/capi/out/mg-folder ]] || files=$((files + 1))
 
 for prefix in /usr/local '/opt/lock manager'; do
     DESTDIR=$work/root PREFIX=$prefix "$top/install.sh" >"$work/told" 2>"$work/said" || fail "ends with $?"
@@ -26,7 +27,12 @@ for prefix in /usr/local '/opt/lock manager'; do
     mkdir -p -- "$place/share/other" && : >"$place/share/other/file"
     left=$'share\nshare/other\nshare/other/file'
     [[ $prefix != /usr/local ]] || left=$'bin\n'$left
-    [[ $prefix != /usr/local || -n $says ]] || left=$'bin\ninclude\nlib\n'${left#*$'\n'}
+    folders=$'bin\ninclude\nlib\n'
+    [[ ! -f $top/capi/out/mg-folder ]] || folders+=$'libexec\n'
+    [[ $prefix != /usr/local || -n $says ]] || left=$folders${left#*$'\n'}
+    if [[ -z $says ]]; then
+        [[ $("$place/bin/mg" --version) == "mg of midgegalena "* ]] || fail "mg does not run"
+    fi
     DESTDIR=$work/root PREFIX=$prefix "$top/install.sh" uninstall >"$work/taken" || fail "uninstall ends with $?"
     diff <(LC_ALL=C sort "$work/told") <(LC_ALL=C sort "$work/taken") || fail "uninstall tells of other files than were there"
     [[ $(cd -- "$place" && find * | LC_ALL=C sort) == "$left" ]] || fail "leaves behind: $(cd -- "$place" && find *)"

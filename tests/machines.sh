@@ -23,6 +23,7 @@ fi
 shared=$built/dlm-shared
 flags=(-Wall -Wextra -Werror -O2 -I "$top/capi/include")
 cc -std=c99 -pedantic "${flags[@]}" "$top/capi/tests/contend_machines.c" "$built/libmidgegalena.a" -o "$work/contend_machines" || fail "contend_machines.c"
+cc -std=c99 -pedantic -D_DEFAULT_SOURCE "${flags[@]}" "$top/capi/tests/shared_epochs.c" "$built/libmidgegalena.a" -o "$work/shared_epochs" || fail "shared_epochs.c"
 cc -std=c99 -pedantic -D_DEFAULT_SOURCE "${flags[@]}" -Wl,--wrap=pread,--wrap=pwrite,--wrap=fdatasync "$top/capi/tests/devices.c" \
     "$top/capi/out/devices.o" -o "$work/devices" || fail "devices.c"
 cc -std=c99 -pedantic -D_DEFAULT_SOURCE "${flags[@]}" -Wl,--wrap=open,--wrap=pread,--wrap=pwrite,--wrap=fdatasync,--wrap=fsync "$top/capi/tests/formats.c" \
@@ -218,7 +219,7 @@ expect "two links exchanged" 1 "dlm: 7 NoMajority ($why)" "$shared" table "$work
 mkdir -- "$work/copy" "$work/shown" "$work/none"
 expect "export" 0 "exported 3 images" "$shared" export "$work/c" "$work/copy"
 # Images of layout 2 are not for several machines, be they files or devices.
-plain="dlm: 25 WrongHeader disk0 (an image of layout 2: dlm and mg-lock work on it, for the processes of one machine alone)"
+plain="dlm: 25 WrongHeader disk0 (an image for the processes of one machine alone: dlm and mg-lock work on it)"
 # declines_layout_2 FOLDER: each word refuses it, and nothing is made there.
 declines_layout_2() {
     expect "submit over $1" 1 "$plain" "$shared" submit "$1" 0 enqueue 1 1 1 EX db
@@ -313,6 +314,29 @@ if [[ -x $built/mg-lock ]]; then
 else
     echo "left out: machines.sh, mg-lock: it is not there"
 fi
+
+# A log without an end: two machines go through its epochs (EPOCHS: how many), and so do hosts that are killed.
+for k in 0 1 2; do dd if=/dev/zero of="$work/a/disk$k.img" bs=4096 count=1 conv=fsync oflag=direct status=none; done
+mkdir -- "$work/epochs"
+"$work/shared_epochs" "$work/epochs" "${EPOCHS:-2}" "${devices[@]:0:6}" || fail "two machines through epochs"
+for k in 0 1 2; do dd if=/dev/zero of="$work/a/disk$k.img" bs=4096 count=1 conv=fsync oflag=direct status=none; done
+expect "no room for two areas" 1 "dlm: 26 Unreadable disk0 (disk0.img has 4194304 bytes, and 134483968 are needed)" "$shared" format "$work/a" 3 7
+expect "an epoch of other slots" 2 "dlm: usage" "$shared" format "$work/a" 3 - 7 17
+rm -f -- "$work/a"/host*.lock "$work/b"/host*.lock
+truncate -s 5M -- "$work/storage"{0,1,2}
+for device in "${devices[@]:0:9}"; do losetup -c "$device"; done
+expect "format of a log without an end" 0 "formatted 3 disks, 1024 slots an epoch" "$shared" format "$work/a" 3 - 7 4 512
+expect "again" 1 "dlm: 29 AlreadyThere disk0 (disk0.img is formatted)" "$shared" format "$work/b" 3 - 8 4 512
+expect "its first command" 0 "ack 0 Granted" "$shared" submit "$work/a" 0 enqueue 1 1 1 EX db
+expect "its table on another machine" 0 $'recovered 1\ndb\n  granted 1 1 0 EX' "$shared" table "$work/b" 1
+expect "another machine's number of it" 1 "dlm: 36 HostInUse host0 $name_of_a" "$shared" table "$work/b" 0
+mkdir -- "$work/endless"
+expect "its copies" 0 "exported 3 images" "$shared" export "$work/b" "$work/endless"
+[[ ! -x $program ]] || expect "dlm table of its copies" 0 $'recovered 1\ndb\n  granted 1 1 0 EX' "$program" table "$work/endless" 3
+[[ ! -x $program ]] || expect "dlm over such a device" 1 "dlm: 25 WrongHeader disk0" "$program" table "$work/a" 3
+given=(--program "$shared" --loops --commands 600)
+[[ ! -x $program ]] || given+=(--dlm "$program")
+"$tests/machines_endless.py" "${given[@]}" || failed=1
 
 # Reads beside another machine's writes. The file is not read and written through pages, where its file system can do that.
 truncate -s 1M -- "$work/storage4"

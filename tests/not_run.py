@@ -11,9 +11,8 @@ PAGES = ("README.md", "docs/TUTORIAL.md", "docs/OPERATIONS.md")
 # What a line begins with, or the language of a block of code and what its first line begins with; and what runs it.
 KNOWN = {
     ("README.md", "(cd crates/dlm && rt try -- run"): "tests/readme.sh, in .ci/run",
-    ("README.md", "F=$(mktemp -d) && ./dlm format"): "tests/all.sh, twice",
-    ("README.md", "mkdir images && dlm format"): "tests/release.sh, with a number of slots",
-    ("README.md", "mg-lock "): "capi/tests/mg_lock.py, over a folder of its own",
+    ("README.md", "mg create images"): "tests/release.sh, over a folder of its own",
+    ("README.md", "mg lock images"): "tests/release.sh, over a folder of its own",
     ("docs/OPERATIONS.md", "ln -s /dev/disk/"): "tests/devices.sh, with loop devices",
     ("docs/OPERATIONS.md", "dlm format images 3 64 7"): "tests/devices.sh, with loop devices",
     ("docs/OPERATIONS.md", "mkdir /var/lib/dlm/shared"): "tests/machines.sh, with loop devices in the place of LUNs",
@@ -25,10 +24,6 @@ KNOWN = {
     ("docs/OPERATIONS.md", "groupadd dlm"): "tests/users.sh, with numbers in the place of a group and its users",
     ("docs/OPERATIONS.md", "mkdir /var/lib/dlm && chgrp"): "tests/users.sh, below a folder of its own",
     ("docs/OPERATIONS.md", "(umask 007; "): "tests/users.sh, below a folder of its own",
-    ("docs/OPERATIONS.md", "ini: # dlm-recover.service"): "nothing: no service manager is started; systemd-analyze verify, by hand",
-    ("docs/OPERATIONS.md", "ini: # backup.service"): "nothing: the same; tests/pages.sh reads what it waits for",
-    ("docs/OPERATIONS.md", "ini: # backup.timer"): "nothing: the same",
-    ("docs/OPERATIONS.md", "ini: # only.service"): "nothing: the same; tests/pages.sh reads what it waits for",
 }
 # Of these each line is a command; a block in another language is told once, by its first line.
 SHELLS = ("", "sh", "bash")

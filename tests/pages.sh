@@ -1,6 +1,6 @@
 #!/usr/bin/env bash
 # examples/pages.sh runs the commands of a page in a folder of its own: what a user keeps at the top under the same name stays as it is. And each page has folders of its own names.
-# Of the units and the crontab of the operations page it is seen that nothing takes a lock before what a machine left is released. README's modes are those of the definition.
+# Of the units and the crontab in examples/ it is seen that nothing takes a lock before what a machine left is released. README's modes are those of the definition.
 set -uo pipefail
 
 source "$(dirname -- "$(readlink -f -- "${BASH_SOURCE[0]}")")/lib.sh"
@@ -36,26 +36,25 @@ sed -i 's/mkdir two/mkdir one\/two/' "$work/once.md"
 twice=$(cd -- "$top" && grep -oE '^\$ .*mkdir [a-z_-]+' README.md docs/*.md crates/dlm/README.md man/dlm.1 | sed 's/^\(.*\):.* /\1 /' | sort -u | cut -d ' ' -f 2 | sort | uniq -d)
 [[ -z $twice ]] || fail "folders of two pages: $twice"
 
-# unordered PAGE: what takes locks and does not wait, what releases them more than once, and whether there are both.
+# unordered FILE..: what takes locks and does not wait, what releases them more than once, and whether there are both. Each unit begins with its name.
 unordered() {
-    awk '/^```ini$/ { inside = 1; takes = releases = waits = once = 0; name = "" }
-        inside && /^# / { name = $2 }
+    awk 'function judge() {
+            if (takes && waits < 2) print name " takes locks before they are released"
+            if (releases && (!once || name != "dlm-recover.service")) print name " releases locks at each start"
+            services += takes; recoveries += releases
+        }
+        FNR == 1 { judge(); takes = releases = waits = once = 0; name = $2; inside = FILENAME !~ /crontab$/ }
         inside && /^ExecStart=.*mg-lock --recover / { releases = 1 }
         inside && /^ExecStart=.*mg-lock / && !/ --recover / { takes = 1 }
         inside && /^(Requires|After)=dlm-recover\.service$/ { waits++ }
         inside && /^RemainAfterExit=yes$/ { once = 1 }
-        inside && /^```$/ {
-            if (takes && waits < 2) print name " takes locks before they are released"
-            if (releases && (!once || name != "dlm-recover.service")) print name " releases locks at each start"
-            services += takes; recoveries += releases; inside = 0
-        }
         /^[0-9*\/]+ [0-9*]+ [0-9*]+ [0-9*]+ [0-9*]+ .*mg-lock / { jobs++ }
         /^[0-9*\/]+ [0-9*]+ [0-9*]+ [0-9*]+ [0-9*]+ .*mg-lock / && !/ \[ -e \/run\/dlm-recovered \] && mg-lock / { print "cron takes locks before they are released: " $0 }
         /^@reboot .*mg-lock --recover --all .*; touch \/run\/dlm-recovered$/ { starts++ }
-        END { if (!services || recoveries != 1 || !jobs || starts != 1) print "there are " services + 0 " services, " recoveries + 0 " recoveries, " jobs + 0 " jobs, " starts + 0 " starts" }' "$1"
+        END { judge(); if (!services || recoveries != 1 || !jobs || starts != 1) print "there are " services + 0 " services, " recoveries + 0 " recoveries, " jobs + 0 " jobs, " starts + 0 " starts" }' "$@"
 }
-told=$(unordered "$top/docs/OPERATIONS.md")
-[[ -z $told ]] || fail "operations: $told"
+told=$(unordered "$top/examples/systemd/"* "$top/examples/crontab")
+[[ -z $told ]] || fail "units and crontab: $told"
 
 # The table of modes in README: which others may have beside each.
 pairs=$(sed -n 's/^is_conflicting_pair \([A-Z][a-zA-Z]*\) \([A-Z][a-zA-Z]*\) = true$/\1 \2/p' "$top/crates/lock_command/specs/Mode.antt" |
@@ -71,7 +70,7 @@ for mode in "${modes[@]}"; do
         1) text="all but \`${against[0]}\`" ;;
         *) text=$(printf ', `%s`' "${beside[@]}") && text=${text#, } ;;
     esac
-    grep -q "^| \`$mode\`, [a-z ]* | .* | $text |\$" "$top/README.md" || fail "README does not say that beside $mode others may have: $text"
+    grep -qE "^\| \`$mode\`, [^|]* \| $text \|\$" "$top/README.md" || fail "README does not say that beside $mode others may have: $text"
 done
 
 [[ $failed -eq 0 ]] && echo "pages.sh: each page keeps to its own folder"

@@ -18,14 +18,14 @@ the log anew, at the latest once the new images are removed; and once a run has 
 complete and open.
 
 `--renew` does so within `dlm renew`, onto three disks, and within `dlm fill`. There the old folder has its table in each state. The new one has
-this table, or reads as none. Once a new image was made, other words are refused in each state, so `renewed` names the new set by then.
+this table, or reads as none.
 
 `--endless` does so within a submission that begins an epoch of a log without an end, and within the next one after a loss. In each state `dlm table` over some majority
 shows the table with that command, or without it where it was not acknowledged; and the same words again get its reply. With `--format` that is of such a log, too.
 
 `--forget body` does not count the syncs after a write of a body, and likewise `closed`, `opened` and `opening`, by what was written
 before, and `folder` those of a folder: so the test is seen to fail, but for `opening`. Over a migration and a renewal `opened` is seen, `body` and
-`folder`, and over a renewal also `renewed`, the syncs of that file, and `old`, those of the folder that has it. It needs `cc`, and does nothing without."""
+`folder`. It needs `cc`, and does nothing without."""
 
 import argparse
 import collections
@@ -48,10 +48,8 @@ import migrate
 # What is told of a folder whose images are not all there or not all open.
 NO_SET = re.compile(r"dlm: (7 NoMajority|2[456] \w+ disk\d)\n")
 
-# The shim adds this to the numbers of the images of the old folder. Its file `renewed` has a number, too, and so has what becomes it.
+# The shim adds this to the numbers of the images of the old folder.
 OLD = 10
-RENEWED = 20
-DRAFT = 21
 
 ALREADY_THERE = "dlm: 29 AlreadyThere\n"
 
@@ -229,11 +227,6 @@ class Storage:
             self.waiting[image].append((at, given if kind == "W" else None))
         elif kind == "S" and self.waiting[image] and not forgets(self.waiting[image][-1][1], image):
             self.lasting[image] = written(self.lasting[image], self.waiting.pop(image))
-        elif kind == "R":
-            # It is the same file, by another name.
-            self.lasting[RENEWED], self.waiting[RENEWED] = self.lasting.pop(DRAFT, bytearray()), self.waiting.pop(DRAFT, [])
-            self.there |= {RENEWED}
-            self.there -= {DRAFT}
         elif kind == "N" and not forgets(None, image):
             self.named |= {each for each in self.there if (each < OLD) == (image < OLD)}
 
@@ -364,10 +357,8 @@ class Walk:
 
     def forgets(self, last, image=0):
         """Whether a sync after this write is left out; that of a folder comes after none."""
-        if image in (RENEWED, DRAFT):
-            name = "renewed"
-        elif last is None:
-            name = "old" if image == OLD else "folder"
+        if last is None:
+            name = "folder"
         elif len(last) == 1:
             name = "opened" if last == b"\xa5" else "closed"
         else:
@@ -440,15 +431,12 @@ class Walk:
 
     def states_of(self, storage):
         """What a loss of power may leave of these images: nothing that was not synced, all, and others. An image whose folder was not
-        synced since it was made may be gone, and `renewed` may have its first name."""
+        synced since it was made may be gone."""
         found = []
         for way in ["old", "new"] + [None] * self.given.states:
             likely = {"old": 0.0, "new": 1.0, None: 0.7}[way]
             there = [image for image in sorted(storage.there) if image in storage.named or self.random.random() < likely]
-            state = {image: self.unfinished(storage.lasting[image], storage.waiting[image], way) for image in there}
-            if RENEWED in storage.there and RENEWED not in there:
-                state[DRAFT] = self.unfinished(storage.lasting[RENEWED], storage.waiting[RENEWED], way)
-            found.append(state)
+            found.append({image: self.unfinished(storage.lasting[image], storage.waiting[image], way) for image in there})
         return found
 
     def unfinished(self, lasting, waiting, way):
@@ -510,14 +498,13 @@ class Walk:
         is_first = further == 2
         ends = set(self.random.sample(range(len(found) + 1), min(len(found) + 1, 3 if is_first else 1)))
         if is_first:
-            # Each place from the first write of a gate on, and each one where `renewed` is made.
+            # Each place from the first write of a gate on.
             ends |= set(range(len(found) - 7, len(found) + 1))
-            ends |= {place + 1 for place, record in enumerate(found) if record[:2] == ("N", OLD) or record[1] in (RENEWED, DRAFT)}
         for place, record in enumerate([*found, None]):
             states = self.states_of(storage)
             if is_first or len(found) < 40 or self.random.random() < self.task.share:
                 for state in states:
-                    self.ask_for_all(state, told, any(image < OLD for image in storage.there))
+                    self.ask_for_all(state, told)
             if further and place in ends:
                 self.moves(copy.deepcopy(storage), told, further - 1)
                 self.moves(Storage(self.random.choice(states)), told, further - 1)
@@ -550,29 +537,20 @@ class Walk:
 
     def put_both(self, images):
         """An old folder and a new one with these images, and perhaps with files by which a host was locked."""
-        old, new = self.put_old("old", images), self.put_anew("new", numbered_from(0, images))
+        old, new = self.put_anew("old", numbered_from(OLD, images)), self.put_anew("new", numbered_from(0, images))
         for lock in (f"{old}/host0.lock", f"{old}/host1.lock", f"{new}/host0.lock"):
             if self.random.random() < 0.5:
                 open(lock, "w").close()
         return old, new
 
-    def put_old(self, name, images):
-        """An old folder with these images, and its file `renewed`."""
-        old = self.put_anew(name, numbered_from(OLD, images))
-        for image, name in ((RENEWED, "renewed"), (DRAFT, "renewed.new")):
-            if image in images:
-                with open(f"{old}/{name}", "wb") as file:
-                    file.write(images[image])
-        return old
-
-    def ask_for_all(self, state, told, begun):
+    def ask_for_all(self, state, told):
         """The new folder has the whole log, or reads as none. It has it if that was told, and after a further run. That is refused only while
         no new image is whole; once these are removed the log is moved anew."""
         task = self.task
         self.counts[f"states of a run of {task.kind}"] += 1
         self.is_moved(self.put_anew("apart", numbered_from(0, state)), bool(told), told)
         if task.kind == "renew":
-            self.ask_the_old(state, begun)
+            self.ask_the_old(state)
         old, new = self.put_both(state)
         whole = self.whole(state)
         out = self.run(task.words(old, new))
@@ -581,7 +559,7 @@ class Walk:
             self.put_anew("new", {})
             out = self.run(task.words(old, new))
         if (out.returncode, out.stdout or out.stderr) != task.further(whole):
-            self.wrong.append(f"{task.kind}: whole {whole}, {out.returncode} {out.stdout!r} {out.stderr!r}, told {told!r}, renewed: {bytes(state.get(RENEWED, b''))}")
+            self.wrong.append(f"{task.kind}: whole {whole}, {out.returncode} {out.stdout!r} {out.stderr!r}, told {told!r}")
         self.is_moved(new, True, told)
         if whole and task.kind == "migrate" and self.random.random() < 0.2:
             # The old folder has its log still.
@@ -589,19 +567,11 @@ class Walk:
             out = self.run(task.words(old, fresh))
             self.is_moved(fresh, True, told)
 
-    def ask_the_old(self, state, begun):
-        """The old folder has its table. Once a new image may be there, other words are refused. Before that they may be carried out; then those
-        that were first are refused."""
-        out = self.run(["table", self.put_old("apart", state), "9"])
+    def ask_the_old(self, state):
+        """The old folder has its table."""
+        out = self.run(["table", self.put_anew("apart", numbered_from(OLD, state)), "9"])
         if out.returncode or out.stdout != self.task.shown_before:
             self.wrong.append(f"the old table: {out.returncode} {out.stdout!r} {out.stderr!r}")
-        old, new, other = self.put_old("apart", state), self.put_anew("new", {}), self.put_anew("other", {})
-        told = self.run(self.task.words(old, other)).stderr
-        if not told and not begun:
-            self.counts["of them renewed into another folder"] += 1
-            told = self.run(self.task.words(old, new)).stderr
-        if told != "dlm: 41 RenewedElsewhere\n":
-            self.wrong.append(f"other words: {told!r}, renewed: {bytes(state.get(RENEWED, b''))}, new images: {begun}")
 
     def is_moved(self, folder, must, told):
         """The folder has the whole log, its images all there and open. If it need not, it may be no set of images."""
@@ -630,11 +600,11 @@ class Walk:
             self.wrong.append(f"fill: {out}")
 
     def words_of_a_fill(self, images):
-        old = self.put_old("old", images)
+        old = self.put_anew("old", numbered_from(OLD, images))
         return old, ["fill", old, "1"]
 
     def ask_for_a_fill(self, state, told):
-        recovered, shown = self.run(["table", self.put_old("apart", state), "9"]).stdout.split("\n", 1)
+        recovered, shown = self.run(["table", self.put_anew("apart", numbered_from(OLD, state)), "9"]).stdout.split("\n", 1)
         if shown != self.task.shown_before.split("\n", 1)[1] or told and recovered != "recovered 6":
             self.wrong.append(f"the table within a fill: {recovered} {shown!r}, told {told!r}")
         old, new = self.put_both(state)
@@ -726,7 +696,7 @@ def main():
     words.add_argument("--migrate", action="store_true")
     words.add_argument("--renew", action="store_true")
     words.add_argument("--endless", action="store_true")
-    words.add_argument("--forget", choices=["", "opening", "closed", "body", "opened", "folder", "renewed", "old"], default="")
+    words.add_argument("--forget", choices=["", "opening", "closed", "body", "opened", "folder"], default="")
     words.add_argument("--program", default=lock_log.PROGRAM)
     given = words.parse_args()
     lock_log.see_that_it_is_built(given.program)

@@ -97,13 +97,15 @@ def bytes_of_an_image():
     wants("the image", image, header.ljust(ROWS, b"\0") + FIRST_BLOCK.ljust(LENGTH - ROWS, b"\0"))
 
 
-# A conversion of lock 1 of client 1, with a value, and a purge of host 15; both through host 15. Then what a renewal writes: lock 258 of client 7, enqueued through
-# host 3, holds PR of `db` and wants EX, and the value of `db` is invalid; and client 9 purged 256 locks in its request 5.
+# A conversion of lock 1 of client 1, with a value, a purge of host 15, and client 240 forgotten; all through host 15. Then what a renewal writes: lock 258 of client 7, enqueued through
+# host 3, holds PR of `db` and wants EX, and the value of `db` is invalid; client 9 purged 256 locks in its request 5, or had a client forgotten.
 VALUE = "0102030405060708090a0b0c0d0e0f10"
 CONVERT = "020f010003000001" "0000000000000002" + 16 * "00" + VALUE
 PURGE = "060f020000000000" "0000000000000003" "0f" + 31 * "00"
+FORGET = "0a0f020000000000" "0000000000000004" "f0" + 31 * "00"
 CARRIED_LOCK = "0803070306020102" "0000000000000001" "076462" + 13 * "00" + "000102030405060708090a0b0c0d0e0f"
 CARRIED_CLIENT = "0900090000000100" "0000000000000005" "16" + 31 * "00"
+CARRIED_FORGOTTEN = "0900090000000000" "0000000000000005" "17" + 31 * "00"
 
 
 @test
@@ -113,6 +115,7 @@ def bytes_of_commands():
         ("0 enqueue 1 1 1 EX db", "Granted", 0, COMMAND),
         (f"15 convert 1 2 1 NL noqueue value {VALUE}", f"Granted({VALUE})", 15, CONVERT),
         ("15 purge 2 3 15", "Purged(0)", 15, PURGE),
+        ("15 forget 2 4 240", "Forgotten", 15, FORGET),
     ]):
         prints(f"submit . {words}", f"ack {slot} {reply}\n")
         with open("disk0.img", "rb") as file:
@@ -125,8 +128,10 @@ NO_COMMANDS = [
     (COMMAND, [(0, 7), (1, 16), (3, 6), (4, 2), (4, 4), (5, 16), (16, 1), (20, 0x61), (32, 1), (47, 1)]),
     (CONVERT, [(4, 1)]),
     (PURGE, [(16, 16)]),
+    (FORGET, [(0, 11), (3, 1), (4, 1), (4, 2), (5, 1), (7, 1), (17, 0x61), (47, 1)]),
     (CARRIED_LOCK, [(3, 6), (4, 0), (4, 4), (5, 0), (16, 8), (19, 1)]),
-    (CARRIED_CLIENT, [(3, 1), (4, 1), (16, 0), (16, 7), (16, 23), (17, 0x61), (47, 1)]),
+    (CARRIED_CLIENT, [(3, 1), (4, 1), (16, 0), (16, 7), (16, 24), (17, 0x61), (47, 1)]),
+    (CARRIED_FORGOTTEN, [(3, 1), (6, 1), (7, 1), (16, 24)]),
 ]
 
 
@@ -369,6 +374,14 @@ def words_that_are_no_task():
     refused("submit no/such 0 release 1 1 1", "dlm: 26 Unreadable disk0\n")
     refused("run no/such/script", "dlm: 26 Unreadable\n")
     refused("renew no/such 1 e 3 16 8 0 255 0", "dlm: 26 Unreadable disk0\n")
+
+
+@test
+def a_script_with_epochs_is_run_and_not_swept():
+    script = f"{TOP}/examples/epochs.dlm"
+    with open(f"{TOP}/examples/epochs.out", encoding="ascii") as printed:
+        prints(f"run {script}", printed.read())
+    refused(f"sweep {script}", "dlm: 23 BadLine 2\n")
 
 
 def restore():

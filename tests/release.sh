@@ -56,8 +56,9 @@ grep -q '^proved with .* logic [0-9a-f]*$' BUILT || fail "BUILT names no logic o
 grep -q '^libmidgegalena, .* no proof covers their C' BUILT || fail "BUILT does not say what is not proved"
 # All that is named here, and each page that the repository has, but for those of whoever changes it.
 of_changes=(CONTRIBUTING.md docs/{CHANGING,DECISIONS,GATE}.md {tests,capi/tests}/README.md)
-wanted=(bin/{dlm,mg-lock,dlm-shared,dlm-mount} lib/{libmidgegalena.a,"libmidgegalena.so.$version",midgegalena.pc} VERSION install.sh examples/slots.sh)
-mapfile -t -O "${#wanted[@]}" wanted < <(git -C "$top" ls-files '*.md' 'docs/*.svg' man completions capi/examples capi/python 'examples/*.dlm' "${of_changes[@]/#/:!}")
+wanted=(bin/{dlm,mg,mg-lock,dlm-shared,dlm-mount} lib/{libmidgegalena.a,"libmidgegalena.so.$version",midgegalena.pc} VERSION install.sh examples/crontab)
+mapfile -t -O "${#wanted[@]}" wanted < <(git -C "$top" ls-files '*.md' 'docs/*.svg' man completions capi/examples capi/python 'examples/*.dlm' examples/{systemd,prometheus} "${of_changes[@]/#/:!}")
+[[ ! -d $top/crates/mg ]] || wanted+=(libexec/midgegalena/mg-folder)
 for file in "${wanted[@]}" include/{midgegalena,mg_session}.h; do
     [[ -f $file ]] || fail "the archive has no $file"
 done
@@ -77,8 +78,6 @@ rm -- "$work/lacking/capi/README.md"
 "$tests/links.py" "$work/lacking" > "$work/told" && fail "a page that is not there is not missed"
 cited=$(sed -n 's/.* no proof covers their C (\(.*\), \(.*\))$/\1:## \2/p' BUILT)
 grep -qx -- "${cited#*:}" "${cited%%:*}" || fail "BUILT cites what is not there: $cited"
-mkdir -- "$work/slots" && bin/dlm format "$work/slots" 3 64 7 > /dev/null
-[[ $(PATH=/usr/bin:/bin examples/slots.sh "$work/slots" 15) == '0 of 64 slots' ]] || fail "slots.sh does not find the program of the archive"
 
 # A path on which there is no rt: the tools that install.sh takes, and no others.
 mkdir -- "$work/tools"
@@ -90,13 +89,16 @@ PATH=$work/tools DESTDIR=$work/root ./install.sh > "$work/told" 2> "$work/said" 
 diff <(LC_ALL=C sort "$work/told") <(find "$work/root" ! -type d | LC_ALL=C sort) || fail "tells of other files than it puts there"
 usr=$work/root/usr/local
 cmp -- bin/dlm "$top/crates/dlm/out/dlm" || fail "the program is another"
+if [[ -d $top/crates/mg ]]; then
+    cmp -- libexec/midgegalena/mg-folder "$top/crates/mg/out/mg" || fail "mg-folder is another"
+    grep -qx 'mg-folder: proved' BUILT || fail "BUILT does not say: mg-folder: proved"
+fi
 [[ $("$usr/bin/dlm" run "$top/examples/first_reply.dlm") == "18 h0 ack 0 Granted" ]] || fail "the program does not run"
-for name in mg-lock dlm-shared dlm-mount; do
+for name in mg mg-lock dlm-shared dlm-mount; do
     [[ $("$usr/bin/$name" --version) == "$name of midgegalena $version" ]] || fail "$name shows another version"
 done
 cmp -- BUILT "$usr/share/doc/midgegalena/BUILT" || fail "BUILT is not installed"
 links "$usr/share/doc/midgegalena" "what is installed"
-[[ $(PATH=$usr/bin:/usr/bin:/bin "$usr/share/doc/midgegalena/examples/slots.sh" "$work/slots" 15) == '0 of 64 slots' ]] || fail "slots.sh does not run where it is installed"
 echo kept > "$usr/share/doc/midgegalena/somebody else's"
 PATH=$work/tools DESTDIR=$work/root ./install.sh uninstall > /dev/null || fail "uninstall ends with $?"
 [[ $(find "$work/root" ! -type d -printf '%f\n') == "somebody else's" ]] || fail "leaves files behind, or takes somebody else's"
@@ -123,6 +125,8 @@ else
 fi
 mkdir -- "$work/locks" && "$work/prefix/bin/dlm" format "$work/locks" 3 64 7 > /dev/null
 [[ $("$work/prefix/bin/mg-lock" "$work/locks" 0 db -- echo held) == held ]] || fail "mg-lock runs no command"
+"$work/prefix/bin/mg" create "$work/people" > /dev/null || fail "mg makes no folder"
+[[ $("$work/prefix/bin/mg" lock "$work/people" db -- echo held) == held ]] || fail "mg runs no command"
 
 # The Debian package.
 if [[ -z $package ]]; then
@@ -134,6 +138,7 @@ else
     dpkg-deb -e "$package" "$work/control"
     [[ $(cd -- "$work/control" && echo *) == 'control md5sums shlibs triggers' ]] || fail "the package has scripts: $(ls "$work/control")"
     cmp -- "$work/unpacked/usr/bin/dlm" bin/dlm || fail "the package's dlm is not the one that was proved"
+    [[ ! -d $top/crates/mg ]] || cmp -- "$work/unpacked/usr/libexec/midgegalena/mg-folder" libexec/midgegalena/mg-folder || fail "the package's mg-folder is not the one that was proved"
     links "$work/unpacked/usr/share/doc/midgegalena" "the package"
     # Of the archive each file is there; Debian's own are left aside. Manual pages are compressed.
     diff <(PATH=$work/tools PREFIX=/usr DESTDIR=$work/as_package ./install.sh > /dev/null; cd -- "$work/as_package" && find . ! -type d -print | sed 's|\(/share/man/.*\)|\1.gz|' | LC_ALL=C sort) \
@@ -181,6 +186,7 @@ within() { chroot "$root" "$@"; }
 within dpkg --path-include='/usr/share/*' -i /package.deb
 [[ $(within dpkg-query -W -f '${Status}' midgegalena) == 'install ok installed' ]]
 [[ $(within mg-lock --version) == "mg-lock of midgegalena $version" ]]
+[[ $(within mg --version) == "mg of midgegalena $version" ]]
 [[ $(within dlm run /script.dlm) == '18 h0 ack 0 Granted' ]]
 within ldconfig -p | grep -q "libmidgegalena\.so\.$version "
 within dpkg -V midgegalena
@@ -188,7 +194,7 @@ within dpkg -P midgegalena
 within dpkg-query -W midgegalena 2> "$work/said" && exit 1
 within ldconfig -p > "$work/said"
 grep libmidgegalena "$work/said" && exit 1
-[[ -z $(find "$work/copy/above/usr" -name '*midgegalena*' ! -type c; find "$work/copy/above/usr" \( -name 'mg-lock*' -o -name 'dlm*' -o -name mg_session.h \) ! -type c) ]]
+[[ -z $(find "$work/copy/above/usr" -name '*midgegalena*' ! -type c; find "$work/copy/above/usr" \( -name 'mg-*' -o -name mg -o -name 'mg.*' -o -name _mg -o -name 'dlm*' -o -name mg_session.h \) ! -type c) ]]
 echo "in and out"
 END
     mkdir -- "$work/copy"
@@ -214,7 +220,7 @@ refuses() {
 }
 
 # What stands in a file's place and was not proved and built here is not packed. (Another libdlm_c.a has capi/build.sh prove: tests/build_library.sh.)
-mkdir -p -- "$work/kept/"{crates/dlm/out,capi/out}
+mkdir -p -- "$work/kept/"{crates/{dlm,mg}/out,capi/out}
 replaced() {
     moved+=("$1")
     cp -p -- "$top/$1" "$work/kept/$1"
@@ -223,6 +229,7 @@ replaced() {
     mv -- "$work/kept/$1" "$top/$1"
 }
 replaced crates/dlm/out/dlm "a program that was not proved" 'crates/dlm/out/dlm is not what a build here has proved'
+[[ ! -d $top/crates/mg ]] || replaced crates/mg/out/mg "an mg-folder that was not proved" 'crates/mg/out/mg is not what a build here has proved'
 replaced capi/out/mg-lock "a program in C that was not built here" 'what is in capi/out is not what capi/build.sh has made'
 added+=(not_committed)
 echo > "$top/not_committed"

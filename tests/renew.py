@@ -2,15 +2,15 @@
 """renew.py [--program PATH] [--kills N] [--long N]: renews folders with `dlm fill` and `dlm renew`. Random commands are submitted until a log of 16 slots is
 all but full, and `dlm fill` takes the slots that are left. Then the table is carried over onto another number of disks, and `dlm table` of both
 folders has to print the same. Each client's last request, made again in the new folder, gets the reply that it got before. So it is ten times in a
-row. Clients are left out, and begin anew. Signs of life go with their locks, and host numbers stay whose they are. What is refused is refused in the order that docs/REFUSALS.md has. Then it kills as many renewals (none given: none) at random moments
+row. Clients are left out, and begin anew. What is refused is refused in the order that docs/REFUSALS.md has. Then it kills as many renewals (none given: none) at random moments
 (`kill -9`): of three one at any, one once a new image is there, one once a gate is open. After each it looks that no state of the new folder reads as
-another table, and that the next run with the same words ends it or is refused, while one with other words is refused.
+another table, and that the next run with the same words ends it or is refused.
 
 Each call on a file of a fill, of a renewal and of a run that ends one fails once. Before each call of a renewal it stops, and a second one with the
-same words or with others is made meanwhile; and some start at the same moment. Two operators renew a folder by a link, which moves before each call of
-the second; and so it does before each call of the other commands. For all this a few lines of C stand before the C library; where
-there is no C compiler it is left out. `--long` renews one cluster so many times in a row (none given: none), onto other numbers of disks and slots. Submissions, fills
-and renewals are killed and begun again, as docs/OPERATIONS.md says. After each the table and each client's last reply are those of a plain table.
+same words is made meanwhile; and some start at the same moment. Before each call of the other commands a link to their folder moves. For all this a few
+lines of C stand before the C library; where there is no C compiler it is left out. `--long` renews one cluster so many times in a row (none given: none),
+onto other numbers of disks and slots. Submissions, fills and renewals are killed and begun again, as docs/OPERATIONS.md says. After each the table and each
+client's last reply are those of a plain table.
 
 It prints each difference, and how many there were; the status is 1 where there was one. The program has to be built: `./dlm` does so.
 """
@@ -51,13 +51,8 @@ def put_byte(path, at, byte):
         file.write(bytes([byte]))
 
 
-def named(new, disks, slots, cluster):
-    """What the old folder has in its file `renewed`: the own path of the new one, which means the same from everywhere."""
-    return f"{os.path.realpath(new)} {disks} {slots} {cluster}\n".encode()
-
-
 def link(folder):
-    """Moves the link `current` to this folder, as docs/OPERATIONS.md says."""
+    """Moves the link `current` to this folder."""
     os.symlink(folder, "next")
     os.replace("next", "current")
 
@@ -124,7 +119,6 @@ def is_renewed(old, new, disks, slots, cluster):
     status, printed, told = run(f"renew {old} 1 {new} {disks} {slots} {cluster}")
     words = printed.split(" ")
     wants(f"a renewal of {old}", (status, told, words[0], " ".join(words[2:])), (0, "", "renewed", f"commands, {disks} disks, {slots} slots\n"))
-    wants(f"what names the successor of {old}", bytes_of(f"{old}/renewed"), named(new, disks, slots, cluster))
     count, again = table(new)
     wants(f"the table of {new}", (count, again), (int(words[1]), shown))
     wants(f"the table of {old}, once more", table(old)[1], shown)
@@ -213,15 +207,14 @@ def refusals():
         refused("renew d 1 e 3 16 8", "dlm: 36 HostInUse host1\n")
         refused("fill d 1", "dlm: 36 HostInUse host1\n")
     refused("renew d 1 e 3 2 8", "dlm: 33 TooFewSlots\n")
-    wants("no successor is named", os.path.exists("d/renewed"), False)
     # Whoever opened the new folder would look at an image of another number, too.
     for disk in (2, 3, 6):
         with open(f"e/disk{disk}.img", "wb"):
             pass
         refused("renew d 1 e 3 16 8", "dlm: 29 AlreadyThere\n")
-        wants("what is there", (os.listdir("e"), os.path.exists("d/renewed")), ([f"disk{disk}.img"], False))
+        wants("what is there", os.listdir("e"), [f"disk{disk}.img"])
         os.remove(f"e/disk{disk}.img")
-    # A folder that is not there, or that has no name, and one where somebody works as host 0, is not named.
+    # A folder that is not there, or that has no name, and one where somebody works as host 0.
     os.rmdir("e")
     for new in ("e", ""):
         refused(f"renew d 1 {new} 3 16 8", "dlm: 37 NoLock host0\n")
@@ -229,20 +222,7 @@ def refusals():
     with open("e/host0.lock", "w+b") as lock:
         fcntl.flock(lock, fcntl.LOCK_EX)
         refused("renew d 1 e 3 16 8", "dlm: 36 HostInUse host0\n")
-    wants("what was made", (sorted(os.listdir("e")), os.path.exists("d/renewed")), (["host0.lock", "renewal.lock"], False))
-    # So it is while another run makes images there.
-    with open("e/renewal.lock", "r+b") as lock:
-        fcntl.flock(lock, fcntl.LOCK_EX)
-        refused("renew d 1 e 3 16 8", "dlm: 36 HostInUse host0\n")
-    for name in ("host0.lock", "renewal.lock"):
-        os.remove(f"e/{name}")
-    # Once a successor is named, other words are refused.
-    with open("d/renewed", "w") as file:
-        file.write("e 3 16 8\n")
-    os.mkdir("f")
-    for words in ("renew d 1 f 3 16 8", "renew d 1 e 2 16 8", "renew d 1 e 3 17 8", "renew d 1 e 3 16 9"):
-        refused(words, "dlm: 41 RenewedElsewhere\n")
-    wants("the new folders", (os.listdir("e"), os.listdir("f")), ([], []))
+    wants("what was made", os.listdir("e"), ["host0.lock"])
     prints("renew d 1 e 3 16 8", RENEWED_OF_TWO)
     prints("table e 1", "recovered 2\n" + HELD)
     # All gates are open: nobody is told that this is his table.
@@ -275,7 +255,6 @@ def clients_are_left_out():
     os.mkdir("e")
     prints("renew d 1 e 3 16 8 2 200 2", "renewed 3 commands, 3 disks, 16 slots\n")
     wants("the table", table("e"), (3, shown))
-    wants("what names the successor", bytes_of("d/renewed"), named("e", 3, 16, 8))
     # What was left out counts from 1 again. The others go on.
     prints("submit e 0 status 2 1 9", "ack 3 12 NoSuchLock\n")
     prints("submit e 0 status 3 6 9", f"ack 4 {STALE}\n")
@@ -298,7 +277,7 @@ def clients_with_locks_are_not_left_out():
     refused("renew d 1 e 1 8 8 3 2 1", "dlm: 42 HasLocks client2\n")
     refused("renew d 1 e 1 1 8 3 2", "dlm: 42 HasLocks client2\n")
     refused("renew d 1 e 1 4 8 3", "dlm: 33 TooFewSlots\n")
-    wants("what was made", (os.listdir("e"), os.path.exists("d/renewed")), ([], False))
+    wants("what was made", os.listdir("e"), [])
     # The slots of what is left out are free.
     prints("renew d 1 e 1 5 8 3", "renewed 4 commands, 1 disks, 5 slots\n")
 
@@ -336,85 +315,6 @@ def a_format_that_was_ended_is_no_renewal():
     wants("the gate", bytes_of("e/disk1.img")[0], 0)
 
 
-def is_locked(path):
-    with open(path, "rb") as file:
-        try:
-            fcntl.flock(file, fcntl.LOCK_EX | fcntl.LOCK_NB)
-        except BlockingIOError:
-            return True
-    return False
-
-
-@test
-def signs_of_life_go_with_their_locks():
-    make("d", 1, 6, 7)
-    for lock in (1, 2, 3):
-        prints(f"submit d {lock} enqueue 1 {lock} {lock} EX name{lock}", f"ack {lock - 1} Granted\n")
-    fill("d", 3)
-    os.mkdir("e")
-    # Lock 1 is somebody's. Both folders were used before: there are signs of no lock, and of the same locks in other sets and in one of the same number.
-    others = ["mg-lock.1.1", "mg-lock.3.3", "mg-lock.7.1.1", "mg-lock.5.2.2"]
-    for path in ("d/mg-lock.7.1.1", "d/mg-lock.7.9.9", "d/mg-lock.8.2.2", "e/mg-lock.8.1.1", "e/mg-lock.8.2.2", *(f"e/{name}" for name in others)):
-        with open(path, "xb"):
-            pass
-    os.mkdir("e/mg-lock.8.3.3")
-    with open("d/mg-lock.7.1.1", "rb") as sign:
-        fcntl.flock(sign, fcntl.LOCK_EX)
-        refused("renew d 5 e 3 16 8", "dlm: 29 AlreadyThere\n")
-        wants("images", [it for it in os.listdir("e") if it.endswith(".img")], [])
-        os.rmdir("e/mg-lock.8.3.3")
-        prints("renew d 5 e 3 16 8", "renewed 4 commands, 3 disks, 16 slots\n")
-        wants("signs", sorted(it for it in os.listdir("e") if it.startswith("mg-lock")), sorted(["mg-lock.8.1.1", *others]))
-        wants("one file", os.path.samefile("d/mg-lock.7.1.1", "e/mg-lock.8.1.1"), True)
-        wants("somebody has it", is_locked("e/mg-lock.8.1.1"), True)
-    wants("nobody has it", is_locked("e/mg-lock.8.1.1"), False)
-
-
-@test
-def a_number_is_one_number_in_both_folders():
-    full("d")
-    os.mkdir("e")
-    # Folder e was used before. Of its locks 5 is nobody's, 6 and 7 are somebody's, 8 is a link, and 9 is a folder.
-    for host in (5, 6):
-        with open(f"e/host{host}.lock", "xb"):
-            pass
-    with open("d/host7.lock", "xb"):
-        pass
-    os.link("d/host7.lock", "e/host7.lock")
-    os.symlink("elsewhere", "e/host8.lock")
-    os.mkdir("e/host9.lock")
-    with open("apart", "xb"):
-        pass
-    os.symlink("../apart", "d/host10.lock")
-    with open("d/host4.lock", "xb") as old, open("e/host6.lock", "rb") as other, open("d/host7.lock", "rb") as one, open("d/host0.lock", "wb") as first:
-        for lock in (old, other, one, first):
-            fcntl.flock(lock, fcntl.LOCK_EX)
-        prints("renew d 1 e 3 16 8", RENEWED_OF_TWO)
-        two = [host for host in range(16) if not same_file(f"d/host{host}.lock", f"e/host{host}.lock")]
-        wants("numbers that are two", two, [6, 8, 9])
-        for host in (0, 4, 7):
-            refused(f"table e {host}", f"dlm: 36 HostInUse host{host}\n")
-            refused(f"table d {host}", f"dlm: 36 HostInUse host{host}\n")
-        prints("table e 5", "recovered 2\n" + HELD)
-        prints("table d 6", "recovered 4\n" + HELD)
-        # The same words again, while host 0 is somebody's in the old folder.
-        put_byte("e/disk2.img", 0, 0)
-        prints("renew d 1 e 3 16 8", "finished 3 disks\n")
-        for disk in range(3):
-            os.remove(f"e/disk{disk}.img")
-        prints("renew d 1 e 3 16 8", RENEWED_OF_TWO)
-    prints("table e 4", "recovered 2\n" + HELD)
-    # By host 0 itself, and on into a third folder.
-    fill("e", 14)
-    os.mkdir("f")
-    prints("renew e 0 f 3 16 9", RENEWED_OF_TWO)
-    wants("one number in all three", same_file("d/host4.lock", "f/host4.lock"), True)
-
-
-def same_file(one, other):
-    return os.path.exists(one) and os.path.exists(other) and os.path.samefile(one, other)
-
-
 @test
 def an_old_folder_is_no_new_one():
     make("d", 3, 4, 7)
@@ -428,48 +328,6 @@ def an_old_folder_is_no_new_one():
             refused(f"renew {old} {host} {new} {disks} 16 8", "dlm: 29 AlreadyThere\n")
     wants("what is there", sorted(os.listdir("d")), [*(f"disk{disk}.img" for disk in (1, 2)), *(f"host{host}.lock" for host in (0, 1, 3))])
     prints("table d 1", "recovered 4\n" + HELD)
-
-
-@test
-def a_new_folder_is_the_same_from_everywhere():
-    full("d")
-    for folder in ("e", "apart", "apart/e"):
-        os.mkdir(folder)
-    prints("renew d 1 e 3 16 8", RENEWED_OF_TWO)
-    wants("what names the successor", bytes_of("d/renewed"), named("e", 3, 16, 8))
-    put_byte("e/disk2.img", 0, 0)
-    os.symlink("../e", "apart/link")
-    os.chdir("apart")
-    # The words that were given are another folder here, and this folder has other words.
-    refused("renew ../d 1 e 3 16 8", "dlm: 41 RenewedElsewhere\n")
-    for new in ("../e", "link", os.path.realpath("../e")):
-        prints(f"renew ../d 1 {new} 3 16 8", "finished 3 disks\n")
-        put_byte("../e/disk2.img", 0, 0)
-    wants("another folder of the same name", os.listdir("e"), [])
-    os.chdir("..")
-    # An earlier program wrote the words as they were given. They are still read so.
-    with open("d/renewed", "w") as file:
-        file.write("./e 3 16 8\n")
-    refused("renew d 1 apart/e 3 16 8", "dlm: 41 RenewedElsewhere\n")
-    prints("renew d 1 ./e 3 16 8", "finished 3 disks\n")
-
-
-@test
-def a_line_without_an_end_names_nobody():
-    for left in (b"", b"e 3", b"another folder whose name is long 3"):
-        full("d")
-        os.mkdir("e")
-        with open("d/renewed", "wb") as file:
-            file.write(left)
-        prints("renew d 1 e 3 16 8", RENEWED_OF_TWO)
-        wants("the successor", bytes_of("d/renewed"), named("e", 3, 16, 8))
-        shutil.rmtree("d")
-        shutil.rmtree("e")
-    full("d")
-    os.mkdir("e")
-    os.mkdir("d/renewed")
-    refused("renew d 1 e 3 16 8", "dlm: 26 Unreadable\n")
-    wants("the new folder", os.listdir("e"), [])
 
 
 # WHAT IS LEFT OF A RUN THAT WAS ENDED
@@ -595,7 +453,7 @@ def each_call_fails():
     shown, old, new = full_and_renewed()
     # A renewal, and then a run that ends one of which the first gate was opened.
     left = {name: data if name == "disk0.img" else b"\0" + data[1:] for name, data in new.items()}
-    for wanted, folders in ((of_a_renewal, {"d": old, "e": {}}), (of_a_finish, {"d": {**old, "renewed": b"e 3 6 8\n"}, "e": left})):
+    for wanted, folders in ((of_a_renewal, {"d": old, "e": {}}), (of_a_finish, {"d": old, "e": left})):
         for call, times, process in at_each_call(library, WORDS_OF_CALLS, folders):
             wants(f"a run where {call} fails, {times}", end_of(process), wanted(*call.split(" "), times))
             wants(f"the old images after {call}, {times}", images_of("d"), old)
@@ -608,7 +466,7 @@ def each_call_fails():
 
 
 # And the host of which each tells.
-LOCKS_OF_A_RENEWAL = {"d/host1.lock": 1, "e/renewal.lock": 0, "e/host0.lock": 0}
+LOCKS_OF_A_RENEWAL = {"d/host1.lock": 1, "e/host0.lock": 0}
 
 
 def of_a_renewal(name, path, times):
@@ -617,15 +475,8 @@ def of_a_renewal(name, path, times):
         return of_no_folder(path)
     if path.startswith("d/disk"):
         return 0, RENEWED, ""
-    if name == "unlink" and path.startswith("e/mg-lock."):
-        return 1, "", "dlm: 29 AlreadyThere\n"
-    # Each lock is opened and taken. Later a number whose file cannot be linked is two numbers, and the renewal goes on.
-    if path in LOCKS_OF_A_RENEWAL and name in ("open", "flock") and times == 1:
+    if path in LOCKS_OF_A_RENEWAL:
         return 1, "", f"dlm: 37 NoLock host{LOCKS_OF_A_RENEWAL[path]}\n"
-    if name == "link" or path.endswith(".lock"):
-        return 0, RENEWED, ""
-    if path in ("d", "d/renewed", "d/renewed.new"):
-        return 1, "", "dlm: 26 Unreadable\n"
     # The file of each new image is made, in eight writes and a sync, and then its folder is synced.
     if path == "e":
         return 1, "", f"dlm: 26 Unreadable disk{times - 1}\n"
@@ -638,9 +489,8 @@ def of_a_finish(name, path, times):
     """And a run that opens the last two gates. A new image that cannot be read is passed over, and left to the next run."""
     if name == "realpath":
         return of_no_folder(path)
-    if path == "d/renewed":
-        return 1, "", "dlm: 26 Unreadable\n"
-    if path == "e/disk0.img" and (name == "open" or name == "pread" and times <= 2):
+    # It is asked first for a command in its first slot, which the next image has too, and then for its gate, which is the only one that is open.
+    if path == "e/disk0.img" and (name == "open" and times == 2 or name == "pread" and times in (3, 4)):
         return 1, "", "dlm: 29 AlreadyThere\n"
     if path.startswith("e/") and name in ("pwrite", "fdatasync"):
         return 1, "", "dlm: 34 MigrationFailed\n"
@@ -653,77 +503,42 @@ def of_no_folder(path):
 
 # TWO AT ONCE
 
-SAME, OTHER = "renew d 2 e 3 6 8", "renew d 2 f 3 6 8"
-OF_TWO = ["renewed 4 commands, 3 disks, 6 slots\n", "finished 3 disks\n", *(f"dlm: {told}\n" for told in (
-    "29 AlreadyThere", "36 HostInUse host0", "36 HostInUse host1", "41 RenewedElsewhere"))]
+SAME = "renew d 2 e 3 6 8"
+OF_TWO = [RENEWED, "finished 3 disks\n", *(f"dlm: {told}\n" for told in ("29 AlreadyThere", "36 HostInUse host0", "36 HostInUse host1"))]
 
 
 @test
 def two_renew_at_once():
-    """One run stops before each of its calls, and another one is made meanwhile; then some start at the same moment. One of them renews, and what the
-    other one tells follows from its words. There is no second set."""
+    """One run stops before each of its calls, and another one onto the same folder is made meanwhile; then some start at the same moment. One of them
+    renews, and what the other one tells follows from its words."""
     shown, old, new = full_and_renewed()
-    folders = {"d": old, "e": {}, "f": {}}
+    folders = {"d": old, "e": {}}
     library = built_failing()
-    for second in (SAME, WORDS_OF_CALLS, OTHER) if library else ():
+    for second in (SAME, WORDS_OF_CALLS) if library else ():
         for call, times, process in at_each_call(library, WORDS_OF_CALLS, folders, FAIL_STOP="yes"):
             meanwhile = run(second)
             process.send_signal(signal.SIGCONT)
-            one_has_renewed(f"`{second}` before {call}, {times}", second, [end_of(process), meanwhile], shown, new)
-    for turn in range(36):
+            one_has_renewed(f"`{second}` before {call}, {times}", [end_of(process), meanwhile], shown, new)
+    for turn in range(24):
         for folder, files in folders.items():
             put(folder, files)
-        second = (SAME, WORDS_OF_CALLS, OTHER)[turn % 3]
         both = []
-        for words in (WORDS_OF_CALLS, second):
+        for words in (WORDS_OF_CALLS, (SAME, WORDS_OF_CALLS)[turn % 2]):
             both.append(subprocess.Popen([PROGRAM, *words.split(" ")], stdout=subprocess.PIPE, stderr=subprocess.PIPE, text=True))
             time.sleep(random.choice((0, random.uniform(0, 0.02))))
-        one_has_renewed(f"`{second}` at once", second, [end_of(process) for process in both], shown, new)
+        one_has_renewed("both at once", [end_of(process) for process in both], shown, new)
 
 
-def one_has_renewed(what, second, ended, shown, new):
+def one_has_renewed(what, ended, shown, new):
     tells = [printed or told for _, printed, told in ended]
-    wants(f"{what}: how often it was renewed, {tells}", tells.count(OF_TWO[0]), 1)
+    wants(f"{what}: how often it was renewed, {tells}", tells.count(RENEWED), 1)
     wants(f"{what}: others than what may be told, {tells}", [told for told in tells if told not in OF_TWO], [])
-    words, other, empty = (WORDS_OF_CALLS, second, "f") if tells[0] == OF_TWO[0] else (second, WORDS_OF_CALLS, "e")
-    made = words.split(" ")[3]
-    if second == OTHER:
-        wants(f"{what}: the other folder", images_of(empty), {})
-        refused(other, "dlm: 41 RenewedElsewhere\n")
-    wants(f"{what}: the new images", images_of(made), new)
-    wants(f"{what}: what is named", bytes_of("d/renewed"), named(made, 3, 6, 8))
-    wants(f"{what}: what is read", looks(shown, made), True)
-    refused(words, "dlm: 29 AlreadyThere\n")
+    wants(f"{what}: the new images", images_of("e"), new)
+    wants(f"{what}: what is read", looks(shown, "e"), True)
+    refused(SAME, "dlm: 29 AlreadyThere\n")
 
 
 # LINKS THAT MOVE
-
-@test
-def two_operators_renew_by_a_link():
-    """Each renews `current` as a host of its own, onto a folder of its own. The second one stops before each of its calls, and the first one is made
-    meanwhile. Whoever is done moves the link. The old folder alone has a successor, and it has one."""
-    library = built_failing()
-    if not library:
-        return
-    shown, old, _ = full_and_renewed()
-    link("d")
-    for call, times, process in at_each_call(library, "renew current 2 f 3 6 9", {"d": old, "e": {}, "f": {}}, FAIL_STOP="yes"):
-        first = run("renew current 1 e 3 6 8")
-        if first[0] == 0:
-            link("e")
-        process.send_signal(signal.SIGCONT)
-        tells = [printed or told for _, printed, told in (first, end_of(process))]
-        what = f"before {call}, {times}"
-        wants(f"{what}: how often it was renewed, {tells}", tells.count(RENEWED), 1)
-        # A link that moved before it was followed leads to the new folder, whose log is not full.
-        wants(f"{what}: others than what may be told, {tells}", [told for told in tells if told not in (*OF_TWO, "dlm: 38 NotFull\n")], [])
-        made, other, cluster = ("e", "f", 8) if tells[0] == RENEWED else ("f", "e", 9)
-        wants(f"{what}: folders that have a successor", [folder for folder in "def" if os.path.exists(f"{folder}/renewed")], ["d"])
-        wants(f"{what}: what is named", bytes_of("d/renewed"), named(made, 3, 6, cluster))
-        wants(f"{what}: the other folder", images_of(other), {})
-        wants(f"{what}: what is read", looks(shown, made), True)
-        link("d")
-
 
 @test
 def a_link_is_followed_once():
@@ -877,8 +692,6 @@ class Row:
             status, printed, told = self.killed_or_ended(f"{words} {self.cluster + 1}", self.took, 60, lambda: is_there(new), lambda: is_open(new))
             if status == -9 and not printed:
                 self.counts["renewals killed"] += 1
-                if os.path.exists(f"{self.folder}/renewed"):
-                    refused(f"{words} {self.cluster + 2}", "dlm: 41 RenewedElsewhere\n")
             elif told == "dlm: 29 AlreadyThere\n":
                 if len(gates(new)) == disks:
                     break
@@ -926,10 +739,7 @@ WORDS = "renew old 1 new 5 64 8"
 
 
 def goes_on(shown, renewed, counts):
-    """The run after one that was killed, and before it one with other words."""
-    if os.path.exists("old/renewed") and bytes_of("old/renewed").endswith(b"\n"):
-        refused("renew old 1 other 5 64 8", "dlm: 41 RenewedElsewhere\n")
-        counts["named"] += 1
+    """The run after one that was killed."""
     status, printed, told = run(WORDS)
     if (status, told) == (1, "dlm: 29 AlreadyThere\n"):
         # None is open, or all are. If none is, somebody removes the images, and begins anew.
@@ -951,7 +761,6 @@ def goes_on(shown, renewed, counts):
 def kill(kills):
     make("old", 3, SLOTS, 7)
     os.mkdir("new")
-    os.mkdir("other")
     clients = Clients()
     for _ in range(SLOTS - 2):
         clients.submits_some("old")
@@ -961,11 +770,10 @@ def kill(kills):
     count = is_renewed("old", "new", 5, 64, 8)
     long = time.monotonic() - began
     renewed = f"renewed {count} commands, 5 disks, 64 slots\n"
-    counts = {"killed": 0, "late": 0, "named": 0, "read": 0, "refused": 0, "anew": 0, "finished": 0, "ended": 0}
+    counts = {"killed": 0, "late": 0, "read": 0, "refused": 0, "anew": 0, "finished": 0, "ended": 0}
     while counts["killed"] < kills:
         shutil.rmtree("new")
         os.mkdir("new")
-        os.remove("old/renewed")
         with subprocess.Popen([PROGRAM, *WORDS.split(" ")], stdout=subprocess.PIPE, stderr=subprocess.PIPE) as process:
             if counts["killed"] % 3 == 0:
                 time.sleep(random.uniform(0, long))

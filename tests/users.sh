@@ -30,9 +30,9 @@ fi
 awk '/^groupadd dlm / { inside = 1; next } /^```/ { inside = 0 } inside' "$top/docs/OPERATIONS.md" |
     sed "s|/var/lib/dlm|$work/dlm.d|g; s|chgrp dlm |chgrp $group |" > "$work/words"
 [[ $(wc -l < "$work/words") -eq 2 ]] || fail "the page has other lines: $(< "$work/words")"
-expect "the page's lines" 0 "formatted 3 disks, 4096 slots" env PATH="$work:$PATH" bash -e "$work/words"
+expect "the page's lines" 0 "formatted 3 disks, 1024 slots an epoch" env PATH="$work:$PATH" bash -e "$work/words"
 
-folder=$work/dlm.d/current
+folder=$work/dlm.d/images
 expect "images are the group's" 0 "$group 660" stat -L -c '%g %a' -- "$folder/disk0.img"
 expect "one user" 0 "ack 0 Granted" as 20001 "$group" dlm submit "$folder" 0 enqueue 1 1 1 EX db
 expect "the other one, under the same number" 0 "ack 1 Queued" as 20002 "$group" dlm submit "$folder" 0 enqueue 2 1 2 EX db
@@ -41,7 +41,7 @@ expect "and the first one there" 0 $'recovered 3\ndb\n  granted 2 2 0 EX' as 200
 expect "nobody of the group" 1 "dlm: 26 Unreadable disk0" as 20003 20003 dlm table "$folder" 2
 
 # Images and a folder that others may read: they cannot work, but whoever may read a lock can keep its host from working.
-chmod 2775 -- "$work/dlm.d" "$work/dlm.d/set1"
+chmod 2775 -- "$work/dlm.d" "$work/dlm.d/images"
 chmod 664 -- "$folder"/disk*.img
 expect "who may only read" 1 "dlm: 26 Unreadable disk0" as 20003 20003 dlm table "$folder" 2
 chmod 664 -- "$folder/host1.lock"

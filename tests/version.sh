@@ -1,6 +1,6 @@
 #!/usr/bin/env bash
 # version.sh: the number of VERSION is the one of the header, the package for Python, the manual pages' footers, CHANGES.md and the library's own test; and, where the
-# library is built, of midgegalena.pc, the shared object, mg-lock, dlm-shared and dlm-mount. And the help of mg-lock has each option of its own and each word of dlm.
+# library is built, of midgegalena.pc, the shared object, mg, mg-lock, dlm-shared and dlm-mount. And the help of mg-lock has each option of its own and each word of dlm.
 # So has that of ./dlm in a clone. It and the other scripts answer --help and --version at once, and prove nothing.
 set -uo pipefail
 
@@ -65,8 +65,8 @@ grep -q '^  (cd crates/dlm && rt try ' "$work/help of dlm" || fail "./dlm --help
 same "capi/python" "$(sed -n 's/.*"libmidgegalena\.so\.\([0-9.]*\)".*/\1/p' capi/python/midgegalena/__init__.py)"
 
 built=capi/out
-if [[ -x $built/mg-lock && -x $built/dlm-shared && -x $built/dlm-mount ]]; then
-    for name in mg-lock dlm-shared dlm-mount; do
+if [[ -x $built/mg && -x $built/mg-lock && -x $built/dlm-shared && -x $built/dlm-mount ]]; then
+    for name in mg mg-lock dlm-shared dlm-mount; do
         for option in -V --version; do
             same "$name $option" "$("$built/$name" "$option" | sed -n "s/^$name of midgegalena //p")"
         done
@@ -85,7 +85,7 @@ if [[ -x $built/mg-lock && -x $built/dlm-shared && -x $built/dlm-mount ]]; then
         grep -qE -- "^\.(It|Op)? ?.*Fl .*-$option|^\.Fl -$option" man/mg-lock.1 || fail "man/mg-lock.1 says nothing of --$option"
     done
 else
-    echo "left out: version.sh, what mg-lock, dlm-shared, dlm-mount and midgegalena.pc show: the library for C is not built"
+    echo "left out: version.sh, what mg, mg-lock, dlm-shared, dlm-mount and midgegalena.pc show: the library for C is not built"
 fi
 
 [[ $failed -eq 0 ]] && echo "version.sh: $version, $compared compared"

@@ -4,8 +4,7 @@
  * DLM_LOG=FILE   each image that is made, each write, cut, sync and printed line goes into FILE, in the order in which they took
  *                effect: of the processes with the same FILE one makes a call at a time. So does each sync of a folder. A sync
  *                makes no system call then.
- * DLM_OLD=PATH   to the numbers of the images in this folder 10 is added there; its file `renewed` counts as image 20, and what
- *                becomes it as 21; so a record tells when it does
+ * DLM_OLD=PATH   to the numbers of the images in this folder 10 is added there
  * DLM_READ=N     a read is made in pieces of N bytes, each at a moment of its own; -N: the last piece first
  * DLM_WRITE=N    a write, likewise
  * DLM_GAP=P,U    between two pieces it sleeps up to U microseconds, P times in 100
@@ -29,8 +28,6 @@
 #define MOST_FILES 1024
 #define PART 4096 /* a longer write is several records */
 #define OLD 10
-#define RENEWED 20
-#define DRAFT 21
 
 static int (*real_open)(const char *, int, ...);
 static ssize_t (*real_pread)(int, void *, size_t, off_t);
@@ -39,7 +36,6 @@ static ssize_t (*real_write)(int, const void *, size_t);
 static int (*real_fdatasync)(int);
 static int (*real_fsync)(int);
 static int (*real_ftruncate)(int, off_t);
-static int (*real_rename)(const char *, const char *);
 
 /* By descriptor: the number of the image, with OLD if it is in the old folder, and 1; or 0. And whether it is the old folder. */
 static int images[MOST_FILES], is_old_folder[MOST_FILES];
@@ -82,7 +78,6 @@ __attribute__((constructor)) static void begin(void) {
     real_fdatasync = dlsym(RTLD_NEXT, "fdatasync");
     real_fsync = dlsym(RTLD_NEXT, "fsync");
     real_ftruncate = dlsym(RTLD_NEXT, "ftruncate");
-    real_rename = dlsym(RTLD_NEXT, "rename");
     struct timespec now;
     clock_gettime(CLOCK_MONOTONIC, &now);
     state = (uint64_t)now.tv_nsec * 2654435761u + (uint64_t)getpid() * 40503u + 88172645463325252u;
@@ -137,10 +132,6 @@ int open(const char *path, int flags, ...) {
     const char *name = slash ? slash + 1 : path;
     int is_image = strlen(name) == 9 && !strncmp(name, "disk", 4) && !strcmp(name + 5, ".img");
     int image = is_image ? name[4] - '0' + 1 + (is_in_old(path) ? OLD : 0) : 0;
-    if (is_in_old(path) && !strcmp(name, "renewed"))
-        image = RENEWED + 1;
-    if (is_in_old(path) && !strcmp(name, "renewed.new"))
-        image = DRAFT + 1;
     if (image && through_pages)
         flags &= ~(O_DIRECT | O_DSYNC);
     int makes = image && flags & O_CREAT && log_fd >= 0;
@@ -242,18 +233,6 @@ int ftruncate(int fd, off_t length) {
         note('T', image_of(fd) - 1, (uint64_t)length, "", 0);
     }
     int done = real_ftruncate(fd, length);
-    if (notes)
-        one_at_a_time(0);
-    return done;
-}
-
-int rename(const char *from, const char *to) {
-    int notes = is_in_old(to) && log_fd >= 0;
-    if (notes) {
-        one_at_a_time(1);
-        note('R', RENEWED, 0, "", 0);
-    }
-    int done = real_rename(from, to);
     if (notes)
         one_at_a_time(0);
     return done;
