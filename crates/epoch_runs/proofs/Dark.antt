@@ -7,7 +7,7 @@ use Rattle.host.specs.Host.{Host, Stopped}
 use Rattle.world.specs.Entry.{Filled, Start, Stop, Begin, Called, Torn, Crashed, Lost, Migrated, is_of, of_host, host_step, host_after}
 use Rattle.endless.specs.Lived.{Lived, In, part}
 use Rattle.epoch_deeds.specs.Deeds.{Calls, CallsIn, Starts, Begins, Stops}
-use Rattle.epoch_runs.specs.World.{Entry, Does, Breaks, BreaksIn, Ends, Crashes, Loses, World, opening, deeds_after, after, power_losses, GoesFrom, Goes}
+use Rattle.epoch_runs.specs.World.{Entry, Does, Breaks, BreaksIn, Ends, Crashes, Loses, Replaces, World, opening, deeds_after, after, power_losses, GoesFrom, Goes}
 use Rattle.epoch_runs.specs.Living.{is_row, Showing, showing_next, shows_row, below, stops_below, has_stopped, others_stop, lived_at, lived_from, lived_of, core_now}
 use Rattle.epoch_runs.proofs.Hosts.{step, first_now}
 use Rattle.epoch_runs.proofs.Lists.{part_both}
@@ -98,6 +98,7 @@ module _ (c : Shape) (h e : ℕ) where
       (none_in e epoch (Torn g d call []) (others_stop c g epoch (w.deeds g)) tt (stops_none e g (λ x. epoch == x || has_stopped c g (w.deeds g) x) (below (w.deeds g)))) i k left is
   dark_at entries w (Ends g) goes i k left is = none_dark c h _ (part e (lived_at c w.deeds (Ends g) entries)) (stops_none e g (has_stopped c g (w.deeds g)) (below (w.deeds g))) i k left is
   dark_at entries w (Loses d) goes i k left is = none_dark c h _ (Lost d ∷ []) (none_more (Lost d) [] tt none_of_none) i k left is
+  dark_at entries w (Replaces d first newest) goes i k left is = none_dark c h _ [] none_of_none i k left is
   dark_at entries w (Crashes d) goes zero k left is = first_now power_losses c h e (Crashes d ∷ entries) w goes (goes.1.3 h)
   dark_at entries w (Crashes d) goes (suc i) k left is = absurd (cc)
 

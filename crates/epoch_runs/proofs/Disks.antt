@@ -12,7 +12,7 @@ use Rattle.epochs.specs.Pasts as served
 use Rattle.epochs.specs.Pasts.{done_in}
 use Rattle.endless.specs.Lived.{In, part}
 use Rattle.epoch_deeds.specs.Deeds.{Deed, Deeds, Calls, CallsIn, Starts, Begins, Stops}
-use Rattle.epoch_runs.specs.World.{Entry, Does, Breaks, BreaksIn, Ends, Crashes, Loses, deeds_after}
+use Rattle.epoch_runs.specs.World.{Entry, Does, Breaks, BreaksIn, Ends, Crashes, Loses, Replaces, deeds_after}
 use Rattle.epoch_runs.specs.Living.{is_row, Showing, showing_next, shows_row, below, stops_below, has_stopped, lived_at, lived_from}
 use Rattle.epoch_runs.proofs.Lists.{on_disk_both}
 
@@ -43,6 +43,7 @@ deeds_at k (BreaksIn epoch h d call) entries = cond (d == k) (served.BreaksIn (e
 deeds_at k (Ends h) entries = served.Stops h ∷ []
 deeds_at k (Crashes d) entries = cond (d == k) (served.Crash ∷ []) []
 deeds_at k (Loses d) entries = cond (d == k) (served.Loss ∷ []) []
+deeds_at k (Replaces d first newest) entries = cond (d == k) (served.Replacement first ∷ []) []
 
 abbrev pub deeds_on : ℕ → List Entry → List served.Deed
 deeds_on k [] = []
@@ -92,6 +93,7 @@ done_both k e (served.BreaksIn epoch host call ∷ one) more = either (is_same e
 done_both k e (served.Stops host ∷ one) more = done_both k e one more
 done_both k e (served.Crash ∷ one) more = ap (λ (l : List Filled). Crashed k [] ∷ l) (done_both k e one more)
 done_both k e (served.Loss ∷ one) more = ap (λ (l : List Filled). Lost k ∷ l) (done_both k e one more)
+done_both k e (served.Replacement first ∷ one) more = done_both k e one more
 
 -- an entry in an epoch, on the disk or on another
 in_here : (k e epoch : ℕ) (entry : Filled) (b : Bool) → is_on k entry ≡ b → on_disk k (part e (In epoch entry ∷ [])) ≡ cond b (cond (epoch == e) (entry ∷ []) []) []
@@ -197,6 +199,11 @@ done_at c k e deeds (Loses d) entries =
           ap (λ (b : Bool). cond b (Lost d ∷ []) []) here ∙ ap (λ (x : ℕ). Lost x ∷ []) (eqb-true d k here) ∙ ap (λ (b : Bool). done_in k (epoch_of e) (cond b (served.Loss ∷ []) [])) (sym here)
       | inr there ↦ ap (λ (b : Bool). cond b (Lost d ∷ []) []) there ∙ ap (λ (b : Bool). done_in k (epoch_of e) (cond b (served.Loss ∷ []) [])) (sym there)
     ]
+done_at c k e deeds (Replaces d first newest) entries = either (d == k)
+  where
+    either : (b : Bool) → [] ≡ done_in k (epoch_of e) (cond b (served.Replacement first ∷ []) [])
+    either true = refl
+    either false = refl
 
 -- ALL ENTRIES
 

@@ -13,7 +13,7 @@ use Rattle.endless.specs.Epochs.{IsCallAt}
 use Rattle.endless.specs.Lived.{Lived, In, part}
 use Rattle.epoch_deeds.specs.Deeds.{Deeds, Calls, CallsIn, Starts, Begins, Stops, core_in}
 use Rattle.epoch_deeds.specs.Knowing.{HasDue}
-use Rattle.epoch_runs.specs.World.{Entry, Does, Breaks, BreaksIn, Ends, Crashes, Loses, World, opening, no_deeds, deeds_after, after, Crashing, GoesFrom, Goes}
+use Rattle.epoch_runs.specs.World.{Entry, Does, Breaks, BreaksIn, Ends, Crashes, Loses, Replaces, World, opening, no_deeds, deeds_after, after, Crashing, GoesFrom, Goes}
 use Rattle.epoch_runs.specs.Living.{is_row, Showing, showing_by, showing_next, shows_row, below, stops_below, has_stopped, others_stop, lived_at, lived_from, lived_of, deeds_from, shown_to, core_now}
 use Rattle.epoch_runs.proofs.Hosts.{step, first_now}
 use Rattle.epoch_runs.proofs.Lists.{part_both, after_both, core_more, deeds_here}
@@ -176,6 +176,7 @@ module _ (crashing : Crashing) (c : Shape) (e h : ℕ) where
   due_first w (Ends g) entries goes = none_due w (Ends g) entries (stops_none e g (has_stopped c g (w.deeds g)) (below (w.deeds g)))
   due_first w (Crashes k) entries goes = none_due w (Crashes k) entries (none_more (Crashed k []) [] tt none_of_none)
   due_first w (Loses k) entries goes = none_due w (Loses k) entries (none_more (Lost k) [] tt none_of_none)
+  due_first w (Replaces k first newest) entries goes = none_due w (Replaces k first newest) entries none_of_none
 
   -- the next entries were due later
   later_due : (w : World) (entry : Entry) (entries : List Entry) (host other : Host) → other ≡ host → WasDue (deeds_after w.deeds entry) entries host → WasDue w.deeds (entry ∷ entries) other

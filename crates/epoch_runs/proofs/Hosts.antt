@@ -14,7 +14,7 @@ use Rattle.at_once.specs.AtOnce as acting
 use Rattle.endless.specs.Lived.{Lived, In, part}
 use Rattle.epoch_deeds.specs.Deeds.{Deed, Deeds, Calls, CallsIn, Starts, Begins, Stops, core_in, core_after, core_step, begun, hearing}
 use Rattle.epoch_deeds.specs.Knowing.{HasDue, MayBeGiven}
-use Rattle.epoch_runs.specs.World.{Entry, Does, Breaks, BreaksIn, Ends, Crashes, Loses, World, no_deeds, with_deeds, deeds_after, after, Crashing, MayFollow, GoesFrom, Goes}
+use Rattle.epoch_runs.specs.World.{Entry, Does, Breaks, BreaksIn, Ends, Crashes, Loses, Replaces, World, no_deeds, with_deeds, deeds_after, after, Crashing, MayFollow, GoesFrom, Goes}
 use Rattle.epoch_runs.specs.World as worlds
 use Rattle.epoch_runs.specs.Laws.{TasksAreTheSame}
 use Rattle.epoch_runs.specs.Living.{is_row, Showing, showing_by, showing_next, shows_row, below, stops_below, has_stopped, others_stop, lived_at, lived_from, lived_of, shown_to, core_now}
@@ -215,6 +215,7 @@ module _ (crashing : Crashing) (c : Shape) (w : World) (entries : List Entry) (e
   lived_of_others h (Ends g) other = stops_of_others h g e (has_stopped c g (w.deeds g)) (below (w.deeds g)) other
   lived_of_others h (Crashes k) other = refl
   lived_of_others h (Loses k) other = refl
+  lived_of_others h (Replaces k first newest) other = refl
 
   step_of_others : (h : ℕ) (entry : Entry) → is_by h entry ≡ false → IsStep h entry
   step_of_others h entry other =
@@ -414,6 +415,7 @@ module _ (crashing : Crashing) (c : Shape) (w : World) (entries : List Entry) (e
       (leads_stops c g e (w.deeds g) (has_stopped c g (w.deeds g)) refl)))
   step (Crashes k) left h = λ may goes. step_of_others h (Crashes k) refl
   step (Loses k) left h = λ may goes. step_of_others h (Loses k) refl
+  step (Replaces k first newest) left h = λ may goes. step_of_others h (Replaces k first newest) refl
 
 -- ALL ENTRIES
 

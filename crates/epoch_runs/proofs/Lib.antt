@@ -1,3 +1,4 @@
+pub mod Ahead
 pub mod Carrying
 pub mod Dark
 pub mod Disks
@@ -13,4 +14,6 @@ pub mod Places
 pub mod Served
 pub mod Shared
 pub mod Submitting
+pub mod Taking
 pub mod Turning
+pub mod Writing

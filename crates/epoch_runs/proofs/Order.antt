@@ -8,7 +8,7 @@ use Rattle.host.specs.Host.{Memory, Host, Stopped, Running}
 use Rattle.world.specs.Entry.{Filled, Start, Stop, Begin, Called, Torn, Crashed, Lost, Migrated, is_of, of_host, host_step, host_after}
 use Rattle.endless.specs.Lived.{Lived, In, Crash, Loss, part, now}
 use Rattle.epoch_deeds.specs.Deeds.{Deeds, Calls, CallsIn, Starts, Begins, Stops}
-use Rattle.epoch_runs.specs.World.{Entry, Does, Breaks, BreaksIn, Ends, Crashes, Loses, World, opening, no_deeds, deeds_after, after, Crashing, GoesFrom, Goes}
+use Rattle.epoch_runs.specs.World.{Entry, Does, Breaks, BreaksIn, Ends, Crashes, Loses, Replaces, World, opening, no_deeds, deeds_after, after, Crashing, GoesFrom, Goes}
 use Rattle.epoch_runs.specs.Living.{is_row, Showing, showing_next, shows_row, below, stops_below, has_stopped, lived_at, lived_from, lived_of, place_from, place_of, deeds_from, core_now}
 use Rattle.epoch_runs.specs.Laws.{KeepsOrder, OrderIsKept}
 use Rattle.epoch_runs.proofs.Hosts.{step, first_now}
@@ -191,6 +191,7 @@ module _ (crashing : Crashing) (c : Shape) (h e : ℕ) where
   short_or_ends deeds (Ends g) entries = inr (stops_end g (has_stopped c g (deeds g)) (below (deeds g)))
   short_or_ends deeds (Crashes k) entries = inl (omega arith)
   short_or_ends deeds (Loses k) entries = inl (omega arith)
+  short_or_ends deeds (Replaces k first newest) entries = inl (omega arith)
 
   -- whoever runs at place p of what is lived does so by what was done before an entry whose place is no later
   record RunsBy (deeds : ℕ → Deeds) (entries : List Entry) (p : ℕ) (memory : Memory) : Type 0 where

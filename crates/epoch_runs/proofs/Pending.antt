@@ -8,7 +8,7 @@ use Rattle.standings.specs.Epochs.{epoch_of, base_of}
 use Rattle.standings.specs.Past.{Made, made, MayCallIn}
 use Rattle.epoch_deeds.specs.Deeds.{Deed, Deeds, Calls, CallsIn, Starts, Begins, Stops, past_on}
 use Rattle.epoch_deeds.specs.Knowing.{image_of, HasDue, ShowsRow, MayDo}
-use Rattle.epoch_runs.specs.World.{Entry, Does, Breaks, BreaksIn, Ends, Crashes, Loses, World, deeds_after, after, Crashing, GoesFrom}
+use Rattle.epoch_runs.specs.World.{Entry, Does, Breaks, BreaksIn, Ends, Crashes, Loses, Replaces, World, deeds_after, after, Crashing, GoesFrom}
 use Rattle.epoch_runs.specs.Living.{is_row, Showing, showing_by, showing_next}
 use Rattle.epoch_runs.proofs.Lists.{last_same, not_nil, deeds_there}
 
@@ -21,6 +21,7 @@ is_by h (BreaksIn epoch g k call) = g == h
 is_by h (Ends g) = g == h
 is_by h (Crashes k) = false
 is_by h (Loses k) = false
+is_by h (Replaces k first newest) = false
 
 -- what others do is no deed of the host
 pub deeds_of_others : (h : ℕ) (deeds : ℕ → Deeds) (entry : Entry) → is_by h entry ≡ false → deeds_after deeds entry h ≡ deeds h
@@ -30,6 +31,7 @@ deeds_of_others h deeds (BreaksIn epoch g k call) other = deeds_there deeds g h 
 deeds_of_others h deeds (Ends g) other = deeds_there deeds g h [] other
 deeds_of_others h deeds (Crashes k) other = refl
 deeds_of_others h deeds (Loses k) other = refl
+deeds_of_others h deeds (Replaces k first newest) other = refl
 
 pub next_of_others : (h : ℕ) (entry : Entry) (entries : List Entry) → is_by h entry ≡ false → showing_next h (entry ∷ entries) ≡ showing_next h entries
 next_of_others h (Does g deed) entries other = ap (λ (b : Bool). cond b (showing_by deed) (showing_next h entries)) other
@@ -38,6 +40,7 @@ next_of_others h (BreaksIn epoch g k call) entries other = ap (λ (b : Bool). co
 next_of_others h (Ends g) entries other = ap (λ (b : Bool). cond b None (showing_next h entries)) other
 next_of_others h (Crashes k) entries other = refl
 next_of_others h (Loses k) entries other = refl
+next_of_others h (Replaces k first newest) entries other = refl
 
 -- PENDING
 
@@ -109,6 +112,7 @@ module _ (crashing : Crashing) (c : Shape) (h : ℕ) where
       either false other one rest = subst (λ (l : Deeds). IsPending c h l s) (deeds_there w.deeds g h [] other) (rest one)
   pending (Crashes k ∷ entries) w s goes is = pending entries (after w (Crashes k) goes.0) s goes.2 is
   pending (Loses k ∷ entries) w s goes is = pending entries (after w (Loses k) goes.0) s goes.2 is
+  pending (Replaces k first newest ∷ entries) w s goes is = pending entries (after w (Replaces k first newest) goes.0) s goes.2 is
 
 -- the host's last deed was that read
 pub pending_reads : (c : Shape) (h : ℕ) (deeds : Deeds) (deed : Deed) (s : Showing) (is : IsPending c h (deeds ++ deed ∷ []) s) →

@@ -8,7 +8,7 @@ use Rattle.host.specs.Host.{Host, Stopped}
 use Rattle.endless.specs.Lived.{part, now}
 use Rattle.endless.specs.WithoutEnd.{host_by}
 use Rattle.epoch_deeds.specs.Deeds.{Deed, Deeds, Calls, core_in, core_step}
-use Rattle.epoch_runs.specs.World.{Entry, Does, Breaks, BreaksIn, Ends, Crashes, Loses, World, opening, no_deeds, deeds_after, after, Crashing, GoesFrom, Goes}
+use Rattle.epoch_runs.specs.World.{Entry, Does, Breaks, BreaksIn, Ends, Crashes, Loses, Replaces, World, opening, no_deeds, deeds_after, after, Crashing, GoesFrom, Goes}
 use Rattle.epoch_runs.specs.Living.{Showing, showing_next, lived_of, place_of, deeds_from, shown_to, core_now}
 use Rattle.epoch_runs.specs.Laws.{KeepsOrder}
 use Rattle.epoch_runs.proofs.Lists.{core_more, deeds_here}
@@ -118,6 +118,7 @@ module _ (crashing : Crashing) (c : Shape) (all : List Entry) (goes_all : Goes c
           ends_has i w (Ends g) entries go on places h (subst (λ (x : ℕ). deeds_after w.deeds (Ends x) h ≡ []) (sym (eqb-true g h own)) (deeds_here w.deeds h []))
       own_entry (Crashes k) go on own = others_have i w (Crashes k) entries go on places h refl
       own_entry (Loses k) go on own = others_have i w (Loses k) entries go on places h refl
+      own_entry (Replaces k first newest) go on own = others_have i w (Replaces k first newest) entries go on places h refl
 
   cores_on : (i : ℕ) (deeds : ℕ → Deeds) (entry : Entry) (entries : List Entry) → CoresOn i deeds (entry ∷ entries) → CoresOn (suc i) (deeds_after deeds entry) entries
   cores_on i deeds entry entries cores j e h = ap (λ (n : ℕ). core_at n e h) (let same : suc i + j ≡ i + suc j = omega arith in same) ∙ cores (suc j) e h

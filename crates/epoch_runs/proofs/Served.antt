@@ -1,25 +1,27 @@
 -- Each disk serves the deeds on it, each host's by its own past there.
-use Rattle.std.specs.Prelude.{if◌then◌else◌}
-use Rattle.std.proofs.Common.{ℕ, ◌≡◌, ◌==◌, ◌+◌, ◌≤◌, ◌⊎◌, Bool, true, false, cond, true≢false, Option, Some, None, List, [], ◌∷◌, ◌++◌, refl, sym, ◌∙◌, ap, ap₂, subst, inl, inr, arith}
-use Rattle.std.proofs.lemmas.Bool.{cases_Bool, eqb-true, eq-eqb, ne_eqb}
+use Rattle.std.specs.Prelude.{if◌then◌else◌, ◌%◌, ◌-◌}
+use Rattle.std.proofs.Common.{ℕ, ◌≡◌, ◌==◌, ◌+◌, ◌≤◌, ◌<◌, ◌⊎◌, Bool, true, false, cond, true≢false, Option, Some, None, List, [], ◌∷◌, ◌++◌, refl, sym, ◌∙◌, ap, ap₂, subst, inl, inr, arith}
+use Rattle.std.proofs.lemmas.Bool.{cases_Bool, cases_lt, eqb-true, eq-eqb, ne_eqb, leb-true, le-leb}
 use Rattle.std.proofs.lemmas.List.{append-nil, append_assoc}
 use Rattle.disk.specs.Disk.{DiskState, Call, Attach, Read, Write, Sync, Answer, Told, Step}
 use Rattle.disk.proofs.StepLemmas.{step_keeps}
 use Rattle.torn_block.specs.declared.layout.TheConstants.{ROW_LENGTH}
 use Rattle.paxos_block.specs.Shape.{Shape}
 use Rattle.standings.specs.declared.epoch.Epoch.{Epoch}
-use Rattle.standings.specs.Epochs.{epoch_of, base_of}
+use Rattle.standings.specs.Epochs.{epoch_of, epoch_by, base_of, number_of}
 use Rattle.standings.specs.Reading.{moved}
 use Rattle.standings.specs.Past.{Made, Past, made, reading, MayCall, MayCallIn, IsUnseen}
 use Rattle.world.specs.World.{Tears}
+use Rattle.epochs.specs.Bytes.{IsNew}
+use Rattle.epochs.proofs.Staying.{GoesByPasts}
 use Rattle.epochs.specs.Pasts as served
 use Rattle.epochs.specs.Pasts.{Pasts, no_pasts, with_past, pasts_after, ahead, IsShownLater, Hears, MayBe, ServesPasts}
 use Rattle.epoch_deeds.specs.Deeds.{Deed, Deeds, Calls, CallsIn, Starts, Begins, Stops, past_on}
 use Rattle.epoch_deeds.specs.Knowing.{image_of, IsHeard}
-use Rattle.epoch_runs.specs.World.{Entry, Does, Breaks, BreaksIn, Ends, Crashes, Loses, World, with_disk, with_deeds, disks_after, deeds_after, after, StepsTo, Crashing, MayFollow, GoesFrom}
+use Rattle.epoch_runs.specs.World.{Entry, Does, Breaks, BreaksIn, Ends, Crashes, Loses, Replaces, World, with_disk, with_deeds, disks_after, deeds_after, after, StepsTo, IsNewDisk, Crashing, MayFollow, GoesFrom, GoesTo}
 use Rattle.epoch_runs.specs.Living.{is_row, Showing, showing_by, showing_next}
 use Rattle.epoch_runs.proofs.Disks.{row_deed, core_deed, deeds_at, deeds_on}
-use Rattle.epoch_runs.proofs.Lists.{last_same, first_same, past_more, deeds_here, same_self, differ_back}
+use Rattle.epoch_runs.proofs.Lists.{last_same, first_same, not_nil, past_more, deeds_here, same_self, differ_back}
 use Rattle.epoch_runs.proofs.Pending.{is_by, next_of_others, IsPending, row_pending, pending, pending_reads, not_pending}
 
 -- BOOT NUMBERS
@@ -69,6 +71,12 @@ second c h deeds s is = record { now = last_same past (begins ++ row ∷ []) s.m
         is.shows.shown.is
         ∙ ap (λ (l : Past). begins ++ row ∷ l ++ behind ∷ []) is.shows.at_once
 
+-- so the host has called the disk
+pub has_past : (c : Shape) (h : ℕ) (deeds : Deeds) (s : Showing) → IsPending c h deeds s → past_on s.disk deeds ≡ [] → ⊥
+has_past c h deeds s is none =
+    not_nil (is.shows.shown.early ++ reading (image_of c) (epoch_of s.epoch).area is.boot is.shows.shown.first ∷ is.shows.shown.before)
+    (made (Read is.boot (base_of (image_of c) (epoch_of s.epoch).area + is.at) ROW_LENGTH) (Told is.shows.shown.row)) (sym none ∙ (second c h deeds s is).before)
+
 module _ (crashing : Crashing) (sound : IsSound crashing) (c : Shape) where
   -- AS TIME GOES ON
 
@@ -92,6 +100,7 @@ module _ (crashing : Crashing) (sound : IsSound crashing) (c : Shape) where
   boots_rise w (Ends h) left k may = omega arith
   boots_rise w (Crashes d) left k may =
       with_rises w.disk d left k (elim (sound w (w.disk d) left may.2 may.3) [ inl next ↦ (let n : (w.disk d).boot ≤ left.boot = omega (arith, next) in n) | inr still ↦ (let same = still.0 in let n : (w.disk d).boot ≤ left.boot = omega (arith, same) in n) ])
+  boots_rise w (Replaces d first newest) left k may = with_rises w.disk d left k (let same = may.2.boot in omega (arith, same))
   boots_rise w (Loses d) left k may = with_rises w.disk d left k (let same = ap (λ (x : DiskState). x.boot) may.2 in omega (arith, same))
 
   -- A ROW THAT IS SHOWN
@@ -146,43 +155,45 @@ module _ (crashing : Crashing) (sound : IsSound crashing) (c : Shape) where
         own_entry (Ends g) own left may shown = absurd (let none = sym (ap (λ (b : Bool). cond b None (showing_next h entries)) own) ∙ shown in cc)
         own_entry (Crashes k) own left may shown = absurd (true≢false (sym own))
         own_entry (Loses k) own left may shown = absurd (true≢false (sym own))
+        own_entry (Replaces k first newest) own left may shown = absurd (true≢false (sym own))
 
     -- GOING ON
 
     -- what others do is not what the host goes on with
-    others_ahead : (k : ℕ) (entry : Entry) (entries : List Entry) (rest : List served.Deed) → is_by h entry ≡ false → ((d : ℕ) → entry ≡ Crashes d → (d == k) ≡ false) → ahead h (deeds_at k entry entries ++ rest) ≡ ahead h rest
-    others_ahead k (Does g (Calls d now)) entries rest other none = on_it (d == k) (showing_next g entries)
+    others_ahead : (k : ℕ) (entry : Entry) (entries : List Entry) (rest : List served.Deed) → is_by h entry ≡ false → ((d : ℕ) → entry ≡ Crashes d → (d == k) ≡ false) → ((d first newest : ℕ) → entry ≡ Replaces d first newest → (d == k) ≡ false) → ahead h (deeds_at k entry entries ++ rest) ≡ ahead h rest
+    others_ahead k (Does g (Calls d now)) entries rest other none new = on_it (d == k) (showing_next g entries)
       where
         on_it : (b : Bool) (next : Option Showing) → ahead h (cond b (row_deed g now next ∷ []) [] ++ rest) ≡ ahead h rest
         on_it false next = refl
         on_it true None = ap (λ (b : Bool). cond b (now ∷ ahead h rest) (ahead h rest)) other
         on_it true (Some t) = ap (λ (b : Bool). cond b (now ∷ ahead h rest) (ahead h rest)) other
-    others_ahead k (Does g (CallsIn epoch d now call heard)) entries rest other none = on_it (d == k) (is_row call heard)
+    others_ahead k (Does g (CallsIn epoch d now call heard)) entries rest other none new = on_it (d == k) (is_row call heard)
       where
         on_it : (b row : Bool) → ahead h (cond b (core_deed epoch g now call heard row ∷ []) [] ++ rest) ≡ ahead h rest
         on_it false row = refl
         on_it true true = ap (λ (b : Bool). cond b (now ∷ ahead h rest) (ahead h rest)) other
         on_it true false = ap (λ (b : Bool). cond b (now ∷ ahead h rest) (ahead h rest)) other
-    others_ahead k (Does g (Starts epoch)) entries rest other none = refl
-    others_ahead k (Does g (Begins epoch task)) entries rest other none = refl
-    others_ahead k (Does g (Stops epoch)) entries rest other none = refl
-    others_ahead k (Breaks g d call) entries rest other none = on_it (d == k)
+    others_ahead k (Does g (Starts epoch)) entries rest other none new = refl
+    others_ahead k (Does g (Begins epoch task)) entries rest other none new = refl
+    others_ahead k (Does g (Stops epoch)) entries rest other none new = refl
+    others_ahead k (Breaks g d call) entries rest other none new = on_it (d == k)
       where
         on_it : (b : Bool) → ahead h (cond b (served.Breaks g call) (served.Stops g) ∷ rest) ≡ ahead h rest
         on_it true = ap (λ (b : Bool). cond b [] (ahead h rest)) other
         on_it false = ap (λ (b : Bool). cond b [] (ahead h rest)) other
-    others_ahead k (BreaksIn epoch g d call) entries rest other none = on_it (d == k)
+    others_ahead k (BreaksIn epoch g d call) entries rest other none new = on_it (d == k)
       where
         on_it : (b : Bool) → ahead h (cond b (served.BreaksIn (epoch_of epoch) g call) (served.Stops g) ∷ rest) ≡ ahead h rest
         on_it true = ap (λ (b : Bool). cond b [] (ahead h rest)) other
         on_it false = ap (λ (b : Bool). cond b [] (ahead h rest)) other
-    others_ahead k (Ends g) entries rest other none = ap (λ (b : Bool). cond b [] (ahead h rest)) other
-    others_ahead k (Crashes d) entries rest other none = ap (λ (b : Bool). ahead h (cond b (served.Crash ∷ []) [] ++ rest)) (none d refl)
-    others_ahead k (Loses d) entries rest other none = on_it (d == k)
+    others_ahead k (Ends g) entries rest other none new = ap (λ (b : Bool). cond b [] (ahead h rest)) other
+    others_ahead k (Crashes d) entries rest other none new = ap (λ (b : Bool). ahead h (cond b (served.Crash ∷ []) [] ++ rest)) (none d refl)
+    others_ahead k (Loses d) entries rest other none new = on_it (d == k)
       where
         on_it : (b : Bool) → ahead h (cond b (served.Loss ∷ []) [] ++ rest) ≡ ahead h rest
         on_it true = refl
         on_it false = refl
+    others_ahead k (Replaces d first newest) entries rest other none new = ap (λ (b : Bool). ahead h (cond b (served.Replacement first ∷ []) [] ++ rest)) (new d first newest refl)
 
     -- the host's own next deed is the reading
     own_ahead : (deed : Deed) (entries : List Entry) → showing_by deed ≡ Some s → (behind : Past) × (ahead h (deeds_at s.disk (Does h deed) entries ++ deeds_on s.disk entries) ≡ s.made ∷ behind)
@@ -216,7 +227,7 @@ module _ (crashing : Crashing) (sound : IsSound crashing) (c : Shape) where
               let still = sym (next_of_others h entry entries other) ∙ shown in
               let rises = boots_rise w entry goes.0 s.disk goes.1 in
               let rest = goes_on entries (after w entry goes.0) goes.2 still (omega (arith, low, rises)) in
-              (rest.0, others_ahead s.disk entry entries (deeds_on s.disk entries) other (no_crash entry goes.0 goes.1 goes.2 still) ∙ rest.1)
+              (rest.0, others_ahead s.disk entry entries (deeds_on s.disk entries) other (no_crash entry goes.0 goes.1 goes.2 still) (no_new entry goes.0 goes.1 goes.2 still) ∙ rest.1)
         ]
       where
         own_entry : (x : Entry) → is_by h x ≡ true → showing_next h (x ∷ entries) ≡ Some s → (behind : Past) × (ahead h (deeds_at s.disk x entries ++ deeds_on s.disk entries) ≡ s.made ∷ behind)
@@ -228,6 +239,7 @@ module _ (crashing : Crashing) (sound : IsSound crashing) (c : Shape) where
         own_entry (Ends g) own shown = absurd (let none = sym (ap (λ (b : Bool). cond b None (showing_next h entries)) own) ∙ shown in cc)
         own_entry (Crashes k) own shown = absurd (true≢false (sym own))
         own_entry (Loses k) own shown = absurd (true≢false (sym own))
+        own_entry (Replaces k first newest) own shown = absurd (true≢false (sym own))
 
         -- meanwhile the disk does not crash
         no_crash : (x : Entry) (left : DiskState) → MayFollow crashing c w x left → GoesFrom crashing c (after w x left) entries → showing_next h entries ≡ Some s → (d : ℕ) → x ≡ Crashes d → (d == s.disk) ≡ false
@@ -236,6 +248,7 @@ module _ (crashing : Crashing) (sound : IsSound crashing) (c : Shape) where
         no_crash (BreaksIn epoch g k call) left may more still d same = absurd (cc)
         no_crash (Ends g) left may more still d same = absurd (cc)
         no_crash (Loses k) left may more still d same = absurd (cc)
+        no_crash (Replaces k first newest) left may more still d same = absurd (cc)
         no_crash (Crashes k) left may more still d same =
             let one : k ≡ d = cc in
             elim (cases_Bool (k == s.disk)) [
@@ -252,6 +265,53 @@ module _ (crashing : Crashing) (sound : IsSound crashing) (c : Shape) where
                     | inr still_dark ↦ not_pending c h s (subst (λ (l : Deeds). IsPending c h l s) (still_dark.1 h) (pending crashing c h entries (after w (Crashes k) left) s more still))
                   ])
             ]
+
+        -- nor is it replaced: the host has called it
+        no_new : (x : Entry) (left : DiskState) → MayFollow crashing c w x left → GoesFrom crashing c (after w x left) entries → showing_next h entries ≡ Some s → (d first newest : ℕ) → x ≡ Replaces d first newest → (d == s.disk) ≡ false
+        no_new (Does g deed) left may more still d first newest same = absurd (cc)
+        no_new (Breaks g k call) left may more still d first newest same = absurd (cc)
+        no_new (BreaksIn epoch g k call) left may more still d first newest same = absurd (cc)
+        no_new (Ends g) left may more still d first newest same = absurd (cc)
+        no_new (Crashes k) left may more still d first newest same = absurd (cc)
+        no_new (Loses k) left may more still d first newest same = absurd (cc)
+        no_new (Replaces k from upto) left may more still d first newest same =
+            let one : k ≡ d = cc in
+            elim (cases_Bool (k == s.disk)) [
+              | inr differ ↦ subst (λ (x : ℕ). (x == s.disk) ≡ false) one differ
+              | inl hit ↦
+                  (let is = pending crashing c h entries (after w (Replaces k from upto) left) s more still in
+                  absurd (has_past c h (w.deeds h) s is (subst (λ (x : ℕ). past_on x (w.deeds h) ≡ []) (eqb-true k s.disk hit) (may.1.anew h))))
+            ]
+
+  -- those that lead to some world may follow one another
+  pub all_go : (entries : List Entry) (w last : World) → GoesTo crashing c w entries last → GoesFrom crashing c w entries
+  all_go [] w last goes = tt
+  all_go (entry ∷ entries) w last goes = (goes.0, goes.1, all_go entries (after w entry goes.0) last goes.2)
+
+  -- A NEW DISK
+
+  -- a number that belongs to no epoch above this one is below that of each later epoch
+  below_later : (area number newest first least : ℕ) → ((order : ℕ) → epoch_by area number ≡ Some order → order ≤ newest) → newest < first → first + area ≤ least → number < least
+  below_later area number newest first least most before late =
+      elim (cases_lt number least) [
+        | inl below ↦ below
+        | inr above ↦
+            let belongs : epoch_by area number ≡ Some (number + number % 2 - area) = ap (λ (b : Bool). if b then Some (number + number % 2 - area) else None) (le-leb area (number + number % 2) (omega (arith, above, late))) in
+            let low = most (number + number % 2 - area) belongs in
+            absurd (omega (arith, above, late, before, low))
+      ]
+
+  is_new : (first newest : ℕ) (old new : DiskState) → newest < first → IsNewDisk (image_of c) newest old new → IsNew (image_of c) first old new
+  is_new first newest old new before is =
+      record {
+        there = is.there;
+        gone = is.gone;
+        boot = is.boot;
+        room = is.room;
+        synced = is.synced;
+        before = λ e host e_area takes is_host.
+            below_later e.area (number_of (image_of c) e.area host new.bytes) newest first e.number (λ order belongs. is.none e.area host order e_area is_host belongs) before (leb-true (first + e.area) e.number takes);
+      }
 
   -- PASTS ON THE DISK
 
@@ -498,6 +558,11 @@ module _ (crashing : Crashing) (sound : IsSound crashing) (c : Shape) where
       loses_here w left pasts tied may goes =
           serves_one w (Loses k) left pasts served.Loss (ap (λ (b : Bool). cond b (served.Loss ∷ []) []) (same_self k)) (disk_here w.disk left) may tied
 
+      replaces_here : (first newest : ℕ) → IsServed (Replaces k first newest)
+      replaces_here first newest w left pasts tied may goes =
+          serves_one w (Replaces k first newest) left pasts (served.Replacement first) (ap (λ (b : Bool). cond b (served.Replacement first ∷ []) []) (same_self k)) (disk_here w.disk left) (may.0, is_new first newest (w.disk k) left may.1.below may.2)
+          (λ g. sym (may.1.anew g))
+
       -- on this disk, or on another
       either_disk : (d : ℕ) (entry : ℕ → Entry) → IsServed (entry k) → ((d == k) ≡ false → IsServed (entry d)) → IsServed (entry d)
       either_disk d entry here there = elim (cases_Bool (d == k)) [ inl same ↦ subst (λ (x : ℕ). IsServed (entry x)) (sym (eqb-true d k same)) here | inr differ ↦ there differ ]
@@ -532,6 +597,9 @@ module _ (crashing : Crashing) (sound : IsSound crashing) (c : Shape) where
       served_entry (Loses d) =
           either_disk d (λ x. Loses x) loses_here
           (λ differ w left pasts tied may goes. serves_none w (Loses d) left pasts (ap (λ (b : Bool). cond b (served.Loss ∷ []) []) differ) (disk_there w.disk d left differ) tied)
+      served_entry (Replaces d first newest) =
+          either_disk d (λ x. Replaces x first newest) (replaces_here first newest)
+          (λ differ w left pasts tied may goes. serves_none w (Replaces d first newest) left pasts (ap (λ (b : Bool). cond b (served.Replacement first ∷ []) []) differ) (disk_there w.disk d left differ) tied)
 
     -- ALL ENTRIES
 
@@ -546,4 +614,18 @@ module _ (crashing : Crashing) (sound : IsSound crashing) (c : Shape) where
           | inr one ↦
               subst (λ (l : List served.Deed). Serves (w.disk k) pasts (l ++ deeds_on k entries)) (sym one.1)
               (new, one.2, all_served entries (after w entry goes.0) (pasts_after (w.disk k) new pasts one.0) one.3 goes.2)
+        ]
+
+    -- the same to the disk of the last world
+    pub all_served_to : (entries : List Entry) (w last : World) (pasts : Pasts) → Tied pasts w.deeds → GoesTo crashing c w entries last → GoesByPasts crashing.IsCrash c k (image_of c) (w.disk k) pasts (deeds_on k entries) (last.disk k)
+    all_served_to [] w last pasts tied goes = ap (λ (v : World). v.disk k) goes
+    all_served_to (entry ∷ entries) w last pasts tied goes =
+        let new = disks_after w.disk entry goes.0 k in
+        elim (served_entry entries entry w goes.0 pasts tied goes.1 (all_go entries (after w entry goes.0) last goes.2)) [
+          | inl none ↦
+              subst (λ (l : List served.Deed). GoesByPasts crashing.IsCrash c k (image_of c) (w.disk k) pasts (l ++ deeds_on k entries) (last.disk k)) (sym none.0)
+              (subst (λ (d : DiskState). GoesByPasts crashing.IsCrash c k (image_of c) d pasts (deeds_on k entries) (last.disk k)) none.1 (all_served_to entries (after w entry goes.0) last pasts none.2 goes.2))
+          | inr one ↦
+              subst (λ (l : List served.Deed). GoesByPasts crashing.IsCrash c k (image_of c) (w.disk k) pasts (l ++ deeds_on k entries) (last.disk k)) (sym one.1)
+              (new, one.2, all_served_to entries (after w entry goes.0) last (pasts_after (w.disk k) new pasts one.0) one.3 goes.2)
         ]

@@ -15,7 +15,7 @@ use Rattle.endless.specs.Lived.{Lived, In, Crash, Loss}
 use Rattle.endless.specs.Lived as living
 use Rattle.epoch_deeds.specs.Deeds.{Deeds, Calls, CallsIn, Starts, Begins, Stops}
 use Rattle.epoch_deeds.specs.Knowing.{image_of}
-use Rattle.epoch_runs.specs.World.{Entry, Does, Breaks, BreaksIn, Ends, Crashes, Loses, opening, deeds_after, model_crashes, power_losses, Goes}
+use Rattle.epoch_runs.specs.World.{Entry, Does, Breaks, BreaksIn, Ends, Crashes, Loses, Replaces, opening, deeds_after, model_crashes, power_losses, Goes}
 use Rattle.epoch_runs.specs.Living.{is_row, Showing, showing_next, shows_row, below, stops_below, has_stopped, others_stop, lived_at, lived_from, lived_of}
 use Rattle.epoch_runs.specs.Laws.{DeedsAreShared, DeedsAreSharedOverLosses}
 use Rattle.epoch_runs.proofs.Dark.{all_dark}
@@ -23,6 +23,7 @@ use Rattle.epoch_runs.proofs.Disks.{deeds_on, done_on}
 use Rattle.epoch_runs.proofs.Hosts.{hosts_do}
 use Rattle.epoch_runs.proofs.Lists.{part_both}
 use Rattle.epoch_runs.proofs.Served.{IsSound, all_served}
+use Rattle.epoch_runs.proofs.Taking.{for_later}
 
 -- NOTHING IS MIGRATED
 
@@ -64,6 +65,7 @@ lived_are c e deeds (BreaksIn epoch h k call) entries = deed_in e epoch (Torn h 
 lived_are c e deeds (Ends h) entries = stops_are e h (has_stopped c h (deeds h)) (below (deeds h))
 lived_are c e deeds (Crashes k) entries = (tt, tt)
 lived_are c e deeds (Loses k) entries = (tt, tt)
+lived_are c e deeds (Replaces k first newest) entries = tt
 
 are_deeds : (c : Shape) (e : ℕ) (deeds : ℕ → Deeds) (entries : List Entry) → AreDeeds (living.part e (lived_from c deeds entries))
 are_deeds c e deeds [] = tt
@@ -90,6 +92,7 @@ module _ (c : Shape) (entries : List Entry) (goes : Goes model_crashes c entries
       record {
         room = omega arith;
         disks = served;
+        later = λ k. for_later model_crashes c k entries (opening c) goes;
         hosts = hosts_do model_crashes c entries goes;
         entries = λ e. are_deeds c e (λ h. []) entries;
         parts = λ e k. done_on c k e (λ h. []) entries;
@@ -108,6 +111,7 @@ module _ (c : Shape) (entries : List Entry) (goes : Goes power_losses c entries)
       record {
         room = omega arith;
         disks = served_on;
+        later = λ k. for_later power_losses c k entries (opening c) goes;
         hosts = hosts_do power_losses c entries goes;
         entries = λ e. are_deeds c e (λ h. []) entries;
         parts = λ e k. done_on c k e (λ h. []) entries;

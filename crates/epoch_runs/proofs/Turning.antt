@@ -1,8 +1,8 @@
 -- Nobody is in an epoch before somebody has learned the one before it whole: numbers on disks rise towards epochs that are open alone.
 use Rattle.std.specs.Prelude.{◌⊎◌, ◌%◌, drop, map, replicate, Option}
-use Rattle.std.proofs.Common.{ℕ, zero, suc, ◌≡◌, ◌==◌, ◌+◌, ◌≤◌, ◌<◌, Bool, true, false, cond, true≢false, Some, None, List, [], ◌∷◌, ◌++◌, length, refl, sym, ◌∙◌, ap, subst, inl, inr, arith}
+use Rattle.std.proofs.Common.{ℕ, zero, suc, ◌≡◌, ◌==◌, ◌+◌, ◌≤◌, ◌<◌, Bool, true, false, cond, true≢false, Some, None, List, [], ◌∷◌, ◌++◌, length, get_or, refl, sym, ◌∙◌, ap, subst, inl, inr, arith}
 use Rattle.std.proofs.lemmas.Bool.{cases_Bool, cases_eq, eqb-true}
-use Rattle.std.proofs.lemmas.List.{append-nil, append_assoc}
+use Rattle.std.proofs.lemmas.List.{append-nil, append_assoc, ext_get_or, get_or-replicate}
 use Rattle.disk.specs.declared.fault.DiskFault.TheVariants.{Failed}
 use Rattle.disk.specs.Disk.{DiskState, Call, Attach, Read, Write, Sync, Answer, Booted, Told, Done, Fault, Step, KeepsSynced, lost}
 use Rattle.disk.specs.Crash.{MayLeave}
@@ -11,7 +11,7 @@ use Rattle.disk.proofs.CrashLemmas.{may_leave_now}
 use Rattle.lock_command.specs.declared.command.Command.{Command}
 use Rattle.paxos_block.specs.Shape.{Shape}
 use Rattle.torn_block.specs.Stage.{call_of}
-use Rattle.standings.specs.Epochs.{epoch_of, epoch_by, base_of, number_at, number_place, standings_place, whole_length}
+use Rattle.standings.specs.Epochs.{epoch_of, epoch_by, base_of, number_at, number_of, number_place, standings_place, whole_length}
 use Rattle.standings.specs.Reading.{moved, numbers_in}
 use Rattle.standings.specs.Past.{Made, Past, made, reading, calls_before, number_write, WritesNumber, MayCall, MayCallIn}
 use Rattle.host.specs.Host.{Memory, Host, Stopped, Running, fresh, is_stopped}
@@ -24,7 +24,7 @@ use Rattle.epochs.proofs.Pasts.{Lives, read_number}
 use Rattle.endless.specs.Lived.{IsWholeBy, RunsIn}
 use Rattle.epoch_deeds.specs.Deeds.{Deed, Deeds, Calls, CallsIn, Starts, Begins, Stops, past_on, core_in, core_step, hearing, begun}
 use Rattle.epoch_deeds.specs.Knowing.{image_of, IsOpen, IsHeard, RisesInTurn, MayDo}
-use Rattle.epoch_runs.specs.World.{Entry, Does, Breaks, BreaksIn, Ends, Crashes, Loses, World, opening, no_deeds, with_disk, disks_after, deeds_after, after, Crashing, MayFollow, GoesFrom, Goes}
+use Rattle.epoch_runs.specs.World.{Entry, Does, Breaks, BreaksIn, Ends, Crashes, Loses, Replaces, World, opening, no_deeds, with_disk, disks_after, deeds_after, after, Crashing, MayFollow, GoesFrom, Goes}
 use Rattle.epoch_runs.specs.Living.{Showing, showing_next, lived_of, place_of, deeds_from, shown_to}
 use Rattle.epoch_runs.specs.Laws.{KeepsOrder}
 use Rattle.epoch_runs.proofs.Disks.{deeds_on}
@@ -88,6 +88,13 @@ known_as n whole pasts other same known =
       lives = λ host is_host. subst (λ (past : Past). (first : DiskState) × Lives n host first past whole) (same host) (known.lives host is_host);
     }
 
+-- what is synced a crash leaves
+only_synced : (disk : DiskState) → disk.unsynced ≡ replicate (length disk.bytes) false → (bytes : List ℕ) → MayLeave disk bytes → bytes ≡ disk.bytes
+only_synced disk synced bytes may =
+    let many = may.as_many in
+    ext_get_or 0 bytes disk.bytes many (λ q within.
+    may.same q (ap (λ (l : List Bool). get_or l q false) synced ∙ get_or-replicate (length disk.bytes) q false false (omega (arith, within, many))))
+
 not_nil : {A : Type 0} (xs : List A) (x : A) (ys : List A) → [] ≡ xs ++ x ∷ ys → ⊥
 not_nil [] x ys same = absurd (cc)
 not_nil (y ∷ xs) x ys same = absurd (cc)
@@ -131,12 +138,25 @@ module _ (crashing : Crashing) (sound : IsSound crashing)
       let was = is d before in
       record { place = was.place; by = (let low = was.by in omega (arith, low, order)); host = was.host; memory = was.memory; runs = was.runs; whole = was.whole }
 
+  whole_below : (p later earlier : ℕ) → earlier ≤ later → AreWhole p later → AreWhole p earlier
+  whole_below p later earlier order is d before = is d (omega (arith, order, before))
+
   -- the number belongs to such an epoch, if it belongs to one
   abbrev IsFor : (p area number : ℕ) → Type 0
   IsFor p area number = (order : ℕ) → epoch_by area number ≡ Some order → AreWhole p order
 
   for_later : (p q area number : ℕ) → p ≤ q → IsFor p area number → IsFor q area number
   for_later p q area number order is e belongs = whole_later p q e order (is e belongs)
+
+  -- number 0 belongs to the first epoch, or to none
+  none_for : (p area number : ℕ) → area < 2 → number ≡ 0 → IsFor p area number
+  none_for p zero number is_area none order belongs d before =
+      absurd
+      (let first : Some 0 ≡ Some order = sym (ap (epoch_by zero) none) ∙ belongs in
+      let same : 0 ≡ order = cc in
+      omega (arith, same, before))
+  none_for p (suc zero) number is_area none order belongs d before = absurd (let other : None ≡ Some order = sym (ap (epoch_by 1) none) ∙ belongs in cc)
+  none_for p (suc (suc area)) number is_area none order belongs d before = absurd (omega (arith, is_area))
 
   -- What is known before an entry, at its place.
   record Holds (i : ℕ) (w : World) : Type 0 where
@@ -288,6 +308,13 @@ module _ (crashing : Crashing) (sound : IsSound crashing)
     good_next (Loses d) entries left may goes =
         good_with (Loses d) entries left may goes d
         (λ area g is_area is_g. always_same (number_place (image_of c) area g) (IsFor p area) (lost (w.disk d)) left may.2 (always_lost (number_place (image_of c) area g) (IsFor p area) (w.disk d) (holds.good d area g is_area is_g)))
+    good_next (Replaces d first newest) entries left may goes =
+        good_with (Replaces d first newest) entries left may goes d
+        (λ area g is_area is_g bytes now order belongs.
+        let same : number_at (number_place (image_of c) area g) bytes ≡ number_of (image_of c) area g left.bytes = ap (number_at (number_place (image_of c) area g)) (only_synced left may.2.synced bytes now) in
+        let most = may.2.none area g order is_area is_g (ap (epoch_by area) (sym same) ∙ belongs) in
+        let open_to = may.1.known in
+        whole_below (place_of c all i) newest order most (open_is i w holds open_to.0 newest open_to.1))
 
     -- WHAT WAS READ
 
@@ -380,6 +407,7 @@ module _ (crashing : Crashing) (sound : IsSound crashing)
         own_entry (Ends g) it own = nothing (deeds_after w.deeds (Ends g) h) (subst (λ (x : ℕ). deeds_after w.deeds (Ends x) h ≡ []) (sym (eqb-true g h own)) (deeds_here w.deeds h []))
         own_entry (Crashes k) it own = absurd (true≢false (sym own))
         own_entry (Loses k) it own = absurd (true≢false (sym own))
+        own_entry (Replaces k first newest) it own = absurd (true≢false (sym own))
 
   -- THE NEXT PLACE
 
@@ -410,22 +438,12 @@ module _ (crashing : Crashing) (sound : IsSound crashing)
       record {
         deeds = refl;
         known = λ k. known_first (image_of c) (whole_length (image_of c)) row_fits (omega arith);
-        good = λ k area g is_area is_g. always_as (number_place (image_of c) area g) (λ number. number ≡ 0) (IsFor (place_of c all 0) area) ((opening c).disk k) (λ number none. none_for area number is_area none)
+        good = λ k area g is_area is_g. always_as (number_place (image_of c) area g) (λ number. number ≡ 0) (IsFor (place_of c all 0) area) ((opening c).disk k) (λ number none. none_for (place_of c all 0) area number is_area none)
             (λ bytes may. zero_left area g (whole_length (image_of c)) bytes may);
         read = λ h k area boot row early later is_area is g is_g. absurd (not_nil early (reading (image_of c) area boot row) later is);
         runs = λ h e before behind is runs. absurd (true≢false (ap (λ (l : Deeds). is_stopped (core_in c h e l)) (sym (nothing_before before behind is)) ∙ runs));
       }
     where
-      -- number 0 belongs to the first epoch, or to none
-      none_for : (area number : ℕ) → area < 2 → number ≡ 0 → IsFor (place_of c all 0) area number
-      none_for zero number is_area none order belongs d before =
-          absurd
-          (let first : Some 0 ≡ Some order = sym (ap (epoch_by zero) none) ∙ belongs in
-          let same : 0 ≡ order = cc in
-          omega (arith, same, before))
-      none_for (suc zero) number is_area none order belongs d before = absurd (let other : None ≡ Some order = sym (ap (epoch_by 1) none) ∙ belongs in cc)
-      none_for (suc (suc area)) number is_area none order belongs d before = absurd (omega (arith, is_area))
-
       zero_left : (area g size : ℕ) (bytes : List ℕ) → MayLeave (fresh_disk size) bytes → number_at (number_place (image_of c) area g) bytes ≡ 0
       zero_left area g size bytes may =
           elim ((zeros_are_none (number_place (image_of c) area g) size).left bytes may) [
@@ -433,6 +451,10 @@ module _ (crashing : Crashing) (sound : IsSound crashing)
             | inr (inl seen) ↦ seen
             | inr (inr writing) ↦ absurd (true≢false (sym writing.1))
           ]
+
+  -- where a host runs in an epoch, each before it was learned whole
+  pub before_whole : (j h e : ℕ) → is_stopped (core_in c h e (deeds_from no_deeds j all h)) ≡ false → (d : ℕ) → suc d ≤ e → (p : ℕ) × IsWholeBy c (lived_of c all) d p
+  before_whole j h e runs d before = (place_of c all (0 + j), walk all 0 (opening c) goes_all refl holds_first j h e runs d before)
 
   -- NOBODY IS EARLY
 

@@ -1,4 +1,5 @@
 pub mod Laws
 pub mod Living
+pub mod Replacing
 pub mod Submitting
 pub mod World

@@ -7,7 +7,7 @@ use Rattle.host.specs.Host.{Host, is_stopped}
 use Rattle.world.specs.Entry.{Start, Stop, Begin, Called, Torn}
 use Rattle.endless.specs.Lived.{Lived, In, Crash, Loss}
 use Rattle.epoch_deeds.specs.Deeds.{Deed, Deeds, Calls, CallsIn, Starts, Begins, Stops, core_in, hearing}
-use Rattle.epoch_runs.specs.World.{Entry, Does, Breaks, BreaksIn, Ends, Crashes, Loses, no_deeds, deeds_after}
+use Rattle.epoch_runs.specs.World.{Entry, Does, Breaks, BreaksIn, Ends, Crashes, Loses, Replaces, no_deeds, deeds_after}
 
 -- ROWS
 
@@ -42,6 +42,7 @@ showing_next h (BreaksIn epoch g k call ∷ entries) = if g == h then None else 
 showing_next h (Ends g ∷ entries) = if g == h then None else showing_next h entries
 showing_next h (Crashes k ∷ entries) = showing_next h entries
 showing_next h (Loses k ∷ entries) = showing_next h entries
+showing_next h (Replaces k first newest ∷ entries) = showing_next h entries
 
 -- WHAT IS LIVED
 
@@ -86,6 +87,7 @@ lived_at c deeds (BreaksIn epoch h k call) entries = In epoch (Torn h k call [])
 lived_at c deeds (Ends h) entries = all_stop c h (deeds h)
 lived_at c deeds (Crashes k) entries = Crash k (λ e. []) ∷ []
 lived_at c deeds (Loses k) entries = Loss k ∷ []
+lived_at c deeds (Replaces k first newest) entries = []
 
 abbrev pub lived_from : Shape → (ℕ → Deeds) → List Entry → List Lived
 lived_from c deeds [] = []

@@ -1,5 +1,6 @@
 // What hosts of all epochs do, over disks that serve them.
 ghost use Rattle.epoch_runs.specs.Laws.{DeedsAreShared, DeedsAreSharedOverLosses, HostsHaveOneLog, HostsHaveOneLogOverLosses, HostsKeepToEpochs, HostsKeepToEpochsOverLosses, KeptDeedsHaveOneLog, KeptDeedsHaveOneLogOverLosses, OrderIsKept, TasksAreTheSame};
+ghost use Rattle.epoch_runs.specs.Replacing.{FreshDisksMayBeReplaced, NobodyGetsAhead, NobodyGetsAheadOverLosses};
 ghost use Rattle.epoch_runs.specs.World.{model_crashes, power_losses};
 
 /// Hosts of all epochs do what they may, each by what it did since its start, and disks serve their calls. Then each disk has served all
@@ -30,4 +31,14 @@ pub fn hosts_have_one_log()
     // So it is over losses of power, each of which finds every host stopped.
     ensures keeps_on { HostsKeepToEpochsOverLosses }
     ensures one_log_on { HostsHaveOneLogOverLosses }
+{}
+
+/// Another disk may be put in the place of a lost one, and takes part from two epochs above on: where half of the disks, each of which takes part in the next epoch,
+/// show no number above this one, no core has called any disk in an epoch above the next one.
+pub fn nobody_gets_ahead()
+    ensures model { NobodyGetsAhead }
+    // So it is over losses of power.
+    ensures power { NobodyGetsAheadOverLosses }
+    // At first each disk may be replaced from epoch 2 on, so this is not said of nothing.
+    ensures fresh { FreshDisksMayBeReplaced }
 {}

@@ -3,4 +3,4 @@
 
 mod law;
 
-pub use law::{deeds_are_shared, hosts_have_one_log, order_is_kept};
+pub use law::{deeds_are_shared, hosts_have_one_log, nobody_gets_ahead, order_is_kept};

@@ -52,14 +52,14 @@ module _ (c : Shape) (h d boot at : ℕ) (from : List ℕ) where
       let here : Allowed before d now.call = subst (λ (i : ℕ). Allowed before i now.call) makes.0 may in
       let this : Allowed before d write = subst (λ (m : Made). Allowed before d m.call) makes.1 here in
       let so : Allowed (w.deeds h) d write = subst (λ (deeds : Deeds). Allowed deeds d write) (sym is) this in
-      (Breaks h d write, (refl, refl, refl), goes_stopped c h inside w (Breaks h d write) left (with_disk w.disk d left) (left, (inside, on, so.1, so.2, torn), refl) (λ g. refl) (λ k. refl))
+      (Breaks h d write, (refl, refl, refl), goes_stopped c h inside w (Breaks h d write) left (with_disk w.disk d left) (left, (inside, on, so.1, so.2, torn), refl) (λ g. refl) (λ k. refl) (λ k. refl))
   breaks w before (CallsIn e k now call heard) left inside on is makes may torn =
       let same : moved (base_of (image_of c) (epoch_of e).area) call ≡ write = is_moved before e k now call heard makes.1 may.2 in
       let Allowed : Deeds → ℕ → Type 0 = λ deeds i. HasDue c h e deeds i call × MayCallIn (image_of c) (epoch_of e) h (past_on i deeds) call in
       let here : Allowed before d = subst (λ (i : ℕ). Allowed before i) makes.0 (may.0, may.1) in
       let so : Allowed (w.deeds h) d = subst (λ (deeds : Deeds). Allowed deeds d) (sym is) here in
       let cut : Tears (moved (base_of (image_of c) (epoch_of e).area) call) (w.disk d) left = subst (λ (x : Call). Tears x (w.disk d) left) (sym same) torn in
-      (BreaksIn e h d call, (refl, refl, same), goes_stopped c h inside w (BreaksIn e h d call) left (with_disk w.disk d left) (left, (inside, so.0, so.1, cut), refl) (λ g. refl) (λ k. refl))
+      (BreaksIn e h d call, (refl, refl, same), goes_stopped c h inside w (BreaksIn e h d call) left (with_disk w.disk d left) (left, (inside, so.0, so.1, cut), refl) (λ g. refl) (λ k. refl) (λ k. refl))
   breaks w before (Starts e) left inside on is makes may torn = absurd makes
   breaks w before (Begins e task) left inside on is makes may torn = absurd makes
   breaks w before (Stops e) left inside on is makes may torn = absurd makes

@@ -50,7 +50,7 @@ opens c disks hosts fresh new =
     record {
       world = opening c;
       goes = refl;
-      shows = record { disk_count = ap length fresh ∙ length-replicate c.disks x; host_count = new.0; disks = at; hosts = λ h own is. (new.1 h own is).0 };
+      shows = record { disk_count = ap length fresh ∙ length-replicate c.disks x; host_count = new.0; disks = at; hosts = λ h own is. (new.1 h own is).0; firsts = λ d. refl };
       whole = λ d other inside. ap (λ (s : SimState). length s.disk.bytes) (at d other inside) ∙ (shape_fresh (whole_length (image_of c))).1;
     }
 
@@ -113,7 +113,7 @@ module _ (k : Kept) (is : IsReached k) (h : ℕ) (inside : h < HOSTS) (before : 
       let on : leading.GoesOn k.shape h (w.deeds h) (λ deeds. leading.LeadsTo k.shape h deeds own_then) = walks k.shape h (w.deeds h) (led.shows.hosts h before own) in (
         done_by h on.more,
         record { deeds = on.more; none = on.none; are = refl },
-        host_then entries k led h (done_by h on.more) (w.deeds h ++ on.more) w.disk k.disks own_then inside (goes_silent k.shape h inside w (w.deeds h) on.more refl on.none on.may)
+        host_then entries k led h (done_by h on.more) (w.deeds h ++ on.more) w.disk k.disks own_then inside (goes_silent k.shape h inside w (w.deeds h) on.more refl led.shows.firsts on.none on.may)
             (shown_by entries k led) on.so,
       )
 
@@ -123,7 +123,7 @@ module _ (k : Kept) (is : IsReached k) (h : ℕ) (inside : h < HOSTS) (before : 
       let w : World = led.world in (
         Ends h,
         refl,
-        host_then entries k led h (Ends h ∷ []) [] w.disk k.disks own_then inside (goes_stopped k.shape h inside w (Ends h) (w.disk 0) w.disk (w.disk 0, tt, refl) (λ g. refl) (λ d. refl))
+        host_then entries k led h (Ends h ∷ []) [] w.disk k.disks own_then inside (goes_stopped k.shape h inside w (Ends h) (w.disk 0) w.disk (w.disk 0, tt, refl) (λ g. refl) (λ d. refl) (λ d. refl))
             (shown_by entries k led) new.0,
       )
 
@@ -144,7 +144,7 @@ module _ (k : Kept) (is : IsReached k) (h : ℕ) (inside : h < HOSTS) (before : 
           done_by h (by.deed ∷ by.on.more),
           record { deed = by.deed; makes = by.makes; more = by.on.more; none = by.on.none; are = refl },
           host_then entries k led h (done_by h (by.deed ∷ by.on.more)) (w.deeds h ++ by.deed ∷ by.on.more) (with_disk w.disk d left.disk) (set k.disks d left) own_then inside
-              (goes_by_call k.shape h inside w (w.deeds h) d (made call answer) by.deed by.on.more left.disk refl by.makes by.may by.on.none by.on.may step_w)
+              (goes_by_call k.shape h inside w (w.deeds h) d (made call answer) by.deed by.on.more left.disk refl led.shows.firsts by.makes by.may by.on.none by.on.may step_w)
               (disk_set k.shape w.disk k.disks shown d left on calm_still (as_long ∙ is_whole k.shape w.disk k.disks shown d on x value))
               (subst (λ (deeds : Deeds). leading.LeadsTo k.shape h deeds own_then) (append_assoc (w.deeds h) (by.deed ∷ []) by.on.more) by.on.so),
         )
@@ -237,7 +237,7 @@ module _ (k : Kept) (is : IsReached k) (d : ℕ) (on : d < k.shape.disks) (x lef
       let goes : GoesTo k.shape w (entry ∷ []) (after w entry left.disk) = (left.disk, may w same, refl) in (
         entry,
         refl,
-        leads_then entries k led (record w { disk = with_disk w.disk d left.disk }) (entry ∷ []) (set k.disks d left) k.hosts (subst (λ (v : World). GoesTo k.shape w (entry ∷ []) v) (after_is w) goes)
+        leads_then entries k led (record w { disk = with_disk w.disk d left.disk }) (entry ∷ []) (set k.disks d left) k.hosts (subst (λ (v : World). GoesTo k.shape w (entry ∷ []) v) (after_is w) goes) (λ e. refl)
             (disk_set k.shape w.disk k.disks shown d left on calm_still (as_long ∙ is_whole k.shape w.disk k.disks shown d on x value)) led.shows.host_count led.shows.hosts,
       )
 

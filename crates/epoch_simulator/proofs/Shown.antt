@@ -89,13 +89,13 @@ hosts_set c old new hosts h own inside leads others all g w is =
 
 module _ (entries : List Entry) (k : Kept) (led : LeadsTo entries k) where
   -- more entries lead on, and the world is then what is kept
-  pub leads_then : (new : World) (more : List Entry) (disks : List SimState) (hosts : List Walk) → GoesTo k.shape led.world more new → AreShown k.shape new.disk disks → length hosts ≡ HOSTS
+  pub leads_then : (new : World) (more : List Entry) (disks : List SimState) (hosts : List Walk) → GoesTo k.shape led.world more new → ((d : ℕ) → new.first d ≡ led.world.first d) → AreShown k.shape new.disk disks → length hosts ≡ HOSTS
       → ((g : ℕ) (w : Walk) → slice_get hosts g ≡ Some w → leading.LeadsTo k.shape g (new.deeds g) w) → LeadsTo (entries ++ more) (record { shape = k.shape; disks = disks; hosts = hosts })
-  leads_then new more disks hosts goes are count all =
+  leads_then new more disks hosts goes firsts are count all =
       record {
         world = new;
         goes = goes_both k.shape (opening k.shape) led.world new entries more led.goes goes;
-        shows = record { disk_count = are.count; host_count = count; disks = are.are; hosts = all };
+        shows = record { disk_count = are.count; host_count = count; disks = are.are; hosts = all; firsts = λ d. firsts d ∙ led.shows.firsts d };
         whole = are.whole;
       }
 
@@ -104,7 +104,7 @@ module _ (entries : List Entry) (k : Kept) (led : LeadsTo entries k) where
       → leading.LeadsTo k.shape h deeds own → LeadsTo (entries ++ more) (record { shape = k.shape; disks = disks; hosts = set k.hosts h own })
   host_then h more deeds disk disks own inside goes are leads =
       let within : h < length k.hosts = omega (arith, inside, led.shows.host_count) in
-      leads_then goes.new more disks (set k.hosts h own) goes.goes
+      leads_then goes.new more disks (set k.hosts h own) goes.goes goes.firsts
       (record { count = are.count; are = λ d other below. are.are d other below ∙ ap calm (sym (goes.disks d)); whole = are.whole })
       (length-set k.hosts h own ∙ led.shows.host_count)
       (hosts_set k.shape led.world.deeds goes.new.deeds k.hosts h own within (subst (λ (ds : Deeds). leading.LeadsTo k.shape h ds own) (sym goes.own) leads) goes.others led.shows.hosts)

@@ -36,12 +36,14 @@ abbrev pub GoesTo : Shape → (old : World) → List Entry → (new : World) →
 GoesTo c old [] new = new ≡ old
 GoesTo c old (entry ∷ entries) new = (left : DiskState) × MayFollow model_crashes c old entry left × GoesTo c (after old entry left) entries new
 
--- The world is what is kept: what each host did since its start leads to what is kept of it, and the disks are the world's.
+-- The world is what is kept: what each host did since its start leads to what is kept of it, and the disks are the world's. They take part in all epochs: none is put in the place of
+-- another.
 pub record Shows (w : World) (k : Kept) : Type 0 where
   pub disk_count : length k.disks ≡ k.shape.disks
   pub host_count : length k.hosts ≡ HOSTS
   pub disks : (d : ℕ) (other : SimState) → d < k.shape.disks → slice_index_or k.disks d other ≡ calm (w.disk d)
   pub hosts : (h : ℕ) (own : Walk) → IsHost k h own → leading.LeadsTo k.shape h (w.deeds h) own
+  pub firsts : (d : ℕ) → w.first d ≡ 0
 
 -- each disk is as long as two areas and what is between them
 abbrev pub AreWhole : Kept → Type 0

@@ -11,7 +11,7 @@ use Rattle.world.specs.Entry.{Filled, Start, Stop, Begin, Called, Crashed, Lost,
 use Rattle.world.specs.Entry as entries
 use Rattle.at_once.specs.AtOnce.{Serves}
 use Rattle.at_once.specs.Power.{LosesPower, ServesOn}
-use Rattle.epochs.specs.Acts.{Epoch, epoch_of, is_same, Shared, fresh_shared, Act, In, Beside, Turns, Ends, part, IsModelCrash, ServesAll, GoesThrough, HasNoCrash, shown_by, AreClear}
+use Rattle.epochs.specs.Acts.{Epoch, epoch_of, is_same, Shared, fresh_shared, Act, In, Beside, Turns, Ends, Replaced, part, AllFailBefore, NoneTakesPart, TakesPartLater, IsModelCrash, ServesAll, GoesThrough, HasNoCrash, shown_by, AreClear}
 use Rattle.epochs.specs.Bytes.{number_place, number_of, GoesTo, ServesCalls, CallsServe, CallsServeOn, GoesAlong, read_on, ReadBytesShow}
 use Rattle.epochs.proofs.Numbers.{zeros_are_none}
 use Rattle.epochs.proofs.Readings.{Rises, readings_show, through_rises}
@@ -27,21 +27,39 @@ part_more e (In epoch shown entry) one other same = ap (λ (l : List Filled). if
 part_more e (Beside call answer) one other same = same
 part_more e (Turns area host) one other same = same
 part_more e (Ends entry) one other same = ap (λ (l : List Filled). entry ∷ l) same
+part_more e (Replaced first) one other same = same
+
+-- nor does it matter for where a disk takes part
+record PartsAlike (one other : List Act) : Type 0 where
+  fails : (first : ℕ) → AllFailBefore first other → AllFailBefore first one
+  none : (e : Epoch) → NoneTakesPart e other → NoneTakesPart e one
+  later : TakesPartLater other → TakesPartLater one
+
+alike_more : (act : Act) (one other : List Act) → PartsAlike one other → PartsAlike (act ∷ one) (act ∷ other)
+alike_more (In e shown entry) one other alike = record { fails = λ first all. (all.0, alike.fails first all.1); none = λ t no. alike.none t no; later = λ all. (alike.none e all.0, alike.later all.1) }
+alike_more (Beside call answer) one other alike = record { fails = λ first all. alike.fails first all; none = λ t no. alike.none t no; later = λ all. alike.later all }
+alike_more (Turns area host) one other alike = record { fails = λ first all. alike.fails first all; none = λ t no. alike.none t no; later = λ all. alike.later all }
+alike_more (Ends entry) one other alike = record { fails = λ first all. alike.fails first all; none = λ t no. alike.none t no; later = λ all. alike.later all }
+alike_more (Replaced first) one other alike = record { fails = λ from all. alike.fails from all; none = λ t no. (no.0, alike.none t no.1); later = λ all. (alike.fails first all.0, alike.later all.1) }
+
+alike_turned : (area host : ℕ) (one other : List Act) → PartsAlike one other → PartsAlike (Turns area host ∷ one) other
+alike_turned area host one other alike = record { fails = λ first all. alike.fails first all; none = λ t no. alike.none t no; later = λ all. alike.later all }
 
 module _ (IsCrash : DiskState → DiskState → Type 0) (leaves : (old new : DiskState) → IsCrash old new → KeepsSynced old.unsynced old.bytes new.bytes × (new.unsynced ≡ replicate (length old.bytes) false)) (c : Shape) (k n : ℕ) where
   calls_are_acts : (calls : List Act) (whole : DiskState) (kept : List ℕ) → Ties n whole kept → ServesCalls IsCrash c k n whole calls →
-      (acts : List Act) × ServesAll IsCrash c k n (shared n whole kept) acts × ((e : Epoch) → part e acts ≡ part e calls)
+      (acts : List Act) × ServesAll IsCrash c k n (shared n whole kept) acts × ((e : Epoch) → part e acts ≡ part e calls) × PartsAlike acts calls
   unfolding GoesOver
-  calls_are_acts [] whole kept ties all = ([], tt, λ e. refl)
+  calls_are_acts [] whole kept ties all = ([], tt, λ e. refl, record { fails = λ first all. tt; none = λ e no. tt; later = λ all. tt })
   calls_are_acts (act ∷ calls) whole kept ties all =
       let by = goes_to n whole kept ties IsCrash c k (leaves whole) act all.0 all.1 in
       let rest = calls_are_acts calls all.0 by.kept_then by.ties_then all.2 in
       elim by.goes [
-        | inl goes ↦ (act ∷ rest.0, (shared n all.0 by.kept_then, goes, rest.1), λ e. part_more e act rest.0 calls (rest.2 e))
+        | inl goes ↦ (act ∷ rest.0, (shared n all.0 by.kept_then, goes, rest.1), λ e. part_more e act rest.0 calls (rest.2 e), alike_more act rest.0 calls rest.3)
         | inr turns ↦ (
           Turns turns.1 turns.2 ∷ act ∷ rest.0,
           (turns.0, turns.3, (shared n all.0 by.kept_then, turns.4, rest.1)),
           λ e. part_more e act rest.0 calls (rest.2 e),
+          alike_turned turns.1 turns.2 (act ∷ rest.0) (act ∷ calls) (alike_more act rest.0 calls rest.3),
         )
       ]
 
@@ -65,6 +83,7 @@ none_more (Ends (Begin h task)) one other more none = more none
 none_more (Ends (Called h d call answer left)) one other more none = more none
 none_more (Ends (entries.Torn h d call left)) one other more none = more none
 none_more (Ends (Migrated disks log)) one other more none = more none
+none_more (Replaced first) one other more none = absurd none
 
 module _ (IsCrash : DiskState → DiskState → Type 0) (leaves : (old new : DiskState) → IsCrash old new → KeepsSynced old.unsynced old.bytes new.bytes × (new.unsynced ≡ replicate (length old.bytes) false)) (c : Shape) (k n : ℕ) where
   goes_along : (calls : List Act) (whole : DiskState) (kept : List ℕ) (last : DiskState) → Ties n whole kept → GoesAlong IsCrash c k n whole calls last → Along IsCrash c k n (shared n whole kept) calls last
@@ -137,20 +156,20 @@ unfolding shared
 shared_first n size = λ i. record { whole = fresh_disk size; seen = numbers_first n size i; sure = numbers_first n size i }
 
 pub calls_are_all : (IsCrash : DiskState → DiskState → Type 0) → ((old new : DiskState) → IsCrash old new → KeepsSynced old.unsynced old.bytes new.bytes × (new.unsynced ≡ replicate (length old.bytes) false)) → (c : Shape) (k n size : ℕ) (calls : List Act) → 4096 ≤ n → 4096 + n + n ≤ size →
-    ServesCalls IsCrash c k n (fresh_disk size) calls → (acts : List Act) × ServesAll IsCrash c k n (fresh_shared size) acts × ((e : Epoch) → part e acts ≡ part e calls)
+    ServesCalls IsCrash c k n (fresh_disk size) calls → (acts : List Act) × ServesAll IsCrash c k n (fresh_shared size) acts × ((e : Epoch) → part e acts ≡ part e calls) × (TakesPartLater calls → TakesPartLater acts)
 calls_are_all IsCrash leaves c k n size calls row fits all =
     let by = calls_are_acts IsCrash leaves c k n calls (fresh_disk size) (fresh_disk size).bytes (ties_first n size row fits) all in
-    (by.0, subst (λ (s : Shared). ServesAll IsCrash c k n s by.0) (shared_first n size) by.1, by.2)
+    (by.0, subst (λ (s : Shared). ServesAll IsCrash c k n s by.0) (shared_first n size) by.1, by.2, by.3.later)
 
 pub calls_serve : CallsServe
-calls_serve c k n size e calls row fits all =
+calls_serve c k n size e calls row fits all later =
     let by = calls_are_all IsModelCrash (λ old new crash. (crash.1.bytes, crash.1.unsynced)) c k n size calls row fits all in
-    subst (Serves c k (fresh_disk n)) (by.2 (epoch_of e)) (areas_serve c k n size e by.0 fits by.1)
+    subst (Serves c k (fresh_disk n)) (by.2 (epoch_of e)) (areas_serve c k n size e by.0 fits by.1 (by.3 later))
 
 pub calls_serve_on : CallsServeOn
-calls_serve_on c k n size e calls row fits all =
+calls_serve_on c k n size e calls row fits all later =
     let by = calls_are_all LosesPower (λ old new crash. (crash.bytes, crash.unsynced)) c k n size calls row fits all in
-    subst (ServesOn c k (fresh_disk n)) (by.2 (epoch_of e)) (areas_serve_on c k n size e by.0 fits by.1)
+    subst (ServesOn c k (fresh_disk n)) (by.2 (epoch_of e)) (areas_serve_on c k n size e by.0 fits by.1 (by.3 later))
 
 -- READINGS
 

@@ -24,8 +24,8 @@ use Rattle.world.specs.Entry.{Filled, Start, Stop, Begin, Called, Crashed, Lost,
 use Rattle.world.specs.Entry as entries
 use Rattle.epochs.specs.Showing.{host_at, moved, masked_in, IsCleared}
 use Rattle.epochs.specs.Numbers.{write_over, IsTried}
-use Rattle.epochs.specs.Acts.{Epoch, base_of, Shared, Act, In, Beside, Turns, Ends, sure_by, IsShown, IsInside, MayMake, WritesBeside, IsTurned, IsTurning, GoesBy}
-use Rattle.epochs.specs.Bytes.{number_place, number_of, IsSurely, AreShown, AreInside, MayCall, IsAnswered, IsUntold, IsCutOff, HappensIn, IsBeat, IsApart, GoesTo}
+use Rattle.epochs.specs.Acts.{Epoch, base_of, Shared, Act, In, Beside, Turns, Ends, Replaced, sure_by, IsShown, IsInside, MayMake, WritesBeside, IsTurned, IsTurning, GoesBy}
+use Rattle.epochs.specs.Bytes.{number_place, number_of, IsSurely, AreShown, AreInside, MayCall, IsAnswered, IsUntold, IsCutOff, HappensIn, IsBeat, IsApart, IsNew, GoesTo}
 use Rattle.epochs.proofs.Numbers.{tried}
 use Rattle.epochs.proofs.Standings.{cleared_written, cleared_lost}
 use Rattle.epochs.proofs.Blocks.{body_fits, blocks_apart, lies_on, area_room, few_at, off_rows, off_area, within_area}
@@ -666,6 +666,42 @@ module _ (n : ℕ) (whole : DiskState) (kept : List ℕ) (ties : Ties n whole ke
           goes = inl (record { inside = inside; there = there; whole = is; seen = ap (λ (d : DiskState). numbers n d.bytes) is; sure = refl });
         }
 
+    -- A NEW DISK
+
+    goes_replaced : (first : ℕ) (new : DiskState) → k < c.disks → IsNew n first whole new → Follows (Replaced first) new
+    unfolding shared GoesOver IsOutcome
+    goes_replaced first new inside is =
+        record {
+          kept_then = new.bytes;
+          ties_then = record {
+            row = ties.row;
+            room = is.room;
+            marked = ap (λ (l : List Bool). length l) is.synced ∙ length-replicate (length new.bytes) false;
+            may = may_leave_now new;
+            left = λ area host is_area is_host bytes may. inl (ap (number_of n area host) (only_there bytes may));
+          };
+          goes = inl (record {
+            inside = inside;
+            there = is.there;
+            gone = is.gone;
+            boot = is.boot;
+            room = is.room;
+            marked = ap (λ (l : List Bool). length l) is.synced ∙ length-replicate (length new.bytes) false;
+            sure = refl;
+            before = λ e host e_area takes.
+                elim (cases_lt host 16) [
+                  | inl is_host ↦ (let same = numbers_is n new.bytes e.area host e_area is_host in let less = is.before e host e_area takes is_host in omega (arith, same, less))
+                  | inr above ↦ (let same = no_host n new.bytes e.area host e_area above in let less = is.before e 0 e_area takes (omega arith) in omega (arith, same, less))
+                ];
+          });
+        }
+      where
+        only_there : (bytes : List ℕ) → MayLeave new bytes → bytes ≡ new.bytes
+        only_there bytes may =
+            let many = may.as_many in
+            ext_get_or 0 bytes new.bytes many (λ p within.
+            may.same p (ap (λ (l : List Bool). get_or l p false) is.synced ∙ get_or-replicate (length new.bytes) p false false (omega (arith, within, many))))
+
     -- ONE ACT
 
     module _ (leaves : (new : DiskState) → IsCrash whole new → KeepsSynced whole.unsynced whole.bytes new.bytes × (new.unsynced ≡ replicate (length whole.bytes) false)) where
@@ -681,3 +717,4 @@ module _ (n : ℕ) (whole : DiskState) (kept : List ℕ) (ties : Ties n whole ke
       goes_to (Ends (Called h d call answer left)) new goes = absurd goes
       goes_to (Ends (entries.Torn h d call left)) new goes = absurd goes
       goes_to (Ends (Migrated disks log)) new goes = absurd goes
+      goes_to (Replaced first) new goes = goes_replaced first new goes.0 goes.1

@@ -21,10 +21,10 @@ use Rattle.world.specs.Entry as entries
 use Rattle.world.specs.World.{Tears}
 use Rattle.at_once.specs.AtOnce.{Serves}
 use Rattle.at_once.specs.Power.{LosesPower, ServesOn}
-use Rattle.epochs.specs.Acts.{Epoch, epoch_of, Act, In, Beside, Ends, part, IsModelCrash, HasNoCrash}
-use Rattle.epochs.specs.Bytes.{IsSurely, AreShown, AreInside, IsBeat, IsApart, GoesTo, ServesCalls}
+use Rattle.epochs.specs.Acts.{Epoch, epoch_of, Act, In, Beside, Ends, Replaced, part, IsModelCrash, HasNoCrash, takes_part, IsFault, AllFailBefore, NoneTakesPart, TakesPartLater}
+use Rattle.epochs.specs.Bytes.{IsSurely, AreShown, AreInside, IsBeat, IsApart, IsNew, GoesTo, ServesCalls}
 use Rattle.epochs.specs.Bytes as telling
-use Rattle.epochs.specs.Pasts.{Deed, Calls, CallsIn, Breaks, BreaksIn, Stops, Crash, Loss, done_in, Pasts, no_pasts, with_past, pasts_after, ahead, IsShownLater, Hears, MayBe, ServesPasts, PastsAreActs, PastsServe, PastsServeOn}
+use Rattle.epochs.specs.Pasts.{Deed, Calls, CallsIn, Breaks, BreaksIn, Stops, Crash, Loss, Replacement, done_in, Pasts, no_pasts, with_past, pasts_after, ahead, IsShownLater, Hears, MayBe, ServesPasts, AllHearFaultsBefore, NoneIsFor, IsForLater, PastsAreActs, PastsServe, PastsServeOn}
 use Rattle.epochs.proofs.Along.{Tied, tied_first, tied_on, numbers_rise, calls_are_all}
 use Rattle.epochs.proofs.Blocks.{lies_on, InBlock, write_in}
 use Rattle.epochs.proofs.Serving.{areas_serve, areas_serve_on}
@@ -226,17 +226,17 @@ masked_same shown old new (Sync boot) (Told bytes) unread step = absurd (let cla
 module _ (IsCrash : DiskState → DiskState → Type 0)
     (leaves : (old new : DiskState) → IsCrash old new → KeepsSynced old.unsynced old.bytes new.bytes × (new.unsynced ≡ replicate (length old.bytes) false) × ((new.boot ≡ old.boot + 1) ⊎ (new.boot ≡ old.boot))) (c : Shape) (k n : ℕ) (row_fits : 4096 ≤ n)
     (rows : n % 4096 ≡ 0) where
-  only : (old new : DiskState) → IsCrash old new → KeepsSynced old.unsynced old.bytes new.bytes × (new.unsynced ≡ replicate (length old.bytes) false)
+  pub only : (old new : DiskState) → IsCrash old new → KeepsSynced old.unsynced old.bytes new.bytes × (new.unsynced ≡ replicate (length old.bytes) false)
   only old new crash = (let by = leaves old new crash in (by.0, by.1))
 
   -- a host's call, and the act as which it counts
-  record Counts (host : ℕ) (m : Made) (old new : DiskState) : Type 0 where
+  pub record Counts (host : ℕ) (m : Made) (old new : DiskState) : Type 0 where
     own : IsOwn host m.call
     fits : WritesOn old m.call
     step : Step old m.call m.answer new
-    act : Act
-    goes : GoesTo IsCrash c k n old act new
-    none : HasNoCrash (act ∷ [])
+    pub act : Act
+    pub goes : GoesTo IsCrash c k n old act new
+    pub none : HasNoCrash (act ∷ [])
 
   module _ (host : ℕ) (is_host : host < 16) (m : Made) (old new : DiskState) (pasts : Pasts) (known : Known n old pasts) (counts : Counts host m old new) where
     shape_new : HasShape (length old.bytes) new
@@ -350,11 +350,21 @@ module _ (IsCrash : DiskState → DiskState → Type 0)
         ];
       }
 
+  -- nobody has done anything on a new disk
+  known_new : (first : ℕ) (old new : DiskState) (pasts : Pasts) → k < c.disks → IsNew n first old new → Known n old pasts → Known n new no_pasts
+  known_new first old new pasts inside is known =
+      record {
+        room = is.room;
+        marked = ap (λ (l : List Bool). length l) is.synced ∙ length-replicate (length new.bytes) false;
+        tied = tied_on IsCrash only c k n (Replaced first) old new (inside, is) known.tied;
+        lives = λ host is_host. (new, lives_first n host new);
+      }
+
   -- WHAT A DEED IS
 
   module _ (host : ℕ) (is_host : host < 16) (old new : DiskState) (pasts : Pasts) (known : Known n old pasts) where
     -- a call for no epoch
-    counts_beside : (m : Made) → MayCall n host (pasts host) m.call → Step old m.call m.answer new → Counts host m old new
+    pub counts_beside : (m : Made) → MayCall n host (pasts host) m.call → Step old m.call m.answer new → Counts host m old new
     counts_beside m may step =
         let was = known.lives host is_host in
         let is = is_call n row_fits rows old known.room known.marked host is_host (pasts host) was.0 was.1 m.call may in
@@ -372,7 +382,7 @@ module _ (IsCrash : DiskState → DiskState → Type 0)
     torn_step (Write boot at from) tears = (tears.0, tears.1, tears.2)
     torn_step (Sync boot) tears = absurd tears
 
-    counts_broken : (call : Call) → MayCall n host (pasts host) call → Tears call old new → Counts host (made call (Fault Failed)) old new
+    pub counts_broken : (call : Call) → MayCall n host (pasts host) call → Tears call old new → Counts host (made call (Fault Failed)) old new
     counts_broken call may tears = counts_beside (made call (Fault Failed)) may (torn_step call tears)
 
     module _ (e : Epoch) (e_area : e.area < 2) (e_even : e.number % 2 ≡ 0) where
@@ -416,7 +426,7 @@ module _ (IsCrash : DiskState → DiskState → Type 0)
       happens_torn (Write boot at from) may tears = (inside_in boot at from may, tears)
       happens_torn (Sync boot) may tears = absurd tears
 
-      counts_torn : (call : Call) → MayCallIn n e host (pasts host) call → Tears (moved (base_of n e.area) call) old new → Counts host (made (moved (base_of n e.area) call) (Fault Failed)) old new
+      pub counts_torn : (call : Call) → MayCallIn n e host (pasts host) call → Tears (moved (base_of n e.area) call) old new → Counts host (made (moved (base_of n e.area) call) (Fault Failed)) old new
       counts_torn call may tears =
           record {
             own = own_in call may;
@@ -449,7 +459,7 @@ module _ (IsCrash : DiskState → DiskState → Type 0)
     counts_as : (l : Made) → m ≡ l → (Step old l.call l.answer new → Counts host l old new) → Counts host m old new
     counts_as l same so = subst (λ (x : Made). Counts host x old new) (sym same) (so (subst (λ (x : Made). Step old x.call x.answer new) same step))
 
-    counts_heard : (call : Call) → MayCallIn n e host (pasts host) call → Hears n e host (pasts host) m deeds call heard → Counts host m old new
+    pub counts_heard : (call : Call) → MayCallIn n e host (pasts host) call → Hears n e host (pasts host) m deeds call heard → Counts host m old new
     counts_heard Attach may hears =
         counts_as (made Attach heard) (last_same (pasts host) hears.0 m (made Attach heard) hears.1)
         (counts_in host is_host old new pasts known e e_area e_even Attach heard (λ b a l is. absurd (cc)) may)
@@ -470,6 +480,7 @@ module _ (IsCrash : DiskState → DiskState → Type 0)
 
   pub NoCrash : Deed → Type 0
   NoCrash Crash = ⊥
+  NoCrash (Replacement first) = ⊥
   NoCrash other = Unit {0}
 
   pub record Goes_on (deed : Deed) (old new : DiskState) (pasts : Pasts) : Type 0 where
@@ -499,6 +510,7 @@ module _ (IsCrash : DiskState → DiskState → Type 0)
   one Crash deeds old new pasts known may = record { known_then = known_crashed old new pasts may.0 may.1 may.2 known; later = λ none. absurd none }
   one Loss deeds old new pasts known may =
       record { known_then = subst (λ (d : DiskState). Known n d pasts) (sym may.2) (known_lost old pasts may.0 may.1 known); later = λ none. subst (Later n old) (sym may.2) (later_lost old) }
+  one (Replacement first) deeds old new pasts known may = record { known_then = known_new first old new pasts may.0 may.1 known; later = λ none. absurd none }
 
   -- THE SECOND READING
 
@@ -569,6 +581,7 @@ module _ (IsCrash : DiskState → DiskState → Type 0)
             (comes deeds all.0 (pasts_after old all.0 pasts (Stops g)) host l between behind by.known_then all.2 (sym (ap (λ (b : Bool). if b then [] else ahead host deeds) other) ∙ same))
       ]
   comes (Crash ∷ deeds) old pasts host l between behind known all same = absurd (not_nil between l behind same)
+  comes (Replacement first ∷ deeds) old pasts host l between behind known all same = absurd (not_nil between l behind same)
   comes (Loss ∷ deeds) old pasts host l between behind known all same =
       let by = one Loss deeds old all.0 pasts known all.1 in then_on l old all.0 (by.later tt) (comes deeds all.0 pasts host l between behind by.known_then all.2 same)
 
@@ -615,6 +628,9 @@ module _ (IsCrash : DiskState → DiskState → Type 0)
     acts : List Act
     serves : ServesCalls IsCrash c k n old acts
     parts : (e : Epoch) → part e acts ≡ done_in k e deeds
+    fails : (first : ℕ) → AllHearFaultsBefore first deeds → AllFailBefore first acts
+    none : (e : Epoch) → NoneIsFor e deeds → NoneTakesPart e acts
+    later : IsForLater deeds → TakesPartLater acts
 
   -- a call of a core
   module _ (e : Epoch) (host : ℕ) (m : Made) (heard : Answer) (deeds : List Deed) (old new : DiskState) (pasts : Pasts) (is_host : host < 16) (e_area : e.area < 2) (e_even : e.number % 2 ≡ 0) (known : Known n old pasts) (step : Step old m.call m.answer new) (rest : Acts new deeds) where
@@ -624,6 +640,9 @@ module _ (IsCrash : DiskState → DiskState → Type 0)
           acts = In e shown (Called host k call heard []) ∷ rest.acts;
           serves = (new, (e_area, e_even, happens), rest.serves);
           parts = λ t. ap (λ (l : List Filled). if is_same e t then Called host k call heard [] ∷ l else l) (rest.parts t);
+          fails = λ first all. (all.0, rest.fails first all.1);
+          none = λ t no. rest.none t no;
+          later = λ all. (rest.none e all.0, rest.later all.1);
         }
 
     made_as : (l : Made) → m ≡ l → Step old l.call l.answer new
@@ -683,13 +702,13 @@ module _ (IsCrash : DiskState → DiskState → Type 0)
     acts_in (Sync boot) may hears known_new all = other_acts (Sync boot) (λ b a l is. absurd (cc)) may hears.0 hears.1
 
   serve : (deeds : List Deed) (old : DiskState) (pasts : Pasts) → Known n old pasts → ServesPasts IsCrash c k n old pasts deeds → Acts old deeds
-  serve [] old pasts known all = record { acts = []; serves = tt; parts = λ e. refl }
+  serve [] old pasts known all = record { acts = []; serves = tt; parts = λ e. refl; fails = λ first all. tt; none = λ t no. tt; later = λ all. tt }
   serve (Calls host m ∷ deeds) old pasts known all =
       let by = one (Calls host m) deeds old all.0 pasts known all.1 in
       let rest = serve deeds all.0 (pasts_after old all.0 pasts (Calls host m)) by.known_then all.2 in
       let was = known.lives host all.1.0 in
       let is = is_call n row_fits rows old known.room known.marked host all.1.0 (pasts host) was.0 was.1 m.call all.1.1 in
-      record { acts = Beside m.call m.answer ∷ rest.acts; serves = (all.0, (is.may, all.1.2), rest.serves); parts = rest.parts }
+      record { acts = Beside m.call m.answer ∷ rest.acts; serves = (all.0, (is.may, all.1.2), rest.serves); parts = rest.parts; fails = λ first all. rest.fails first all; none = λ t no. rest.none t no; later = λ all. rest.later all }
   serve (CallsIn e host m call heard ∷ deeds) old pasts known all =
       let by = one (CallsIn e host m call heard) deeds old all.0 pasts known all.1 in
       let rest = serve deeds all.0 (pasts_after old all.0 pasts (CallsIn e host m call heard)) by.known_then all.2 in
@@ -699,7 +718,7 @@ module _ (IsCrash : DiskState → DiskState → Type 0)
       let rest = serve deeds all.0 (pasts_after old all.0 pasts (Breaks host call)) by.known_then all.2 in
       let was = known.lives host all.1.0 in
       let is = is_call n row_fits rows old known.room known.marked host all.1.0 (pasts host) was.0 was.1 call all.1.1 in
-      record { acts = Beside call (Fault Failed) ∷ rest.acts; serves = (all.0, (is.may, torn_step host all.1.0 old all.0 pasts known call all.1.2), rest.serves); parts = rest.parts }
+      record { acts = Beside call (Fault Failed) ∷ rest.acts; serves = (all.0, (is.may, torn_step host all.1.0 old all.0 pasts known call all.1.2), rest.serves); parts = rest.parts; fails = λ first all. rest.fails first all; none = λ t no. rest.none t no; later = λ all. rest.later all }
   serve (BreaksIn e host call ∷ deeds) old pasts known all =
       let by = one (BreaksIn e host call) deeds old all.0 pasts known all.1 in
       let rest = serve deeds all.0 (pasts_after old all.0 pasts (BreaksIn e host call)) by.known_then all.2 in
@@ -707,19 +726,33 @@ module _ (IsCrash : DiskState → DiskState → Type 0)
         acts = In e (λ h. false) (entries.Torn host k call []) ∷ rest.acts;
         serves = (all.0, (all.1.1, all.1.2, happens_torn host all.1.0 old all.0 pasts known e all.1.1 all.1.2 call all.1.3 all.1.4), rest.serves);
         parts = λ t. ap (λ (l : List Filled). if is_same e t then entries.Torn host k call [] ∷ l else l) (rest.parts t);
+        fails = λ first all. (λ out. tt, rest.fails first all);
+        none = λ t no. rest.none t no;
+        later = λ all. (rest.none e all.0, rest.later all.1);
       }
   serve (Stops host ∷ deeds) old pasts known all =
       let by = one (Stops host) deeds old all.0 pasts known all.1 in
       let rest = serve deeds all.0 (pasts_after old all.0 pasts (Stops host)) by.known_then all.2 in
-      record { acts = rest.acts; serves = subst (λ (d : DiskState). ServesCalls IsCrash c k n d rest.acts) all.1 rest.serves; parts = rest.parts }
+      record { acts = rest.acts; serves = subst (λ (d : DiskState). ServesCalls IsCrash c k n d rest.acts) all.1 rest.serves; parts = rest.parts; fails = λ first all. rest.fails first all; none = λ t no. rest.none t no; later = λ all. rest.later all }
   serve (Crash ∷ deeds) old pasts known all =
       let by = one Crash deeds old all.0 pasts known all.1 in
       let rest = serve deeds all.0 (pasts_after old all.0 pasts Crash) by.known_then all.2 in
-      record { acts = Ends (Crashed k []) ∷ rest.acts; serves = (all.0, all.1, rest.serves); parts = λ t. ap (λ (l : List Filled). Crashed k [] ∷ l) (rest.parts t) }
+      record { acts = Ends (Crashed k []) ∷ rest.acts; serves = (all.0, all.1, rest.serves); parts = λ t. ap (λ (l : List Filled). Crashed k [] ∷ l) (rest.parts t); fails = λ first all. rest.fails first all; none = λ t no. rest.none t no; later = λ all. rest.later all }
   serve (Loss ∷ deeds) old pasts known all =
       let by = one Loss deeds old all.0 pasts known all.1 in
       let rest = serve deeds all.0 (pasts_after old all.0 pasts Loss) by.known_then all.2 in
-      record { acts = Ends (Lost k) ∷ rest.acts; serves = (all.0, all.1, rest.serves); parts = λ t. ap (λ (l : List Filled). Lost k ∷ l) (rest.parts t) }
+      record { acts = Ends (Lost k) ∷ rest.acts; serves = (all.0, all.1, rest.serves); parts = λ t. ap (λ (l : List Filled). Lost k ∷ l) (rest.parts t); fails = λ first all. rest.fails first all; none = λ t no. rest.none t no; later = λ all. rest.later all }
+  serve (Replacement first ∷ deeds) old pasts known all =
+      let by = one (Replacement first) deeds old all.0 pasts known all.1 in
+      let rest = serve deeds all.0 no_pasts by.known_then all.2 in
+      record {
+        acts = Replaced first ∷ rest.acts;
+        serves = (all.0, all.1, rest.serves);
+        parts = rest.parts;
+        fails = λ from all. rest.fails from all;
+        none = λ t no. (no.0, rest.none t no.1);
+        later = λ all. (rest.fails first all.0, rest.later all.1);
+      }
 
 -- AT FIRST
 
@@ -739,7 +772,7 @@ pasts_are_acts : (IsCrash : DiskState → DiskState → Type 0)
 pasts_are_acts IsCrash leaves c k n size deeds row rows fits all =
     let by = serve IsCrash leaves c k n row rows deeds (fresh_disk size) no_pasts (known_first n size row fits) all in
     let as_acts = calls_are_all IsCrash (only IsCrash leaves c k n row rows) c k n size by.acts row fits by.serves in
-    (as_acts.0, as_acts.1, λ e. as_acts.2 e ∙ by.parts e)
+    (as_acts.0, as_acts.1, λ e. as_acts.2 e ∙ by.parts e, λ later. as_acts.3 (by.later later))
 
 pub model_pasts_are_acts : PastsAreActs IsModelCrash
 model_pasts_are_acts = pasts_are_acts IsModelCrash model_leaves
@@ -748,11 +781,11 @@ pub file_pasts_are_acts : PastsAreActs LosesPower
 file_pasts_are_acts = pasts_are_acts LosesPower power_leaves
 
 pub pasts_serve : PastsServe
-pasts_serve c k n size e deeds row rows fits all =
+pasts_serve c k n size e deeds row rows fits all later =
     let by = model_pasts_are_acts c k n size deeds row rows fits all in
-    subst (Serves c k (fresh_disk n)) (by.2 (epoch_of e)) (areas_serve c k n size e by.0 fits by.1)
+    subst (Serves c k (fresh_disk n)) (by.2 (epoch_of e)) (areas_serve c k n size e by.0 fits by.1 (by.3 later))
 
 pub pasts_serve_on : PastsServeOn
-pasts_serve_on c k n size e deeds row rows fits all =
+pasts_serve_on c k n size e deeds row rows fits all later =
     let by = file_pasts_are_acts c k n size deeds row rows fits all in
-    subst (ServesOn c k (fresh_disk n)) (by.2 (epoch_of e)) (areas_serve_on c k n size e by.0 fits by.1)
+    subst (ServesOn c k (fresh_disk n)) (by.2 (epoch_of e)) (areas_serve_on c k n size e by.0 fits by.1 (by.3 later))

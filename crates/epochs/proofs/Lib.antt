@@ -10,5 +10,6 @@ pub mod Readings
 pub mod Serving
 pub mod Showing
 pub mod Standings
+pub mod Staying
 pub mod Steps
 pub mod Ties

@@ -24,7 +24,7 @@ epochs_are_at_once c size acts logs is e =
       disks =
           λ k.
           subst (Serves c k (fresh_disk (image_length cluster_version c.slots))) (sym (is.parts e k))
-          (areas_serve c k (image_length cluster_version c.slots) size e (acts k) is.room (is.disks k));
+          (areas_serve c k (image_length cluster_version c.slots) size e (acts k) is.room (is.disks k) (is.later k));
     }
 
 pub epochs_are_runs : EpochsAreRuns
@@ -40,7 +40,7 @@ epochs_are_over_losses c size acts logs is e =
       disks =
           λ k.
           subst (ServesOn c k (fresh_disk (image_length cluster_version c.slots))) (sym (is.parts e k))
-          (areas_serve_on c k (image_length cluster_version c.slots) size e (acts k) is.room (is.disks k));
+          (areas_serve_on c k (image_length cluster_version c.slots) size e (acts k) is.room (is.disks k) (is.later k));
       dark = is.dark e;
       few = is.few e;
     }) in
@@ -58,12 +58,12 @@ pub pasts_are_shared : PastsAreShared
 pasts_are_shared c size deeds logs is =
     let by = (λ (k : ℕ).
     model_pasts_are_acts c k (image_length cluster_version c.slots) size (deeds k) (long_image c.slots) (whole_rows c.slots) is.room (is.disks k)) in
-    (λ k. (by k).0, record { room = is.room; disks = λ k. (by k).1; hosts = is.hosts; deeds = is.entries; parts = λ e k. is.parts e k ∙ sym ((by k).2 (epoch_of e)) })
+    (λ k. (by k).0, record { room = is.room; disks = λ k. (by k).1; later = λ k. (by k).3 (is.later k); hosts = is.hosts; deeds = is.entries; parts = λ e k. is.parts e k ∙ sym ((by k).2 (epoch_of e)) })
 
 pub pasts_are_shared_over_losses : PastsAreSharedOverLosses
 pasts_are_shared_over_losses c size deeds logs is =
     let by = (λ (k : ℕ).
     file_pasts_are_acts c k (image_length cluster_version c.slots) size (deeds k) (long_image c.slots) (whole_rows c.slots) is.room (is.disks k)) in (
       λ k. (by k).0,
-      record { room = is.room; disks = λ k. (by k).1; hosts = is.hosts; deeds = is.entries; parts = λ e k. is.parts e k ∙ sym ((by k).2 (epoch_of e)); dark = is.dark; few = is.few },
+      record { room = is.room; disks = λ k. (by k).1; later = λ k. (by k).3 (is.later k); hosts = is.hosts; deeds = is.entries; parts = λ e k. is.parts e k ∙ sym ((by k).2 (epoch_of e)); dark = is.dark; few = is.few },
     )

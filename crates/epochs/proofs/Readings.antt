@@ -6,7 +6,7 @@ use Rattle.paxos_block.specs.Shape.{Shape}
 use Rattle.world.specs.Entry.{Filled, Start, Stop, Begin, Called, Crashed, Lost, Migrated}
 use Rattle.world.specs.Entry as entries
 use Rattle.disk.specs.Disk.{DiskState, Attach, Read, Write, Sync}
-use Rattle.epochs.specs.Acts.{Epoch, Shared, Act, In, Beside, Turns, Ends, GoesIn, IsTurned, GoesBy, GoesThrough, HasNoCrash, shown_by, ReadingsShow}
+use Rattle.epochs.specs.Acts.{Epoch, Shared, Act, In, Beside, Turns, Ends, Replaced, GoesIn, IsTurned, GoesBy, GoesThrough, HasNoCrash, shown_by, ReadingsShow}
 
 -- it is not less
 unfoldable pub Rises : Shared → Shared → Type 0
@@ -59,6 +59,7 @@ module _ (IsCrash : DiskState → DiskState → Type 0) (c : Shape) (k n : ℕ) 
   one_rises old new (Ends (Called h d call answer left)) acts goes none = absurd goes
   one_rises old new (Ends (entries.Torn h d call left)) acts goes none = absurd goes
   one_rises old new (Ends (Migrated disks log)) acts goes none = absurd goes
+  one_rises old new (Replaced first) acts goes none = absurd none
 
   rest_has : (act : Act) (acts : List Act) → HasNoCrash (act ∷ acts) → HasNoCrash acts
   rest_has (In e shown entry) acts none = none
@@ -72,6 +73,7 @@ module _ (IsCrash : DiskState → DiskState → Type 0) (c : Shape) (k n : ℕ) 
   rest_has (Ends (Called h d call answer left)) acts none = none
   rest_has (Ends (entries.Torn h d call left)) acts none = none
   rest_has (Ends (Migrated disks log)) acts none = none
+  rest_has (Replaced first) acts none = absurd none
 
   pub through_rises : (acts : List Act) (old last : Shared) → GoesThrough IsCrash c k n old acts last → HasNoCrash acts → Rises old last
   unfolding Rises

@@ -1,24 +1,24 @@
 -- Whatever hosts of all epochs do to a disk, the image of each epoch serves what is done to it.
-use Rattle.std.specs.Prelude.{◌⊎◌, ◌%◌, ◌^◌, ◌&&◌}
+use Rattle.std.specs.Prelude.{◌⊎◌, ◌%◌, ◌^◌, ◌&&◌, ◌||◌, replicate}
 use Rattle.std.proofs.Common.{ℕ, ◌≡◌, ◌+◌, ◌≤◌, ◌<◌, ◌==◌, Bool, true, false, true≢false, cond, List, [], ◌∷◌, length, refl, sym, ◌∙◌, ap, subst, inl, inr, arith}
 use Rattle.std.proofs.lemmas.Bool.{cases_lt, cases_eq, cases_Bool, eqb-true, eq-eqb, and_parts}
 use Rattle.std.proofs.lemmas.List.{length-replicate}
 use Rattle.disk.specs.declared.fault.DiskFault.{DiskFault}
 use Rattle.disk.specs.declared.fault.DiskFault.TheVariants.{Reset, Failed, Gone}
-use Rattle.disk.specs.Disk.{DiskState, Call, Attach, Read, Write, Sync, Answer, Booted, Told, Done, Fault, Step, Crashes, lost}
+use Rattle.disk.specs.Disk.{DiskState, Call, Attach, Read, Write, Sync, Answer, Booted, Told, Done, Fault, Step, IsUnder, Crashes, lost, written}
 use Rattle.disk.specs.Crash.{IsWhole}
 use Rattle.disk.specs.Simulated.{fresh_disk}
 use Rattle.disk.specs.Steps.{HasShape, WritesOn}
-use Rattle.disk.proofs.StepLemmas.{shape_keeps}
+use Rattle.disk.proofs.StepLemmas.{shape_keeps, step_keeps}
 use Rattle.paxos_block.specs.Shape.{Shape}
 use Rattle.world.specs.Entry.{Filled, Start, Stop, Begin, Called, Crashed, Lost, Migrated}
 use Rattle.world.specs.Entry as entries
 use Rattle.world.specs.World.{Tears}
 use Rattle.at_once.specs.AtOnce.{Goes, Serves}
 use Rattle.at_once.specs.Power.{LosesPower, GoesOn, ServesOn}
-use Rattle.epochs.specs.Showing.{host_at, Standing, ShowsEpoch, moved, IsOf, IsElsewhere, IsRight, Restands, IsCleared}
-use Rattle.epochs.proofs.Steps.{own_calls_are_steps, own_tears_are_tears, others_leave_it, crashes_are_crashes, losses_are_losses, standings_change_nothing, fresh_disks_show_nothing}
-use Rattle.epochs.specs.Acts.{Epoch, epoch_of, is_same, base_of, standing_by, Shared, fresh_shared, Act, In, Beside, Turns, Ends, part, sure_by, IsShown, IsInside, MayMake, IsMade, IsRefused, IsCut, GoesIn, WritesBeside, IsBeside, IsTurned, IsTurning, HasCrashed, IsModelCrash, IsLost, ServesAll, AreasServe, AreasServeOn}
+use Rattle.epochs.specs.Showing.{host_at, Standing, Before, ShowsEpoch, moved, masked_in, IsOf, IsElsewhere, IsRight, Restands, IsCleared}
+use Rattle.epochs.proofs.Steps.{own_calls_are_steps, own_tears_are_tears, others_leave_it, crashes_are_crashes, losses_are_losses, standings_change_nothing, fresh_disks_show_nothing, nobody_shows_nothing}
+use Rattle.epochs.specs.Acts.{Epoch, epoch_of, is_same, base_of, standing_by, Shared, fresh_shared, Act, In, Beside, Turns, Ends, Replaced, part, sure_by, IsShown, IsInside, MayMake, IsMade, IsRefused, IsCut, GoesIn, WritesBeside, IsBeside, IsTurned, IsTurning, HasCrashed, IsModelCrash, IsLost, takes_part, IsReplaced, IsFault, Fails, AllFailBefore, NoneTakesPart, TakesPartLater, ServesAll, AreasServe, AreasServeOn}
 use Rattle.epochs.proofs.Standings.{by_is, by_below, inside_is, IsNext, restands, areas_apart, area_fits, LeavesCleared, cleared_steps, cleared_crashed, cleared_lost}
 
 -- how hosts stand in an epoch, and the image that the disk shows of it
@@ -41,7 +41,7 @@ refuses_read whole image boot at len Reset gone same step = (gone ∙ step.0, λ
 refuses_read whole image boot at len Failed gone same step = (gone ∙ step.0, step.1 ∙ sym same, refl)
 
 -- a sync makes sure of what is seen, or nothing does
-sure_either : (call : Call) (answer : Answer) (s : Shared) → (sure_by call answer s ≡ s.sure) ⊎ (sure_by call answer s ≡ s.seen)
+pub sure_either : (call : Call) (answer : Answer) (s : Shared) → (sure_by call answer s ≡ s.sure) ⊎ (sure_by call answer s ≡ s.seen)
 sure_either Attach answer s = inl refl
 sure_either (Read boot at len) answer s = inl refl
 sure_either (Write boot at from) answer s = inl refl
@@ -531,12 +531,239 @@ module _ (n : ℕ) (old new : Shared) (is : Ordered n old) where
           };
         }
 
+-- WHERE A DISK DOES NOT TAKE PART
+
+-- of its image there all that is known is that it has the disk's boot number, and is lost with it
+abbrev Away : Shared → DiskState → Type 0
+Away s image = (image.gone ≡ s.whole.gone) × (image.boot ≡ s.whole.boot)
+
+abbrev Stays : DiskState → DiskState → Type 0
+Stays old new = (new.gone ≡ old.gone) × (new.boot ≡ old.boot)
+
+stays_step : (old new : DiskState) (call : Call) (answer : Answer) → Step old call answer new → Stays old new
+stays_step old new call answer step =
+    step_keeps (Stays old) old new call answer (record { writes = λ boot at from left is as_many. (refl, refl); syncs = (refl, refl); stays = (refl, refl) }) step
+
+stays_in : (n : ℕ) (e : Epoch) (shown : ℕ → Bool) (old new : Shared) (entry : Filled) → GoesIn n e shown old entry new → Stays old.whole new.whole
+stays_in n e shown old new (Called h d call answer left) (inl made) = stays_step old.whole new.whole (moved (base_of n e.area) call) made.told made.step
+stays_in n e shown old new (Called h d call answer left) (inr refused) = (ap (λ (s : Shared). s.whole.gone) refused.same, ap (λ (s : Shared). s.whole.boot) refused.same)
+stays_in n e shown old new (entries.Torn h d Attach left) goes = absurd goes
+stays_in n e shown old new (entries.Torn h d (Read boot at len) left) goes = absurd goes
+stays_in n e shown old new (entries.Torn h d (Write boot at from) left) goes =
+    stays_step old.whole new.whole (Write boot (base_of n e.area + at) from) (Fault Failed) (goes.1.0, goes.1.1, goes.1.2)
+stays_in n e shown old new (entries.Torn h d (Sync boot) left) goes = absurd goes
+stays_in n e shown old new (Start h) goes = absurd goes
+stays_in n e shown old new (Stop h) goes = absurd goes
+stays_in n e shown old new (Begin h task) goes = absurd goes
+stays_in n e shown old new (Crashed d left) goes = absurd goes
+stays_in n e shown old new (Lost d) goes = absurd goes
+stays_in n e shown old new (Migrated disks log) goes = absurd goes
+
+away_on : (old new : Shared) (image : DiskState) → Stays old.whole new.whole → Away old image → Away new image
+away_on old new image stays away = (away.0 ∙ sym stays.0, away.1 ∙ sym stays.1)
+
+-- the image may fail as the disk does
+record Alike (image : DiskState) (IsNext_ : DiskState → Type 0) : Type 0 where
+  image_then : DiskState
+  goes_so : IsNext_ image_then
+  stays_so : Stays image image_then
+
+under_there : (offset : ℕ) (whole image : DiskState) (call : Call) → image.boot ≡ whole.boot → (IsUnder call image.boot → IsUnder (moved offset call) whole.boot) × (IsUnder (moved offset call) whole.boot → IsUnder call image.boot)
+under_there offset whole image Attach same = (λ u. tt, λ u. tt)
+under_there offset whole image (Read boot at len) same = (λ u. u ∙ same, λ u. u ∙ sym same)
+under_there offset whole image (Write boot at from) same = (λ u. u ∙ same, λ u. u ∙ sym same)
+under_there offset whole image (Sync boot) same = (λ u. u ∙ same, λ u. u ∙ sym same)
+
+fails_there : (offset : ℕ) (whole new image : DiskState) (call : Call) (fault : DiskFault) → (image.gone ≡ whole.gone) → (image.boot ≡ whole.boot) → Step whole (moved offset call) (Fault fault) new → Alike image (λ left. Step image call (Fault fault) left)
+fails_there offset whole new image call Gone gone boot step = record { image_then = image; goes_so = (gone ∙ step.0, refl); stays_so = (refl, refl) }
+fails_there offset whole new image call Reset gone boot step =
+    record { image_then = image; goes_so = (gone ∙ step.0, λ u. step.1 ((under_there offset whole image call boot).0 u), refl); stays_so = (refl, refl) }
+fails_there offset whole new image Attach Failed gone boot step = record { image_then = image; goes_so = (gone ∙ step.0, tt, refl); stays_so = (refl, refl) }
+fails_there offset whole new image (Read b at len) Failed gone boot step = record { image_then = image; goes_so = (gone ∙ step.0, step.1 ∙ sym boot, refl); stays_so = (refl, refl) }
+fails_there offset whole new image (Write b at from) Failed gone boot step =
+    record { image_then = written image at from; goes_so = (gone ∙ step.0, step.1 ∙ sym boot, record { left = from; as_many = refl; leaves = refl }); stays_so = (refl, refl) }
+fails_there offset whole new image (Sync b) Failed gone boot step = record { image_then = image; goes_so = (gone ∙ step.0, step.1 ∙ sym boot, refl); stays_so = (refl, refl) }
+
+fault_told : (shown : ℕ → Bool) (fault : DiskFault) (told : Answer) → Fault fault ≡ masked_in shown told → told ≡ Fault fault
+fault_told shown fault (Booted boot) same = absurd (cc)
+fault_told shown fault (Told bytes) same = absurd (cc)
+fault_told shown fault Done same = absurd (cc)
+fault_told shown fault (Fault other) same = sym same
+
+made_away : (n : ℕ) (e : Epoch) (shown : ℕ → Bool) (old new : Shared) (image : DiskState) (call : Call) (answer : Answer) → IsFault answer → Away old image → IsMade n e shown old new call answer → Alike image (λ left. Step image call answer left)
+made_away n e shown old new image call (Booted boot) fails away made = absurd fails
+made_away n e shown old new image call (Told bytes) fails away made = absurd fails
+made_away n e shown old new image call Done fails away made = absurd fails
+made_away n e shown old new image call (Fault fault) fails away made =
+    fails_there (base_of n e.area) old.whole new.whole image call fault away.0 away.1
+    (subst (λ (a : Answer). Step old.whole (moved (base_of n e.area) call) a new.whole) (fault_told shown fault made.told made.given) made.step)
+
+refused_away : (old new : Shared) (image : DiskState) (call : Call) (answer : Answer) → Away old image → IsRefused old new call answer → Alike image (λ left. Step image call answer left)
+refused_away old new image call answer away refused =
+    record {
+      image_then = image;
+      goes_so =
+          subst (λ (x : Call). Step image x answer image) (sym refused.is)
+          (subst (λ (a : Answer). Step image (Read refused.boot refused.at refused.len) a image) (sym refused.given)
+          (refuses_read old.whole image refused.boot refused.at refused.len refused.fault away.0 away.1 refused.step));
+      stays_so = (refl, refl);
+    }
+
+goes_away : (c : Shape) (k n : ℕ) (e : Epoch) (shown : ℕ → Bool) (old new : Shared) (image : DiskState) (entry : Filled) → Fails entry → Away old image → GoesIn n e shown old entry new → Alike image (λ left. Goes c k image entry left)
+goes_away c k n e shown old new image (Called h d call answer left) fails away (inl made) = made_away n e shown old new image call answer fails away made
+goes_away c k n e shown old new image (Called h d call answer left) fails away (inr refused) = refused_away old new image call answer away refused
+goes_away c k n e shown old new image (entries.Torn h d Attach left) fails away goes = absurd goes
+goes_away c k n e shown old new image (entries.Torn h d (Read boot at len) left) fails away goes = absurd goes
+goes_away c k n e shown old new image (entries.Torn h d (Write boot at from) left) fails away goes =
+    record { image_then = written image at from; goes_so = (away.0 ∙ goes.1.0, goes.1.1 ∙ sym away.1, record { left = from; as_many = refl; leaves = refl }); stays_so = (refl, refl) }
+goes_away c k n e shown old new image (entries.Torn h d (Sync boot) left) fails away goes = absurd goes
+goes_away c k n e shown old new image (Start h) fails away goes = absurd goes
+goes_away c k n e shown old new image (Stop h) fails away goes = absurd goes
+goes_away c k n e shown old new image (Begin h task) fails away goes = absurd goes
+goes_away c k n e shown old new image (Crashed d left) fails away goes = absurd goes
+goes_away c k n e shown old new image (Lost d) fails away goes = absurd goes
+goes_away c k n e shown old new image (Migrated disks log) fails away goes = absurd goes
+
+-- a crash that leaves the bytes of an image as they are
+abbrev calmed : DiskState → ℕ → DiskState
+calmed image boot = record { bytes = image.bytes; unsynced = replicate (length image.bytes) false; boot = boot; gone = image.gone }
+
+-- AN EPOCH IN WHICH A LATER DISK TAKES PART
+
+-- the image holds nothing
+abbrev HoldsNothing : ℕ → DiskState → Type 0
+HoldsNothing n image = (image.bytes ≡ replicate n 0) × (image.unsynced ≡ replicate n false)
+
+nothing_calmed : (n boot : ℕ) (image : DiskState) → HoldsNothing n image → HoldsNothing n (calmed image boot)
+nothing_calmed n boot image none = (none.0, ap (λ (l : List ℕ). replicate (length l) false) none.0 ∙ ap (λ (m : ℕ). replicate m false) (length-replicate n 0))
+
+-- some disk that is put in the place of another takes part in the epoch
+comes_back : Epoch → List Act → Bool
+comes_back t [] = false
+comes_back t (In e shown entry ∷ acts) = comes_back t acts
+comes_back t (Beside call answer ∷ acts) = comes_back t acts
+comes_back t (Turns area host ∷ acts) = comes_back t acts
+comes_back t (Ends entry ∷ acts) = comes_back t acts
+comes_back t (Replaced first ∷ acts) = takes_part first t || comes_back t acts
+
+none_comes : (t : Epoch) (acts : List Act) → NoneTakesPart t acts → comes_back t acts ≡ false
+unfolding comes_back
+none_comes t [] none = refl
+none_comes t (In e shown entry ∷ acts) none = none_comes t acts none
+none_comes t (Beside call answer ∷ acts) none = none_comes t acts none
+none_comes t (Turns area host ∷ acts) none = none_comes t acts none
+none_comes t (Ends entry ∷ acts) none = none_comes t acts none
+none_comes t (Replaced first ∷ acts) none = ap (λ (b : Bool). b || comes_back t acts) none.0 ∙ none_comes t acts none.1
+
+neither : (a b : Bool) → (a || b) ≡ false → (a ≡ false) × (b ≡ false)
+neither true b is = absurd (true≢false is)
+neither false b is = (refl, is)
+
+one_of : (a b : Bool) → (a || b) ≡ true → b ≡ false → a ≡ true
+one_of true b is off = refl
+one_of false b is off = absurd (true≢false (sym is ∙ off))
+
+-- A new disk shows an image that holds nothing, of each epoch in which it takes part.
+module _ (c : Shape) (k n first : ℕ) (old new : Shared) (is : IsReplaced c k n first old new) where
+  ordered_new_disk : Ordered n new
+  ordered_new_disk = record { room = is.room; marked = is.marked; next = λ area host is_area. inl (λ i. sym is.sure i area host) }
+
+  shows_new_disk : (t : Epoch) → t.area < 2 → takes_part first t ≡ true → (image : DiskState) → HoldsNothing n image → Away old image → Shows n t new image
+  shows_new_disk t t_area takes image none away =
+      let all : standings t new ≡ (λ host. Before) = (λ i g. before_each g i) in
+      let blank : DiskState = record { bytes = replicate n 0; unsynced = replicate n false; boot = new.whole.boot; gone = new.whole.gone } in
+      let same : blank ≡ image = (λ i. record { bytes = sym none.0 i; unsynced = sym none.1 i; boot = (is.boot ∙ sym away.1) i; gone = (is.gone ∙ sym is.there ∙ sym away.0) i }) in
+      subst (λ (d : DiskState). ShowsEpoch n (base_of n t.area) (standings t new) new.whole d) same
+      (subst (λ (f : ℕ → Standing). ShowsEpoch n (base_of n t.area) f new.whole blank) (sym all)
+      (nobody_shows_nothing n (base_of n t.area) new.whole (area_fits n t.area (length new.whole.bytes) is.room) is.marked))
+    where
+      before_each : (g : ℕ) → standings t new g ≡ Before
+      before_each g = (let less = is.before t g t_area takes in let sure : new.sure t.area g ≡ new.seen t.area g = (λ i. is.sure i t.area g) in by_below t.number (new.sure t.area g) (omega (arith, sure, less)))
+
 -- ALL OF IT
 
 module _ (c : Shape) (k n : ℕ) (t : Epoch) (t_area : t.area < 2) (t_even : t.number % 2 ≡ 0) where
-  serves : (acts : List Act) (old : Shared) (image : DiskState) → Ordered n old → Shows n t old image → ServesAll IsModelCrash c k n old acts → Serves c k image (part t acts)
-  serves [] old image is shows all = tt
-  serves (In e shown entry ∷ acts) old image is shows all =
+  same_epoch : (e : Epoch) → is_same e t ≡ true → e ≡ t
+  same_epoch e same =
+      let parts = and_parts (e.area == t.area) (e.number == t.number) same in
+      λ i. record { area = eqb-true e.area t.area parts.0 i; number = eqb-true e.number t.number parts.1 i }
+
+  not_back : (acts : List Act) → comes_back t acts ≡ true → (e : Epoch) → is_same e t ≡ true → NoneTakesPart e acts → ⊥
+  not_back acts back e same none = true≢false (sym back ∙ none_comes t acts (subst (λ (x : Epoch). NoneTakesPart x acts) (same_epoch e same) none))
+
+  record Crashed_ (new : Shared) (image : DiskState) (IsNext_ : DiskState → Type 0) : Type 0 where
+    image_then : DiskState
+    goes_so : IsNext_ image_then
+    away_then : Away new image_then
+    nothing_then : HoldsNothing n image → HoldsNothing n image_then
+
+  crash_away : (old new : Shared) (image : DiskState) → Away old image → HasCrashed IsModelCrash c k n old new → Crashed_ new image (λ left. (k < c.disks) × (image.gone ≡ false) × (image.boot < 2 ^ 62) × Crashes image left)
+  crash_away old new image away crashed =
+      let crash = crashed.crashes.1 in
+      record {
+        image_then = calmed image (image.boot + 1);
+        goes_so = (
+          crashed.inside,
+          away.0 ∙ crashed.there,
+          subst (λ (b : ℕ). b < 2 ^ 62) (sym away.1) crashed.crashes.0,
+          record { bytes = record { as_many = refl; same = λ p flag. refl }; unsynced = refl; boot = refl; gone = refl },
+        );
+        away_then = (away.0 ∙ sym crash.gone, ap (λ (b : ℕ). b + 1) away.1 ∙ sym crash.boot);
+        nothing_then = nothing_calmed n (image.boot + 1) image;
+      }
+
+  dark_away : (old new : Shared) (image : DiskState) → Away old image → HasCrashed LosesPower c k n old new → Crashed_ new image (λ left. (k < c.disks) × (image.gone ≡ false) × LosesPower image left)
+  dark_away old new image away crashed =
+      let power = crashed.crashes in
+      record {
+        image_then = calmed image 1;
+        goes_so = (
+          crashed.inside,
+          away.0 ∙ crashed.there,
+          record { bytes = record { as_many = refl; same = λ p flag. refl }; unsynced = refl; before = away.1 ∙ power.before; after = refl; gone = refl },
+        );
+        away_then = (away.0 ∙ sym power.gone, sym power.after);
+        nothing_then = nothing_calmed n 1 image;
+      }
+
+  -- the disk does not take part any more: each call fails
+  serves_away : (first : ℕ) → takes_part first t ≡ false → (acts : List Act) (old : Shared) (image : DiskState) → Away old image → AllFailBefore first acts → ServesAll IsModelCrash c k n old acts → Serves c k image (part t acts)
+  serves_away first out [] old image away fails all = tt
+  serves_away first out (In e shown entry ∷ acts) old image away fails all =
+      let new = all.0 in
+      let stays = stays_in n e shown old new entry all.1.2 in
+      elim (cases_Bool (is_same e t)) [
+        | inl same ↦
+            (let here : takes_part first e ≡ false = ap (takes_part first) (same_epoch e same) ∙ out in
+            let by = goes_away c k n e shown old new image entry (fails.0 here) away all.1.2 in
+            let kept : Away new by.image_then = (let on = away_on old new image stays away in (by.stays_so.0 ∙ on.0, by.stays_so.1 ∙ on.1)) in
+            subst (λ (b : Bool). Serves c k image (cond b (entry ∷ part t acts) (part t acts))) (sym same)
+            (by.image_then, by.goes_so, serves_away first out acts new by.image_then kept fails.1 all.2))
+        | inr differ ↦
+            subst (λ (b : Bool). Serves c k image (cond b (entry ∷ part t acts) (part t acts))) (sym differ) (serves_away first out acts new image (away_on old new image stays away) fails.1 all.2)
+      ]
+  serves_away first out (Beside call answer ∷ acts) old image away fails all =
+      serves_away first out acts all.0 image (away_on old all.0 image (stays_step old.whole all.0.whole call answer all.1.step) away) fails all.2
+  serves_away first out (Turns area host ∷ acts) old image away fails all =
+      serves_away first out acts all.0 image (away_on old all.0 image (ap (λ (d : DiskState). d.gone) all.1.whole, ap (λ (d : DiskState). d.boot) all.1.whole) away) fails all.2
+  serves_away first out (Ends (Crashed d left) ∷ acts) old image away fails all =
+      let by = crash_away old all.0 image away all.1 in
+      (by.image_then, by.goes_so, serves_away first out acts all.0 by.image_then by.away_then fails all.2)
+  serves_away first out (Ends (Lost d) ∷ acts) old image away fails all =
+      (lost image, (all.1.inside, away.0 ∙ all.1.there, refl), serves_away first out acts all.0 (lost image) (ap (λ (s : DiskState). s.gone) (sym all.1.whole), away.1 ∙ ap (λ (s : DiskState). s.boot) (sym all.1.whole)) fails all.2)
+  serves_away first out (Ends (Start h) ∷ acts) old image away fails all = absurd all.1
+  serves_away first out (Ends (Stop h) ∷ acts) old image away fails all = absurd all.1
+  serves_away first out (Ends (Begin h task) ∷ acts) old image away fails all = absurd all.1
+  serves_away first out (Ends (Called h d call answer left) ∷ acts) old image away fails all = absurd all.1
+  serves_away first out (Ends (entries.Torn h d call left) ∷ acts) old image away fails all = absurd all.1
+  serves_away first out (Ends (Migrated disks log) ∷ acts) old image away fails all = absurd all.1
+  serves_away first out (Replaced other ∷ acts) old image away fails all =
+      serves_away first out acts all.0 image (away_on old all.0 image (all.1.gone ∙ sym all.1.there, all.1.boot) away) fails all.2
+
+  serves : (acts : List Act) (old : Shared) (image : DiskState) → Ordered n old → Shows n t old image → comes_back t acts ≡ false → TakesPartLater acts → ServesAll IsModelCrash c k n old acts → Serves c k image (part t acts)
+  unfolding comes_back
+  serves [] old image is shows none later all = tt
+  serves (In e shown entry ∷ acts) old image is shows none later all =
       let new = all.0 in
       let goes = all.1 in
       elim (cases_Bool (is_same e t)) [
@@ -545,25 +772,62 @@ module _ (c : Shape) (k n : ℕ) (t : Epoch) (t_area : t.area < 2) (t_even : t.n
             let one : e ≡ t = (λ i. record { area = eqb-true e.area t.area parts.0 i; number = eqb-true e.number t.number parts.1 i }) in
             let by = goes_own n old new is t t_area t_even c k image shown entry shows (subst (λ (x : Epoch). GoesIn n x shown old entry new) one goes.2) in
             subst (λ (b : Bool). Serves c k image (cond b (entry ∷ part t acts) (part t acts))) (sym same)
-            (by.image_new, by.goes, serves acts new by.image_new by.ordered_new by.shows_new all.2))
+            (by.image_new, by.goes, serves acts new by.image_new by.ordered_new by.shows_new none later.1 all.2))
         | inr differ ↦
             (let by = goes_other n old new is e goes.0 goes.1 t t_area t_even differ image shown entry shows goes.2 in
-            subst (λ (b : Bool). Serves c k image (cond b (entry ∷ part t acts) (part t acts))) (sym differ) (serves acts new image by.1 by.0 all.2))
+            subst (λ (b : Bool). Serves c k image (cond b (entry ∷ part t acts) (part t acts))) (sym differ) (serves acts new image by.1 by.0 none later.1 all.2))
       ]
-  serves (Beside call answer ∷ acts) old image is shows all =
-      let by = goes_beside n old all.0 is t t_area t_even image shows call answer all.1 in serves acts all.0 image by.1 by.0 all.2
-  serves (Turns area host ∷ acts) old image is shows all =
-      let by = goes_turned n old all.0 is t t_area t_even image shows area host all.1 in serves acts all.0 image by.1 by.0 all.2
-  serves (Ends (Crashed d left) ∷ acts) old image is shows all =
-      let by = goes_crashed n old all.0 is t t_area t_even image shows c k all.1 in (by.image_left, by.goes_there, serves acts all.0 by.image_left by.ordered_left by.shows_left all.2)
-  serves (Ends (Lost d) ∷ acts) old image is shows all =
-      let by = goes_lost n old all.0 is t t_area t_even image shows c k all.1 in (by.image_left, by.goes_there, serves acts all.0 by.image_left by.ordered_left by.shows_left all.2)
-  serves (Ends (Start h) ∷ acts) old image is shows all = absurd all.1
-  serves (Ends (Stop h) ∷ acts) old image is shows all = absurd all.1
-  serves (Ends (Begin h task) ∷ acts) old image is shows all = absurd all.1
-  serves (Ends (Called h d call answer left) ∷ acts) old image is shows all = absurd all.1
-  serves (Ends (entries.Torn h d call left) ∷ acts) old image is shows all = absurd all.1
-  serves (Ends (Migrated disks log) ∷ acts) old image is shows all = absurd all.1
+  serves (Beside call answer ∷ acts) old image is shows none later all =
+      let by = goes_beside n old all.0 is t t_area t_even image shows call answer all.1 in serves acts all.0 image by.1 by.0 none later all.2
+  serves (Turns area host ∷ acts) old image is shows none later all =
+      let by = goes_turned n old all.0 is t t_area t_even image shows area host all.1 in serves acts all.0 image by.1 by.0 none later all.2
+  serves (Ends (Crashed d left) ∷ acts) old image is shows none later all =
+      let by = goes_crashed n old all.0 is t t_area t_even image shows c k all.1 in (by.image_left, by.goes_there, serves acts all.0 by.image_left by.ordered_left by.shows_left none later all.2)
+  serves (Ends (Lost d) ∷ acts) old image is shows none later all =
+      let by = goes_lost n old all.0 is t t_area t_even image shows c k all.1 in (by.image_left, by.goes_there, serves acts all.0 by.image_left by.ordered_left by.shows_left none later all.2)
+  serves (Ends (Start h) ∷ acts) old image is shows none later all = absurd all.1
+  serves (Ends (Stop h) ∷ acts) old image is shows none later all = absurd all.1
+  serves (Ends (Begin h task) ∷ acts) old image is shows none later all = absurd all.1
+  serves (Ends (Called h d call answer left) ∷ acts) old image is shows none later all = absurd all.1
+  serves (Ends (entries.Torn h d call left) ∷ acts) old image is shows none later all = absurd all.1
+  serves (Ends (Migrated disks log) ∷ acts) old image is shows none later all = absurd all.1
+  serves (Replaced first ∷ acts) old image is shows none later all =
+      let out = neither (takes_part first t) (comes_back t acts) none in
+      serves_away first out.0 acts all.0 image (away_on old all.0 image (all.1.gone ∙ sym all.1.there, all.1.boot) (shows.gone, shows.boot)) later.0 all.2
+
+  -- a later disk takes part: nobody has made a call in the epoch yet
+  serves_new : (acts : List Act) (old : Shared) (image : DiskState) → Away old image → HoldsNothing n image → comes_back t acts ≡ true → TakesPartLater acts → ServesAll IsModelCrash c k n old acts → Serves c k image (part t acts)
+  unfolding comes_back
+  serves_new [] old image away nothing back later all = absurd (true≢false (sym back))
+  serves_new (In e shown entry ∷ acts) old image away nothing back later all =
+      elim (cases_Bool (is_same e t)) [
+        | inl same ↦ absurd (not_back acts back e same later.0)
+        | inr differ ↦
+            subst (λ (b : Bool). Serves c k image (cond b (entry ∷ part t acts) (part t acts))) (sym differ)
+            (serves_new acts all.0 image (away_on old all.0 image (stays_in n e shown old all.0 entry all.1.2) away) nothing back later.1 all.2)
+      ]
+  serves_new (Beside call answer ∷ acts) old image away nothing back later all =
+      serves_new acts all.0 image (away_on old all.0 image (stays_step old.whole all.0.whole call answer all.1.step) away) nothing back later all.2
+  serves_new (Turns area host ∷ acts) old image away nothing back later all =
+      serves_new acts all.0 image (away_on old all.0 image (ap (λ (d : DiskState). d.gone) all.1.whole, ap (λ (d : DiskState). d.boot) all.1.whole) away) nothing back later all.2
+  serves_new (Ends (Crashed d left) ∷ acts) old image away nothing back later all =
+      let by = crash_away old all.0 image away all.1 in
+      (by.image_then, by.goes_so, serves_new acts all.0 by.image_then by.away_then (by.nothing_then nothing) back later all.2)
+  serves_new (Ends (Lost d) ∷ acts) old image away nothing back later all =
+      (lost image, (all.1.inside, away.0 ∙ all.1.there, refl), serves_new acts all.0 (lost image) (ap (λ (s : DiskState). s.gone) (sym all.1.whole), away.1 ∙ ap (λ (s : DiskState). s.boot) (sym all.1.whole)) nothing back later all.2)
+  serves_new (Ends (Start h) ∷ acts) old image away nothing back later all = absurd all.1
+  serves_new (Ends (Stop h) ∷ acts) old image away nothing back later all = absurd all.1
+  serves_new (Ends (Begin h task) ∷ acts) old image away nothing back later all = absurd all.1
+  serves_new (Ends (Called h d call answer left) ∷ acts) old image away nothing back later all = absurd all.1
+  serves_new (Ends (entries.Torn h d call left) ∷ acts) old image away nothing back later all = absurd all.1
+  serves_new (Ends (Migrated disks log) ∷ acts) old image away nothing back later all = absurd all.1
+  serves_new (Replaced first ∷ acts) old image away nothing back later all =
+      elim (cases_Bool (comes_back t acts)) [
+        | inl more ↦ serves_new acts all.0 image (away_on old all.0 image (all.1.gone ∙ sym all.1.there, all.1.boot) away) nothing more later.1 all.2
+        | inr none ↦
+            serves acts all.0 image (ordered_new_disk c k n first old all.0 all.1)
+            (shows_new_disk c k n first old all.0 all.1 t t_area (one_of (takes_part first t) (comes_back t acts) back none) image nothing away) none later.1 all.2
+      ]
 
   -- what a host of the epoch does goes so over losses of power, too
   on_goes : (e : Epoch) (shown : ℕ → Bool) (old new : Shared) (image left : DiskState) (entry : Filled) → GoesIn n e shown old entry new → Goes c k image entry left → GoesOn c k image entry left
@@ -576,9 +840,44 @@ module _ (c : Shape) (k n : ℕ) (t : Epoch) (t_area : t.area < 2) (t_even : t.n
   on_goes e shown old new image left (Lost d) goes by = absurd goes
   on_goes e shown old new image left (Migrated disks log) goes by = absurd goes
 
-  serves_on : (acts : List Act) (old : Shared) (image : DiskState) → Ordered n old → Shows n t old image → ServesAll LosesPower c k n old acts → ServesOn c k image (part t acts)
-  serves_on [] old image is shows all = tt
-  serves_on (In e shown entry ∷ acts) old image is shows all =
+  -- the disk does not take part any more: each call fails
+  serves_on_away : (first : ℕ) → takes_part first t ≡ false → (acts : List Act) (old : Shared) (image : DiskState) → Away old image → AllFailBefore first acts → ServesAll LosesPower c k n old acts → ServesOn c k image (part t acts)
+  serves_on_away first out [] old image away fails all = tt
+  serves_on_away first out (In e shown entry ∷ acts) old image away fails all =
+      let new = all.0 in
+      let stays = stays_in n e shown old new entry all.1.2 in
+      elim (cases_Bool (is_same e t)) [
+        | inl same ↦
+            (let here : takes_part first e ≡ false = ap (takes_part first) (same_epoch e same) ∙ out in
+            let by = goes_away c k n e shown old new image entry (fails.0 here) away all.1.2 in
+            let kept : Away new by.image_then = (let on = away_on old new image stays away in (by.stays_so.0 ∙ on.0, by.stays_so.1 ∙ on.1)) in
+            subst (λ (b : Bool). ServesOn c k image (cond b (entry ∷ part t acts) (part t acts))) (sym same)
+            (by.image_then, on_goes e shown old new image by.image_then entry all.1.2 by.goes_so, serves_on_away first out acts new by.image_then kept fails.1 all.2))
+        | inr differ ↦
+            subst (λ (b : Bool). ServesOn c k image (cond b (entry ∷ part t acts) (part t acts))) (sym differ) (serves_on_away first out acts new image (away_on old new image stays away) fails.1 all.2)
+      ]
+  serves_on_away first out (Beside call answer ∷ acts) old image away fails all =
+      serves_on_away first out acts all.0 image (away_on old all.0 image (stays_step old.whole all.0.whole call answer all.1.step) away) fails all.2
+  serves_on_away first out (Turns area host ∷ acts) old image away fails all =
+      serves_on_away first out acts all.0 image (away_on old all.0 image (ap (λ (d : DiskState). d.gone) all.1.whole, ap (λ (d : DiskState). d.boot) all.1.whole) away) fails all.2
+  serves_on_away first out (Ends (Crashed d left) ∷ acts) old image away fails all =
+      let by = dark_away old all.0 image away all.1 in
+      (by.image_then, by.goes_so, serves_on_away first out acts all.0 by.image_then by.away_then fails all.2)
+  serves_on_away first out (Ends (Lost d) ∷ acts) old image away fails all =
+      (lost image, (all.1.inside, away.0 ∙ all.1.there, refl), serves_on_away first out acts all.0 (lost image) (ap (λ (s : DiskState). s.gone) (sym all.1.whole), away.1 ∙ ap (λ (s : DiskState). s.boot) (sym all.1.whole)) fails all.2)
+  serves_on_away first out (Ends (Start h) ∷ acts) old image away fails all = absurd all.1
+  serves_on_away first out (Ends (Stop h) ∷ acts) old image away fails all = absurd all.1
+  serves_on_away first out (Ends (Begin h task) ∷ acts) old image away fails all = absurd all.1
+  serves_on_away first out (Ends (Called h d call answer left) ∷ acts) old image away fails all = absurd all.1
+  serves_on_away first out (Ends (entries.Torn h d call left) ∷ acts) old image away fails all = absurd all.1
+  serves_on_away first out (Ends (Migrated disks log) ∷ acts) old image away fails all = absurd all.1
+  serves_on_away first out (Replaced other ∷ acts) old image away fails all =
+      serves_on_away first out acts all.0 image (away_on old all.0 image (all.1.gone ∙ sym all.1.there, all.1.boot) away) fails all.2
+
+  serves_on : (acts : List Act) (old : Shared) (image : DiskState) → Ordered n old → Shows n t old image → comes_back t acts ≡ false → TakesPartLater acts → ServesAll LosesPower c k n old acts → ServesOn c k image (part t acts)
+  unfolding comes_back
+  serves_on [] old image is shows none later all = tt
+  serves_on (In e shown entry ∷ acts) old image is shows none later all =
       let new = all.0 in
       let goes = all.1 in
       elim (cases_Bool (is_same e t)) [
@@ -588,25 +887,62 @@ module _ (c : Shape) (k n : ℕ) (t : Epoch) (t_area : t.area < 2) (t_even : t.n
             let own : GoesIn n t shown old entry new = subst (λ (x : Epoch). GoesIn n x shown old entry new) one goes.2 in
             let by = goes_own n old new is t t_area t_even c k image shown entry shows own in
             subst (λ (b : Bool). ServesOn c k image (cond b (entry ∷ part t acts) (part t acts))) (sym same)
-            (by.image_new, on_goes t shown old new image by.image_new entry own by.goes, serves_on acts new by.image_new by.ordered_new by.shows_new all.2))
+            (by.image_new, on_goes t shown old new image by.image_new entry own by.goes, serves_on acts new by.image_new by.ordered_new by.shows_new none later.1 all.2))
         | inr differ ↦
             (let by = goes_other n old new is e goes.0 goes.1 t t_area t_even differ image shown entry shows goes.2 in
-            subst (λ (b : Bool). ServesOn c k image (cond b (entry ∷ part t acts) (part t acts))) (sym differ) (serves_on acts new image by.1 by.0 all.2))
+            subst (λ (b : Bool). ServesOn c k image (cond b (entry ∷ part t acts) (part t acts))) (sym differ) (serves_on acts new image by.1 by.0 none later.1 all.2))
       ]
-  serves_on (Beside call answer ∷ acts) old image is shows all =
-      let by = goes_beside n old all.0 is t t_area t_even image shows call answer all.1 in serves_on acts all.0 image by.1 by.0 all.2
-  serves_on (Turns area host ∷ acts) old image is shows all =
-      let by = goes_turned n old all.0 is t t_area t_even image shows area host all.1 in serves_on acts all.0 image by.1 by.0 all.2
-  serves_on (Ends (Crashed d left) ∷ acts) old image is shows all =
-      let by = goes_dark n old all.0 is t t_area t_even image shows c k all.1 in (by.image_left, by.goes_there, serves_on acts all.0 by.image_left by.ordered_left by.shows_left all.2)
-  serves_on (Ends (Lost d) ∷ acts) old image is shows all =
-      let by = goes_lost n old all.0 is t t_area t_even image shows c k all.1 in (by.image_left, by.goes_there, serves_on acts all.0 by.image_left by.ordered_left by.shows_left all.2)
-  serves_on (Ends (Start h) ∷ acts) old image is shows all = absurd all.1
-  serves_on (Ends (Stop h) ∷ acts) old image is shows all = absurd all.1
-  serves_on (Ends (Begin h task) ∷ acts) old image is shows all = absurd all.1
-  serves_on (Ends (Called h d call answer left) ∷ acts) old image is shows all = absurd all.1
-  serves_on (Ends (entries.Torn h d call left) ∷ acts) old image is shows all = absurd all.1
-  serves_on (Ends (Migrated disks log) ∷ acts) old image is shows all = absurd all.1
+  serves_on (Beside call answer ∷ acts) old image is shows none later all =
+      let by = goes_beside n old all.0 is t t_area t_even image shows call answer all.1 in serves_on acts all.0 image by.1 by.0 none later all.2
+  serves_on (Turns area host ∷ acts) old image is shows none later all =
+      let by = goes_turned n old all.0 is t t_area t_even image shows area host all.1 in serves_on acts all.0 image by.1 by.0 none later all.2
+  serves_on (Ends (Crashed d left) ∷ acts) old image is shows none later all =
+      let by = goes_dark n old all.0 is t t_area t_even image shows c k all.1 in (by.image_left, by.goes_there, serves_on acts all.0 by.image_left by.ordered_left by.shows_left none later all.2)
+  serves_on (Ends (Lost d) ∷ acts) old image is shows none later all =
+      let by = goes_lost n old all.0 is t t_area t_even image shows c k all.1 in (by.image_left, by.goes_there, serves_on acts all.0 by.image_left by.ordered_left by.shows_left none later all.2)
+  serves_on (Ends (Start h) ∷ acts) old image is shows none later all = absurd all.1
+  serves_on (Ends (Stop h) ∷ acts) old image is shows none later all = absurd all.1
+  serves_on (Ends (Begin h task) ∷ acts) old image is shows none later all = absurd all.1
+  serves_on (Ends (Called h d call answer left) ∷ acts) old image is shows none later all = absurd all.1
+  serves_on (Ends (entries.Torn h d call left) ∷ acts) old image is shows none later all = absurd all.1
+  serves_on (Ends (Migrated disks log) ∷ acts) old image is shows none later all = absurd all.1
+  serves_on (Replaced first ∷ acts) old image is shows none later all =
+      let out = neither (takes_part first t) (comes_back t acts) none in
+      serves_on_away first out.0 acts all.0 image (away_on old all.0 image (all.1.gone ∙ sym all.1.there, all.1.boot) (shows.gone, shows.boot)) later.0 all.2
+
+  -- a later disk takes part: nobody has made a call in the epoch yet
+  serves_on_new : (acts : List Act) (old : Shared) (image : DiskState) → Away old image → HoldsNothing n image → comes_back t acts ≡ true → TakesPartLater acts → ServesAll LosesPower c k n old acts → ServesOn c k image (part t acts)
+  unfolding comes_back
+  serves_on_new [] old image away nothing back later all = absurd (true≢false (sym back))
+  serves_on_new (In e shown entry ∷ acts) old image away nothing back later all =
+      elim (cases_Bool (is_same e t)) [
+        | inl same ↦ absurd (not_back acts back e same later.0)
+        | inr differ ↦
+            subst (λ (b : Bool). ServesOn c k image (cond b (entry ∷ part t acts) (part t acts))) (sym differ)
+            (serves_on_new acts all.0 image (away_on old all.0 image (stays_in n e shown old all.0 entry all.1.2) away) nothing back later.1 all.2)
+      ]
+  serves_on_new (Beside call answer ∷ acts) old image away nothing back later all =
+      serves_on_new acts all.0 image (away_on old all.0 image (stays_step old.whole all.0.whole call answer all.1.step) away) nothing back later all.2
+  serves_on_new (Turns area host ∷ acts) old image away nothing back later all =
+      serves_on_new acts all.0 image (away_on old all.0 image (ap (λ (d : DiskState). d.gone) all.1.whole, ap (λ (d : DiskState). d.boot) all.1.whole) away) nothing back later all.2
+  serves_on_new (Ends (Crashed d left) ∷ acts) old image away nothing back later all =
+      let by = dark_away old all.0 image away all.1 in
+      (by.image_then, by.goes_so, serves_on_new acts all.0 by.image_then by.away_then (by.nothing_then nothing) back later all.2)
+  serves_on_new (Ends (Lost d) ∷ acts) old image away nothing back later all =
+      (lost image, (all.1.inside, away.0 ∙ all.1.there, refl), serves_on_new acts all.0 (lost image) (ap (λ (s : DiskState). s.gone) (sym all.1.whole), away.1 ∙ ap (λ (s : DiskState). s.boot) (sym all.1.whole)) nothing back later all.2)
+  serves_on_new (Ends (Start h) ∷ acts) old image away nothing back later all = absurd all.1
+  serves_on_new (Ends (Stop h) ∷ acts) old image away nothing back later all = absurd all.1
+  serves_on_new (Ends (Begin h task) ∷ acts) old image away nothing back later all = absurd all.1
+  serves_on_new (Ends (Called h d call answer left) ∷ acts) old image away nothing back later all = absurd all.1
+  serves_on_new (Ends (entries.Torn h d call left) ∷ acts) old image away nothing back later all = absurd all.1
+  serves_on_new (Ends (Migrated disks log) ∷ acts) old image away nothing back later all = absurd all.1
+  serves_on_new (Replaced first ∷ acts) old image away nothing back later all =
+      elim (cases_Bool (comes_back t acts)) [
+        | inl more ↦ serves_on_new acts all.0 image (away_on old all.0 image (all.1.gone ∙ sym all.1.there, all.1.boot) away) nothing more later.1 all.2
+        | inr none ↦
+            serves_on acts all.0 image (ordered_new_disk c k n first old all.0 all.1)
+            (shows_new_disk c k n first old all.0 all.1 t t_area (one_of (takes_part first t) (comes_back t acts) back none) image nothing away) none later.1 all.2
+      ]
 
 -- at first
 ordered_first : (n size : ℕ) → 4096 + n + n ≤ size → Ordered n (fresh_shared size)
@@ -618,14 +954,28 @@ ordered_first n size fits =
 shows_first : (n size e : ℕ) → 4096 + n + n ≤ size → Shows n (epoch_of e) (fresh_shared size) (fresh_disk n)
 shows_first n size e fits = fresh_disks_show_nothing n (base_of n (e % 2)) size (standings (epoch_of e) (fresh_shared size)) (area_fits n (e % 2) size fits)
 
+away_first : (n size : ℕ) → Away (fresh_shared size) (fresh_disk n)
+unfolding fresh_disk
+away_first n size = (refl, refl)
+
+nothing_first : (n : ℕ) → HoldsNothing n (fresh_disk n)
+unfolding fresh_disk
+nothing_first n = (refl, refl)
+
 pub areas_serve : AreasServe
-areas_serve c k n size e acts fits all =
+areas_serve c k n size e acts fits all later =
     let area : e % 2 < 2 = omega arith in
     let even : (e + e % 2) % 2 ≡ 0 = omega arith in
-    serves c k n (epoch_of e) area even acts (fresh_shared size) (fresh_disk n) (ordered_first n size fits) (shows_first n size e fits) all
+    elim (cases_Bool (comes_back (epoch_of e) acts)) [
+      | inl back ↦ serves_new c k n (epoch_of e) area even acts (fresh_shared size) (fresh_disk n) (away_first n size) (nothing_first n) back later all
+      | inr none ↦ serves c k n (epoch_of e) area even acts (fresh_shared size) (fresh_disk n) (ordered_first n size fits) (shows_first n size e fits) none later all
+    ]
 
 pub areas_serve_on : AreasServeOn
-areas_serve_on c k n size e acts fits all =
+areas_serve_on c k n size e acts fits all later =
     let area : e % 2 < 2 = omega arith in
     let even : (e + e % 2) % 2 ≡ 0 = omega arith in
-    serves_on c k n (epoch_of e) area even acts (fresh_shared size) (fresh_disk n) (ordered_first n size fits) (shows_first n size e fits) all
+    elim (cases_Bool (comes_back (epoch_of e) acts)) [
+      | inl back ↦ serves_on_new c k n (epoch_of e) area even acts (fresh_shared size) (fresh_disk n) (away_first n size) (nothing_first n) back later all
+      | inr none ↦ serves_on c k n (epoch_of e) area even acts (fresh_shared size) (fresh_disk n) (ordered_first n size fits) (shows_first n size e fits) none later all
+    ]

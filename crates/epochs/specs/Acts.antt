@@ -1,7 +1,8 @@
 -- What is done to one disk by hosts of all epochs, and what of that is done to the image of each.
-use Rattle.std.specs.Prelude.{◌≡◌, ◌⊎◌, ◌+◌, ◌≤◌, ◌<◌, ◌%◌, ◌^◌, ◌==◌, ◌&&◌, ℕ, Bool, true, false, nat_lt, List, [], ◌∷◌, length, if◌then◌else◌}
+use Rattle.std.specs.Prelude.{◌≡◌, ◌⊎◌, ◌+◌, ◌≤◌, ◌<◌, ◌%◌, ◌^◌, ◌==◌, ◌&&◌, ℕ, Bool, true, false, nat_lt, nat_le, List, [], ◌∷◌, length, if◌then◌else◌}
 use Rattle.disk.specs.declared.fault.DiskFault.{DiskFault}
 use Rattle.disk.specs.Disk.{DiskState, Call, Attach, Read, Write, Sync, Answer, Done, Fault, Step, Crashes, lost}
+use Rattle.disk.specs.Crash.{IsWhole}
 use Rattle.disk.specs.Simulated.{fresh_disk}
 use Rattle.torn_block.specs.declared.layout.TheConstants.{HOSTS, ROW_LENGTH}
 use Rattle.paxos_block.specs.Shape.{Shape}
@@ -32,12 +33,13 @@ abbrev pub fresh_shared : ℕ → Shared
 fresh_shared size = record { whole = fresh_disk size; seen = λ area host. 0; sure = λ area host. 0 }
 
 -- What is done to it: a host of an epoch makes a call on its image, or stops within one, and rows are shown to it with some hosts; or a call is made on no image; or
--- the next number of a host is seen; or the disk crashes, or is lost.
+-- the next number of a host is seen; or the disk crashes, or is lost. Or another disk is put in its place, which takes part in epochs from this one on.
 pub data Act : Type 0 where
   In : (epoch : Epoch) → (shown : ℕ → Bool) → (entry : Filled) → Act
   Beside : (call : Call) → (answer : Answer) → Act
   Turns : (area host : ℕ) → Act
   Ends : (entry : Filled) → Act
+  Replaced : (first : ℕ) → Act
 
 -- what of it is done to the image of an epoch
 abbrev pub part : Epoch → List Act → List Filled
@@ -46,6 +48,7 @@ part e (In epoch shown entry ∷ acts) = if is_same epoch e then entry ∷ part 
 part e (Beside call answer ∷ acts) = part e acts
 part e (Turns area host ∷ acts) = part e acts
 part e (Ends entry ∷ acts) = entry ∷ part e acts
+part e (Replaced first ∷ acts) = part e acts
 
 -- WHAT MAY BE DONE
 
@@ -149,6 +152,21 @@ pub record IsLost (c : Shape) (k : ℕ) (old new : Shared) : Type 0 where
   pub seen : new.seen ≡ old.seen
   pub sure : new.sure ≡ old.sure
 
+-- a disk that takes part from one epoch on does so in this one
+abbrev pub takes_part : ℕ → Epoch → Bool
+takes_part first e = nat_le (first + e.area) e.number
+
+-- What is written on the new disk is synced, and by its numbers nobody has come to an epoch in which it takes part. It tells the old one's boot number; of the old one's bytes nothing stays.
+pub record IsReplaced (c : Shape) (k n first : ℕ) (old new : Shared) : Type 0 where
+  pub inside : k < c.disks
+  pub there : old.whole.gone ≡ false
+  pub gone : new.whole.gone ≡ false
+  pub boot : new.whole.boot ≡ old.whole.boot
+  pub room : ROW_LENGTH + n + n ≤ length new.whole.bytes
+  pub marked : IsWhole new.whole
+  pub sure : new.sure ≡ new.seen
+  pub before : (e : Epoch) (host : ℕ) → e.area < 2 → takes_part first e ≡ true → new.seen e.area host < e.number
+
 abbrev pub GoesBy : (DiskState → DiskState → Type 0) → Shape → ℕ → ℕ → Shared → Act → Shared → Type 0
 GoesBy IsCrash c k n old (In epoch shown entry) new = (epoch.area < 2) × (epoch.number % 2 ≡ 0) × GoesIn n epoch shown old entry new
 GoesBy IsCrash c k n old (Beside call answer) new = IsBeside n old new call answer
@@ -156,21 +174,52 @@ GoesBy IsCrash c k n old (Turns area host) new = IsTurned n old new area host
 GoesBy IsCrash c k n old (Ends (Crashed d left)) new = HasCrashed IsCrash c k n old new
 GoesBy IsCrash c k n old (Ends (Lost d)) new = IsLost c k old new
 GoesBy IsCrash c k n old (Ends other) new = ⊥
+GoesBy IsCrash c k n old (Replaced first) new = IsReplaced c k n first old new
 
 -- one after the other, with some disk behind each
 abbrev pub ServesAll : (DiskState → DiskState → Type 0) → Shape → ℕ → ℕ → Shared → List Act → Type 0
 ServesAll IsCrash c k n old [] = Unit {0}
 ServesAll IsCrash c k n old (act ∷ acts) = (new : Shared) × GoesBy IsCrash c k n old act new × ServesAll IsCrash c k n new acts
 
+-- WHERE A DISK TAKES PART
+
+-- a call fails
+abbrev pub IsFault : Answer → Type 0
+IsFault (Fault fault) = Unit {0}
+IsFault other = ⊥
+
+abbrev pub Fails : Filled → Type 0
+Fails (Called h d call answer left) = IsFault answer
+Fails other = Unit {0}
+
+-- each call in an epoch fails in which a disk that takes part from this one on does not do so
+abbrev pub AllFailBefore : ℕ → List Act → Type 0
+AllFailBefore first [] = Unit {0}
+AllFailBefore first (In e shown entry ∷ acts) = (takes_part first e ≡ false → Fails entry) × AllFailBefore first acts
+AllFailBefore first (other ∷ acts) = AllFailBefore first acts
+
+-- no disk that is put in the place of another takes part in this epoch
+abbrev pub NoneTakesPart : Epoch → List Act → Type 0
+NoneTakesPart e [] = Unit {0}
+NoneTakesPart e (Replaced first ∷ acts) = (takes_part first e ≡ false) × NoneTakesPart e acts
+NoneTakesPart e (other ∷ acts) = NoneTakesPart e acts
+
+-- A disk that is put in the place of another takes part only in epochs in which nobody has made a call on the other. In all epochs before these each call fails from then on.
+abbrev pub TakesPartLater : List Act → Type 0
+TakesPartLater [] = Unit {0}
+TakesPartLater (In e shown entry ∷ acts) = NoneTakesPart e acts × TakesPartLater acts
+TakesPartLater (Replaced first ∷ acts) = AllFailBefore first acts × TakesPartLater acts
+TakesPartLater (other ∷ acts) = TakesPartLater acts
+
 -- A disk of zeros with room for two areas that has served all of it has served of each epoch what is done to that epoch's image, as an image of zeros would.
 abbrev pub AreasServe : Type 0
 AreasServe =
-    (c : Shape) (k n size e : ℕ) (acts : List Act) → ROW_LENGTH + n + n ≤ size → ServesAll IsModelCrash c k n (fresh_shared size) acts → Serves c k (fresh_disk n) (part (epoch_of e) acts)
+    (c : Shape) (k n size e : ℕ) (acts : List Act) → ROW_LENGTH + n + n ≤ size → ServesAll IsModelCrash c k n (fresh_shared size) acts → TakesPartLater acts → Serves c k (fresh_disk n) (part (epoch_of e) acts)
 
 -- So it is with a file, which tells the same boot number after a loss of power.
 abbrev pub AreasServeOn : Type 0
 AreasServeOn =
-    (c : Shape) (k n size e : ℕ) (acts : List Act) → ROW_LENGTH + n + n ≤ size → ServesAll LosesPower c k n (fresh_shared size) acts → ServesOn c k (fresh_disk n) (part (epoch_of e) acts)
+    (c : Shape) (k n size e : ℕ) (acts : List Act) → ROW_LENGTH + n + n ≤ size → ServesAll LosesPower c k n (fresh_shared size) acts → TakesPartLater acts → ServesOn c k (fresh_disk n) (part (epoch_of e) acts)
 
 -- READINGS
 
@@ -179,10 +228,11 @@ abbrev pub GoesThrough : (DiskState → DiskState → Type 0) → Shape → ℕ 
 GoesThrough IsCrash c k n old [] last = last ≡ old
 GoesThrough IsCrash c k n old (act ∷ acts) last = (new : Shared) × GoesBy IsCrash c k n old act new × GoesThrough IsCrash c k n new acts last
 
--- meanwhile the disk does not crash
+-- meanwhile the disk does not crash, and is the same
 abbrev pub HasNoCrash : List Act → Type 0
 HasNoCrash [] = Unit {0}
 HasNoCrash (Ends (Crashed d left) ∷ acts) = ⊥
+HasNoCrash (Replaced first ∷ acts) = ⊥
 HasNoCrash (other ∷ acts) = HasNoCrash acts
 
 -- The standings are read before a row and after it, and in between the disk does not crash. If the readings are clear, who has the epoch's number in both is to be shown.

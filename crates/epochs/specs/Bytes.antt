@@ -1,5 +1,5 @@
 -- What is done to one disk by hosts of all epochs, told by its bytes alone: a host's number is the counter of its block in a row of standings.
-use Rattle.std.specs.Prelude.{◌≡◌, ◌⊎◌, ◌+◌, ◌≤◌, ◌<◌, ◌%◌, ℕ, Bool, true, false, List, [], ◌∷◌, length}
+use Rattle.std.specs.Prelude.{◌≡◌, ◌⊎◌, ◌+◌, ◌≤◌, ◌<◌, ◌%◌, ℕ, Bool, true, false, List, [], ◌∷◌, length, replicate}
 use Rattle.disk.specs.declared.fault.DiskFault.{DiskFault}
 use Rattle.disk.specs.Disk.{DiskState, Call, Attach, Read, Write, Sync, Answer, Fault, Step, lost}
 use Rattle.disk.specs.Crash.{MayLeave}
@@ -15,7 +15,7 @@ use Rattle.at_once.specs.AtOnce.{Serves}
 use Rattle.at_once.specs.Power.{LosesPower, ServesOn}
 use Rattle.epochs.specs.Showing.{host_at, moved, masked_in, IsCleared}
 use Rattle.epochs.specs.Numbers.{write_over}
-use Rattle.epochs.specs.Acts.{Epoch, epoch_of, base_of, Act, In, Beside, Turns, Ends, part, IsModelCrash, HasNoCrash, shown_by, AreClear}
+use Rattle.epochs.specs.Acts.{Epoch, epoch_of, base_of, Act, In, Beside, Turns, Ends, Replaced, part, takes_part, TakesPartLater, IsModelCrash, HasNoCrash, shown_by, AreClear}
 pub use Rattle.standings.specs.Epochs.{number_place, number_of}
 
 -- it is this number, whatever a crash leaves now
@@ -93,6 +93,17 @@ IsApart n whole (Write boot at from) =
     × ((area p : ℕ) → area < 2 → ROW_LENGTH ≤ p → p < n → at ≤ base_of n area + p → base_of n area + p < at + length from → (number : ℕ) × (number % 2 ≡ 1) × IsSurely n area (host_at p) number whole)
 IsApart n whole (Sync boot) = Unit {0}
 
+-- IN THE PLACE OF ANOTHER
+
+-- What is written on the new disk is synced, and by its numbers nobody has come to an epoch in which it takes part.
+pub record IsNew (n first : ℕ) (old new : DiskState) : Type 0 where
+  pub there : old.gone ≡ false
+  pub gone : new.gone ≡ false
+  pub boot : new.boot ≡ old.boot
+  pub room : ROW_LENGTH + n + n ≤ length new.bytes
+  pub synced : new.unsynced ≡ replicate (length new.bytes) false
+  pub before : (e : Epoch) (host : ℕ) → e.area < 2 → takes_part first e ≡ true → host < HOSTS → number_of n e.area host new.bytes < e.number
+
 -- ALL OF IT
 
 abbrev pub GoesTo : (DiskState → DiskState → Type 0) → Shape → ℕ → ℕ → DiskState → Act → DiskState → Type 0
@@ -102,6 +113,7 @@ GoesTo IsCrash c k n old (Turns area host) new = ⊥
 GoesTo IsCrash c k n old (Ends (Crashed d left)) new = (k < c.disks) × (old.gone ≡ false) × IsCrash old new
 GoesTo IsCrash c k n old (Ends (Lost d)) new = (k < c.disks) × (old.gone ≡ false) × (new ≡ lost old)
 GoesTo IsCrash c k n old (Ends other) new = ⊥
+GoesTo IsCrash c k n old (Replaced first) new = (k < c.disks) × IsNew n first old new
 
 -- one after the other, with some disk behind each
 abbrev pub ServesCalls : (DiskState → DiskState → Type 0) → Shape → ℕ → ℕ → DiskState → List Act → Type 0
@@ -111,13 +123,13 @@ ServesCalls IsCrash c k n old (act ∷ acts) = (new : DiskState) × GoesTo IsCra
 -- A disk of zeros that has served all of it has served of each epoch what is done to that epoch's image: numbers turn where calls of beats make them.
 abbrev pub CallsServe : Type 0
 CallsServe =
-    (c : Shape) (k n size e : ℕ) (acts : List Act) → ROW_LENGTH ≤ n → ROW_LENGTH + n + n ≤ size → ServesCalls IsModelCrash c k n (fresh_disk size) acts →
+    (c : Shape) (k n size e : ℕ) (acts : List Act) → ROW_LENGTH ≤ n → ROW_LENGTH + n + n ≤ size → ServesCalls IsModelCrash c k n (fresh_disk size) acts → TakesPartLater acts →
     Serves c k (fresh_disk n) (part (epoch_of e) acts)
 
 -- So it is with a file, over losses of power.
 abbrev pub CallsServeOn : Type 0
 CallsServeOn =
-    (c : Shape) (k n size e : ℕ) (acts : List Act) → ROW_LENGTH ≤ n → ROW_LENGTH + n + n ≤ size → ServesCalls LosesPower c k n (fresh_disk size) acts →
+    (c : Shape) (k n size e : ℕ) (acts : List Act) → ROW_LENGTH ≤ n → ROW_LENGTH + n + n ≤ size → ServesCalls LosesPower c k n (fresh_disk size) acts → TakesPartLater acts →
     ServesOn c k (fresh_disk n) (part (epoch_of e) acts)
 
 -- READINGS

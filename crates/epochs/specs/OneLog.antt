@@ -10,14 +10,15 @@ use Rattle.world.specs.Entry.{Filled, Crashed, on_disk, of_host, host_after}
 use Rattle.world.specs.World.{opening_disk}
 use Rattle.at_once.specs.AtOnce.{Does, AreDeeds, IsAtOnce, IsRunOf}
 use Rattle.at_once.specs.Power.{LosesPower, IsOverLosses, renumbered}
-use Rattle.epochs.specs.Acts.{Act, part, epoch_of, fresh_shared, IsModelCrash, ServesAll}
-use Rattle.epochs.specs.Pasts.{Deed, done_in, no_pasts, ServesPasts}
+use Rattle.epochs.specs.Acts.{Act, part, epoch_of, fresh_shared, IsModelCrash, ServesAll, TakesPartLater}
+use Rattle.epochs.specs.Pasts.{Deed, done_in, no_pasts, ServesPasts, IsForLater}
 
 -- Each disk, by itself, has served what was done to it, in whatever epoch. Of each epoch there is one order of what was done in it, in which each host did by itself what it may,
 -- and that is, on each disk, what was done there.
 pub record IsShared (c : Shape) (size : ℕ) (acts : ℕ → List Act) (logs : ℕ → List Filled) : Type 0 where
   pub room : ROW_LENGTH + image_length cluster_version c.slots + image_length cluster_version c.slots ≤ size
   pub disks : (k : ℕ) → ServesAll IsModelCrash c k (image_length cluster_version c.slots) (fresh_shared size) (acts k)
+  pub later : (k : ℕ) → TakesPartLater (acts k)
   pub hosts : (e h : ℕ) → Does c h Stopped (of_host h (logs e))
   pub deeds : (e : ℕ) → AreDeeds (logs e)
   pub parts : (e k : ℕ) → on_disk k (logs e) ≡ part (epoch_of e) (acts k)
@@ -38,6 +39,7 @@ AreDark c logs = (e i k h : ℕ) (left : List ℕ) → slice_get (logs e) i ≡ 
 pub record IsSharedOverLosses (c : Shape) (size : ℕ) (acts : ℕ → List Act) (logs : ℕ → List Filled) : Type 0 where
   pub room : ROW_LENGTH + image_length cluster_version c.slots + image_length cluster_version c.slots ≤ size
   pub disks : (k : ℕ) → ServesAll LosesPower c k (image_length cluster_version c.slots) (fresh_shared size) (acts k)
+  pub later : (k : ℕ) → TakesPartLater (acts k)
   pub hosts : (e h : ℕ) → Does c h Stopped (of_host h (logs e))
   pub deeds : (e : ℕ) → AreDeeds (logs e)
   pub parts : (e k : ℕ) → on_disk k (logs e) ≡ part (epoch_of e) (acts k)
@@ -55,6 +57,7 @@ EpochsAreOverLosses =
 pub record IsSharedByPasts (c : Shape) (size : ℕ) (deeds : ℕ → List Deed) (logs : ℕ → List Filled) : Type 0 where
   pub room : ROW_LENGTH + image_length cluster_version c.slots + image_length cluster_version c.slots ≤ size
   pub disks : (k : ℕ) → ServesPasts IsModelCrash c k (image_length cluster_version c.slots) (fresh_disk size) no_pasts (deeds k)
+  pub later : (k : ℕ) → IsForLater (deeds k)
   pub hosts : (e h : ℕ) → Does c h Stopped (of_host h (logs e))
   pub entries : (e : ℕ) → AreDeeds (logs e)
   pub parts : (e k : ℕ) → on_disk k (logs e) ≡ done_in k (epoch_of e) (deeds k)
@@ -63,6 +66,7 @@ pub record IsSharedByPasts (c : Shape) (size : ℕ) (deeds : ℕ → List Deed) 
 pub record IsSharedByPastsOverLosses (c : Shape) (size : ℕ) (deeds : ℕ → List Deed) (logs : ℕ → List Filled) : Type 0 where
   pub room : ROW_LENGTH + image_length cluster_version c.slots + image_length cluster_version c.slots ≤ size
   pub disks : (k : ℕ) → ServesPasts LosesPower c k (image_length cluster_version c.slots) (fresh_disk size) no_pasts (deeds k)
+  pub later : (k : ℕ) → IsForLater (deeds k)
   pub hosts : (e h : ℕ) → Does c h Stopped (of_host h (logs e))
   pub entries : (e : ℕ) → AreDeeds (logs e)
   pub parts : (e k : ℕ) → on_disk k (logs e) ≡ done_in k (epoch_of e) (deeds k)

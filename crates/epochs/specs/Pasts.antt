@@ -1,5 +1,5 @@
 -- What hosts of all epochs do to one disk, each by its own past there: which calls it may make, what its core hears, and what all of that is for each epoch.
-use Rattle.std.specs.Prelude.{◌≡◌, ◌⊎◌, ◌+◌, ◌*◌, ◌≤◌, ◌<◌, ◌%◌, ◌==◌, ℕ, false, List, [], ◌∷◌, ◌++◌, length, if◌then◌else◌}
+use Rattle.std.specs.Prelude.{◌≡◌, ◌⊎◌, ◌+◌, ◌*◌, ◌≤◌, ◌<◌, ◌%◌, ◌==◌, ℕ, true, false, List, [], ◌∷◌, ◌++◌, length, if◌then◌else◌}
 use Rattle.disk.specs.Disk.{DiskState, Call, Read, Write, Answer, Told, Done, Step, lost}
 use Rattle.disk.specs.Simulated.{fresh_disk}
 use Rattle.torn_block.specs.declared.layout.TheConstants.{HOSTS, ROW_LENGTH, BLOCK_LENGTH}
@@ -10,10 +10,11 @@ use Rattle.world.specs.World.{Tears}
 use Rattle.at_once.specs.AtOnce.{Serves}
 use Rattle.at_once.specs.Power.{LosesPower, ServesOn}
 use Rattle.epochs.specs.Showing.{moved}
-use Rattle.epochs.specs.Acts.{Epoch, epoch_of, is_same, base_of, fresh_shared, Act, part, IsModelCrash, ServesAll}
+use Rattle.epochs.specs.Acts.{Epoch, epoch_of, is_same, base_of, fresh_shared, Act, part, IsModelCrash, ServesAll, takes_part, IsFault, TakesPartLater}
+use Rattle.epochs.specs.Bytes.{IsNew}
 
 -- A host makes a call for no epoch, and is answered. Or it makes one for a call of its core on the image of an epoch, of which the core hears this. Or it stops within a write, its own
--- or one of its core. Or it stops, or starts. Or the disk crashes, or is lost for good.
+-- or one of its core. Or it stops, or starts. Or the disk crashes, or is lost for good; or another one is put in its place, which takes part in epochs from this one on.
 pub data Deed : Type 0 where
   Calls : (host : ℕ) → (made : Made) → Deed
   CallsIn : (epoch : Epoch) → (host : ℕ) → (made : Made) → (call : Call) → (heard : Answer) → Deed
@@ -22,6 +23,7 @@ pub data Deed : Type 0 where
   Stops : (host : ℕ) → Deed
   Crash : Deed
   Loss : Deed
+  Replacement : (first : ℕ) → Deed
 
 -- what of it is done to the image of an epoch on disk k
 abbrev pub done_in : (k : ℕ) → Epoch → List Deed → List Filled
@@ -33,6 +35,7 @@ done_in k e (BreaksIn epoch host call ∷ deeds) = if is_same epoch e then Torn 
 done_in k e (Stops host ∷ deeds) = done_in k e deeds
 done_in k e (Crash ∷ deeds) = Crashed k [] ∷ done_in k e deeds
 done_in k e (Loss ∷ deeds) = Lost k ∷ done_in k e deeds
+done_in k e (Replacement first ∷ deeds) = done_in k e deeds
 
 -- PASTS
 
@@ -46,7 +49,7 @@ no_pasts = λ host. []
 abbrev pub with_past : Pasts → (host : ℕ) → Past → Pasts
 with_past pasts host past = λ g. if g == host then past else pasts g
 
--- after a deed; a crash that leaves the boot number as it was stops all hosts
+-- after a deed; a crash that leaves the boot number as it was stops all hosts, and none has a past on a new disk
 abbrev pub pasts_after : (old new : DiskState) → Pasts → Deed → Pasts
 pasts_after old new pasts (Calls host made) = with_past pasts host (pasts host ++ made ∷ [])
 pasts_after old new pasts (CallsIn epoch host made call heard) = with_past pasts host (pasts host ++ made ∷ [])
@@ -55,8 +58,9 @@ pasts_after old new pasts (BreaksIn epoch host call) = with_past pasts host []
 pasts_after old new pasts (Stops host) = with_past pasts host []
 pasts_after old new pasts Crash = if new.boot == old.boot then no_pasts else pasts
 pasts_after old new pasts Loss = pasts
+pasts_after old new pasts (Replacement first) = no_pasts
 
--- what a host calls from here on, until it stops or the disk crashes
+-- what a host calls from here on, until it stops, or the disk crashes or is replaced
 abbrev pub ahead : ℕ → List Deed → Past
 ahead host [] = []
 ahead host (Calls g made ∷ deeds) = if g == host then made ∷ ahead host deeds else ahead host deeds
@@ -66,6 +70,7 @@ ahead host (BreaksIn epoch g call ∷ deeds) = if g == host then [] else ahead h
 ahead host (Stops g ∷ deeds) = if g == host then [] else ahead host deeds
 ahead host (Crash ∷ deeds) = []
 ahead host (Loss ∷ deeds) = ahead host deeds
+ahead host (Replacement first ∷ deeds) = []
 
 -- WHAT A CORE HEARS
 
@@ -96,6 +101,7 @@ MayBe IsCrash c k n old pasts (BreaksIn e host call) deeds new =
 MayBe IsCrash c k n old pasts (Stops host) deeds new = new ≡ old
 MayBe IsCrash c k n old pasts Crash deeds new = (k < c.disks) × (old.gone ≡ false) × IsCrash old new
 MayBe IsCrash c k n old pasts Loss deeds new = (k < c.disks) × (old.gone ≡ false) × (new ≡ lost old)
+MayBe IsCrash c k n old pasts (Replacement first) deeds new = (k < c.disks) × IsNew n first old new
 
 -- one after the other, with some disk behind each
 abbrev pub ServesPasts : (DiskState → DiskState → Type 0) → Shape → (k n : ℕ) → DiskState → Pasts → List Deed → Type 0
@@ -103,22 +109,44 @@ ServesPasts IsCrash c k n old pasts [] = Unit {0}
 ServesPasts IsCrash c k n old pasts (deed ∷ deeds) =
     (new : DiskState) × MayBe IsCrash c k n old pasts deed deeds new × ServesPasts IsCrash c k n new (pasts_after old new pasts deed) deeds
 
+-- WHERE A DISK TAKES PART
+
+-- each call of a core fails in an epoch in which a disk that takes part from this one on does not do so
+abbrev pub AllHearFaultsBefore : ℕ → List Deed → Type 0
+AllHearFaultsBefore first [] = Unit {0}
+AllHearFaultsBefore first (CallsIn e host made call heard ∷ deeds) = (takes_part first e ≡ false → IsFault heard) × AllHearFaultsBefore first deeds
+AllHearFaultsBefore first (other ∷ deeds) = AllHearFaultsBefore first deeds
+
+-- no disk that is put in the place of another takes part in this epoch
+abbrev pub NoneIsFor : Epoch → List Deed → Type 0
+NoneIsFor e [] = Unit {0}
+NoneIsFor e (Replacement first ∷ deeds) = (takes_part first e ≡ false) × NoneIsFor e deeds
+NoneIsFor e (other ∷ deeds) = NoneIsFor e deeds
+
+-- A disk that is put in the place of another takes part only in epochs in which no core has made a call on the other. In all epochs before these each call of a core fails from then on.
+abbrev pub IsForLater : List Deed → Type 0
+IsForLater [] = Unit {0}
+IsForLater (CallsIn e host made call heard ∷ deeds) = NoneIsFor e deeds × IsForLater deeds
+IsForLater (BreaksIn e host call ∷ deeds) = NoneIsFor e deeds × IsForLater deeds
+IsForLater (Replacement first ∷ deeds) = AllHearFaultsBefore first deeds × IsForLater deeds
+IsForLater (other ∷ deeds) = IsForLater deeds
+
 -- On a disk of zeros with whole rows all of it is acts that the disk has served, with the same part for each epoch.
 abbrev pub PastsAreActs : (DiskState → DiskState → Type 0) → Type 0
 PastsAreActs IsCrash =
     (c : Shape) (k n size : ℕ) (deeds : List Deed) → ROW_LENGTH ≤ n → n % ROW_LENGTH ≡ 0 → ROW_LENGTH + n + n ≤ size → ServesPasts IsCrash c k n (fresh_disk size) no_pasts deeds →
-    (acts : List Act) × ServesAll IsCrash c k n (fresh_shared size) acts × ((e : Epoch) → part e acts ≡ done_in k e deeds)
+    (acts : List Act) × ServesAll IsCrash c k n (fresh_shared size) acts × ((e : Epoch) → part e acts ≡ done_in k e deeds) × (IsForLater deeds → TakesPartLater acts)
 
 -- So a disk of zeros with whole rows that has served all of it, each host by its own past, has served of each epoch what is done to that epoch's image.
 abbrev pub PastsServe : Type 0
 PastsServe =
-    (c : Shape) (k n size e : ℕ) (deeds : List Deed) → ROW_LENGTH ≤ n → n % ROW_LENGTH ≡ 0 → ROW_LENGTH + n + n ≤ size → ServesPasts IsModelCrash c k n (fresh_disk size) no_pasts deeds →
+    (c : Shape) (k n size e : ℕ) (deeds : List Deed) → ROW_LENGTH ≤ n → n % ROW_LENGTH ≡ 0 → ROW_LENGTH + n + n ≤ size → ServesPasts IsModelCrash c k n (fresh_disk size) no_pasts deeds → IsForLater deeds →
     Serves c k (fresh_disk n) (done_in k (epoch_of e) deeds)
 
 -- So it is with a file, over losses of power.
 abbrev pub PastsServeOn : Type 0
 PastsServeOn =
-    (c : Shape) (k n size e : ℕ) (deeds : List Deed) → ROW_LENGTH ≤ n → n % ROW_LENGTH ≡ 0 → ROW_LENGTH + n + n ≤ size → ServesPasts LosesPower c k n (fresh_disk size) no_pasts deeds →
+    (c : Shape) (k n size e : ℕ) (deeds : List Deed) → ROW_LENGTH ≤ n → n % ROW_LENGTH ≡ 0 → ROW_LENGTH + n + n ≤ size → ServesPasts LosesPower c k n (fresh_disk size) no_pasts deeds → IsForLater deeds →
     ServesOn c k (fresh_disk n) (done_in k (epoch_of e) deeds)
 
 -- AN EXAMPLE

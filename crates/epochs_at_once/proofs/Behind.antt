@@ -12,7 +12,7 @@ use Rattle.standings.specs.Past.{Made, Past, IsRow, block_at, MayCall, MayCallIn
 use Rattle.epochs.proofs.Blocks.{InBlock, write_in}
 use Rattle.epoch_deeds.specs.Deeds.{Deeds, Calls, CallsIn, Starts, Begins, Stops, past_on}
 use Rattle.epoch_deeds.specs.Knowing.{image_of, MayDo}
-use Rattle.epoch_runs.specs.World.{Entry, Does, Breaks, BreaksIn, Ends, Crashes, Loses, deeds_after}
+use Rattle.epoch_runs.specs.World.{Entry, Does, Breaks, BreaksIn, Ends, Crashes, Loses, Replaces, deeds_after}
 use Rattle.epoch_runs.proofs.Lists.{last_same, same_self}
 use Rattle.epochs_at_once.specs.AtOnce.{is_of, of_host, MayDoNext, DoesAlone}
 use Rattle.epochs_at_once.specs.Images.{ReadsBehind, AllReadBehind}
@@ -145,3 +145,4 @@ module _ (c : Shape) where
   all_behind (Ends h ∷ entries) deeds alone reads = (tt, all_behind entries (deeds_after deeds (Ends h)) (next deeds (Ends h) entries alone) reads)
   all_behind (Crashes k ∷ entries) deeds alone reads = (tt, all_behind entries (deeds_after deeds (Crashes k)) (next deeds (Crashes k) entries alone) reads)
   all_behind (Loses k ∷ entries) deeds alone reads = (tt, all_behind entries (deeds_after deeds (Loses k)) (next deeds (Loses k) entries alone) reads)
+  all_behind (Replaces k first newest ∷ entries) deeds alone reads = (tt, all_behind entries (deeds_after deeds (Replaces k first newest)) (next deeds (Replaces k first newest) entries alone) reads)

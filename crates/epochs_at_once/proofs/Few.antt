@@ -6,7 +6,7 @@ use Rattle.paxos_block.specs.Shape.{Shape}
 use Rattle.world.specs.Entry.{Filled, Start, Stop, Begin, Called, Torn}
 use Rattle.endless.specs.Lived.{In, part}
 use Rattle.epoch_deeds.specs.Deeds.{Deeds, Calls, CallsIn, Starts, Begins, Stops}
-use Rattle.epoch_runs.specs.World.{Entry, Does, Breaks, BreaksIn, Ends, Crashes, Loses, deeds_after}
+use Rattle.epoch_runs.specs.World.{Entry, Does, Breaks, BreaksIn, Ends, Crashes, Loses, Replaces, deeds_after}
 use Rattle.epoch_runs.specs.Living.{is_row, Showing, showing_next, shows_row, below, stops_below, has_stopped, lived_at, lived_from}
 use Rattle.epoch_runs.proofs.Lists.{part_both}
 
@@ -88,6 +88,7 @@ module _ (c : Shape) (e : ℕ) where
   one_each deeds (Ends h) entries = one_stop e h (has_stopped c h (deeds h)) (below (deeds h))
   one_each deeds (Crashes k) entries = omega arith
   one_each deeds (Loses k) entries = omega arith
+  one_each deeds (Replaces k first newest) entries = omega arith
 
   -- so it is in all
   pub few_lived : (deeds : ℕ → Deeds) (entries : List Entry) → length (part e (lived_from c deeds entries)) ≤ length entries

@@ -7,7 +7,7 @@ use Rattle.host.specs.declared.task.Task.{Task}
 use Rattle.world.specs.Entry.{Filled, Start, Stop, Begin, Called, Torn, Crashed, Lost, Migrated}
 use Rattle.endless.specs.Lived.{Lived, In, part}
 use Rattle.epoch_deeds.specs.Deeds.{Deeds, Calls, CallsIn, Starts, Begins, Stops}
-use Rattle.epoch_runs.specs.World.{Entry, Does, Breaks, BreaksIn, Ends, Crashes, Loses, deeds_after}
+use Rattle.epoch_runs.specs.World.{Entry, Does, Breaks, BreaksIn, Ends, Crashes, Loses, Replaces, deeds_after}
 use Rattle.epoch_runs.specs.Living.{is_row, Showing, showing_next, shows_row, below, stops_below, has_stopped, lived_at, lived_from}
 use Rattle.epoch_runs.proofs.Lists.{part_both}
 
@@ -88,6 +88,7 @@ module _ (c : Shape) (e h : ℕ) (task : Task) where
   given_here deeds entries p (Ends g) found = absurd (stops_none e g (has_stopped c g (deeds g)) (below (deeds g)) p h task found)
   given_here deeds entries p (Crashes k) found = absurd (none_more (Crashed k []) [] tt none_of_none p h task found)
   given_here deeds entries p (Loses k) found = absurd (none_more (Lost k) [] tt none_of_none p h task found)
+  given_here deeds entries p (Replaces k first newest) found = absurd (none_of_none p h task found)
 
   -- ALL ENTRIES
 

@@ -1,21 +1,22 @@
 -- What is done to an image behind its header is done to what hosts use of it, a disk of zeros at first.
-use Rattle.std.specs.Prelude.{◌-◌, take, replicate}
-use Rattle.std.proofs.Common.{ℕ, ◌≡◌, ◌+◌, ◌≤◌, Bool, true, false, cond, List, [], ◌∷◌, ◌++◌, length, refl, sym, ◌∙◌, ap, subst, length-append, arith}
-use Rattle.std.proofs.lemmas.List.{length-replicate, take_all}
-use Rattle.disk.specs.Disk.{DiskState, Call, Attach, Read, Write, Sync, Answer, Step, Crashes as CrashesTo}
+use Rattle.std.specs.Prelude.{◌-◌, take, drop, replicate, slice_range}
+use Rattle.std.proofs.Common.{ℕ, ◌≡◌, ◌+◌, ◌≤◌, ◌<◌, Bool, true, false, cond, List, [], ◌∷◌, ◌++◌, length, refl, sym, ◌∙◌, ap, subst, length-append, arith}
+use Rattle.std.proofs.lemmas.List.{length-replicate, length-take-le, length-drop, take_all}
+use Rattle.disk.specs.Disk.{DiskState, Call, Attach, Read, Write, Sync, Answer, Told, Done, Step, synced, Crashes as CrashesTo}
 use Rattle.disk.specs.Simulated.{fresh_disk}
 use Rattle.disk.specs.Cut.{cut}
 use Rattle.disk.proofs.StepLemmas.{shape_fresh}
-use Rattle.torn_block.specs.Layout.{cluster_version}
-use Rattle.torn_block.specs.declared.layout.TheConstants.{HEADER_LENGTH}
+use Rattle.heartbeat.specs.Beat.{counter_of}
+use Rattle.torn_block.specs.Layout.{cluster_version, block_length}
+use Rattle.torn_block.specs.declared.layout.TheConstants.{HEADER_LENGTH, HOSTS}
 use Rattle.paxos_block.specs.Places.{image_length}
 use Rattle.paxos_block.specs.Saying.{zeros}
 use Rattle.paxos_block.specs.Shape.{Shape}
 use Rattle.paxos_block.proofs.SayingLemmas.{length-zeros}
-use Rattle.standings.specs.Epochs.{epoch_of, base_of, whole_length}
+use Rattle.standings.specs.Epochs.{epoch_of, epoch_by, base_of, number_place, number_of, whole_length}
 use Rattle.standings.specs.Reading.{moved}
 use Rattle.world.specs.World.{Tears}
-use Rattle.at_once.specs.Images.{headless, used, laid_out}
+use Rattle.at_once.specs.Images.{headed, headless, used, laid_out}
 use Rattle.at_once.specs.Power.{LosesPower}
 use Rattle.at_once.proofs.Headless.{Lies, IsThere, used_steps, there_after, used_tears, there_torn, used_crashes, there_crashed, there_begun, laid_out_holds_nothing}
 use Rattle.epochs.specs.Acts.{IsModelCrash}
@@ -23,7 +24,7 @@ use Rattle.endless_image.specs.Headers.{header_saying}
 use Rattle.endless_image.proofs.HeaderLaws.{length-header}
 use Rattle.epoch_deeds.specs.Deeds.{Deed, Calls, CallsIn, Starts, Begins, Stops}
 use Rattle.epoch_deeds.specs.Knowing.{image_of}
-use Rattle.epoch_runs.specs.World.{Entry, Does, Breaks, BreaksIn, Ends, Crashes, Loses, no_deeds}
+use Rattle.epoch_runs.specs.World.{Entry, Does, Breaks, BreaksIn, Ends, Crashes, Loses, Replaces, no_deeds, IsNewDisk}
 use Rattle.epochs_at_once.specs.AtOnce.{is_on, on_disk, opening_disk, Serves}
 use Rattle.epochs_at_once.specs.Images.{slots_of, IsBlank, ImagesAreAtOnce, ImagesAreOverLosses, ImagesHaveOneLog, ImagesHaveOneLogOverLosses, LaidOutIsBlank}
 use Rattle.epochs_at_once.proofs.Joined.{hosts_have_one_log, hosts_have_one_log_over_losses}
@@ -52,6 +53,56 @@ module _ (c : Shape) where
 
   abbrev Has : DiskState → Type 0
   Has disk = IsThere (slots_of c) disk
+
+  -- A NEW IMAGE
+
+  module _ (newest : ℕ) (old new : DiskState) (is : IsNewDisk (image_of c) newest old new) where
+    new_there : Has new
+    new_there =
+        let room = is.room in
+        let size = as_long in
+        let flags : length new.unsynced ≡ length new.bytes = ap (λ (l : List Bool). length l) is.synced ∙ length-replicate (length new.bytes) false in
+        (omega (arith, room, size), omega (arith, room, size, flags))
+
+    used_long : length (used_of new).bytes ≡ image_length cluster_version (slots_of c)
+    unfolding headed
+    used_long =
+        let n = image_length cluster_version (slots_of c) in
+        let zeros_long = length-replicate {A = ℕ} HEADER_LENGTH 0 in
+        let taken = length-take-le n new.bytes new_there.0 in
+        let dropped = length-drop HEADER_LENGTH (take n new.bytes) in
+        let both = length-append (replicate HEADER_LENGTH 0) (drop HEADER_LENGTH (take n new.bytes)) in
+        omega (arith, zeros_long, taken, dropped, both)
+
+    -- a sync changes nothing
+    used_synced : used_of new ≡ synced (used_of new)
+    used_synced =
+        let same : synced new ≡ new = (λ i. record { bytes = new.bytes; unsynced = sym is.synced i; boot = new.boot; gone = new.gone }) in
+        let step : Step new (Sync new.boot) Done new = (is.gone, refl, (refl, sym same)) in
+        (used_steps (slots_of c) new new (Sync new.boot) Done new_there tt step).2.1
+
+    -- and numbers are read as they are
+    used_numbers : (area host : ℕ) → area < 2 → host < HOSTS → number_of (image_of c) area host (used_of new).bytes ≡ number_of (image_of c) area host new.bytes
+    used_numbers area host is_area is_host =
+        let place = number_place (image_of c) area host in
+        let len = block_length cluster_version in
+        let told : Answer = Told (slice_range new.bytes place (place + len)) in
+        let step : Step new (Read new.boot place len) told new = (is.gone, refl, (refl, refl)) in
+        let by = used_steps (slots_of c) new new (Read new.boot place len) told new_there (omega arith, (let size = as_long in omega (arith, size, is_area, is_host))) step in
+        let told_same : told ≡ Told (slice_range (used_of new).bytes place (place + len)) = by.2.0 in
+        let same : slice_range new.bytes place (place + len) ≡ slice_range (used_of new).bytes place (place + len) = cc in
+        ap counter_of (sym same)
+
+    new_used : IsNewDisk (image_of c) newest (used_of old) (used_of new)
+    new_used =
+        record {
+          there = is.there;
+          gone = is.gone;
+          boot = is.boot;
+          room = (let long = used_long in let size = as_long in omega (arith, long, size));
+          synced = ap (λ (d : DiskState). d.unsynced) used_synced;
+          none = λ area host order is_area is_host belongs. is.none area host order is_area is_host (ap (epoch_by area) (sym (used_numbers area host is_area is_host)) ∙ belongs);
+        }
 
   module _ (IsCrash : DiskState → DiskState → Type 0) (crash : (old new : DiskState) → Has old → IsCrash old new → IsCrash (used_of old) (used_of new) × Has new) (k : ℕ) where
     -- a call, and what comes after it
@@ -90,6 +141,9 @@ module _ (c : Shape) where
         let step = serves.1 in
         let then : Has serves.0 = subst Has (sym step.2) has in
         (used_of serves.0, (step.0, step.1, ap used_of step.2), serve entries serves.0 then behind.1 serves.2)
+    serve (Replaces d first newest ∷ entries) old has behind serves =
+        let step = serves.1 in
+        (used_of serves.0, (step.0, new_used newest old serves.0 step.1), serve entries serves.0 (new_there newest old serves.0 step.1) behind.1 serves.2)
 
 -- CRASHES
 
@@ -122,11 +176,11 @@ behind_on c k (entry ∷ entries) behind = either (is_on k entry) (behind_on c k
 
 pub images_are_at_once : ImagesAreAtOnce
 images_are_at_once c images entries is =
-    record { hosts = is.hosts; disks = λ k. images_serve IsModelCrash model_used c k (images k) (on_disk k entries) (is.blank k) (behind_on c k entries (all_behind c entries no_deeds is.hosts is.reads)) (is.disks k) }
+    record { hosts = is.hosts; disks = λ k. images_serve IsModelCrash model_used c k (images k) (on_disk k entries) (is.blank k) (behind_on c k entries (all_behind c entries no_deeds is.hosts is.reads)) (is.disks k); taking = is.taking }
 
 pub images_are_over_losses : ImagesAreOverLosses
 images_are_over_losses c images entries is =
-    record { hosts = is.hosts; disks = λ k. images_serve LosesPower power_used c k (images k) (on_disk k entries) (is.blank k) (behind_on c k entries (all_behind c entries no_deeds is.hosts is.reads)) (is.disks k); dark = is.dark }
+    record { hosts = is.hosts; disks = λ k. images_serve LosesPower power_used c k (images k) (on_disk k entries) (is.blank k) (behind_on c k entries (all_behind c entries no_deeds is.hosts is.reads)) (is.disks k); taking = is.taking; dark = is.dark }
 
 pub images_have_one_log : ImagesHaveOneLog
 images_have_one_log c images entries long is = hosts_have_one_log c entries long (images_are_at_once c images entries is)

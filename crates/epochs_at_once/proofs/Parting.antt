@@ -5,11 +5,11 @@ use Rattle.std.proofs.lemmas.Bool.{cases_Bool, eqb-true, eq-eqb}
 use Rattle.disk.specs.Disk.{DiskState}
 use Rattle.paxos_block.specs.Shape.{Shape}
 use Rattle.epoch_deeds.specs.Deeds.{Deeds, Calls, CallsIn, Starts, Begins, Stops}
-use Rattle.epoch_runs.specs.World.{Entry, Does, Breaks, BreaksIn, Ends, Crashes, Loses, World, no_deeds, opening, with_disk, disks_after, deeds_after, after, Crashing, model_crashes, power_losses, MayFollow, GoesFrom}
+use Rattle.epoch_runs.specs.World.{Entry, Does, Breaks, BreaksIn, Ends, Crashes, Loses, Replaces, World, no_deeds, opening, with_disk, disks_after, deeds_after, firsts_after, called_after, after, Crashing, model_crashes, power_losses, MayFollow, GoesFrom}
 use Rattle.epoch_runs.specs.Living.{deeds_from}
 use Rattle.epoch_runs.proofs.Lists.{deeds_here, differ_back, same_self}
 use Rattle.epoch_runs.proofs.Pending.{is_by, deeds_of_others}
-use Rattle.epochs_at_once.specs.AtOnce.{is_of, is_on, of_host, on_disk, deeds_with, deeds_behind, MayDoNext, DoesAlone, GoesTo, Serves, AtOnceGoes, OverLossesGoes, GoesAtOnce, GoesOverLosses}
+use Rattle.epochs_at_once.specs.AtOnce.{is_of, is_on, of_host, on_disk, deeds_with, deeds_behind, MayDoNext, DoesAlone, GoesTo, Serves, TakePart, AtOnceGoes, OverLossesGoes, GoesAtOnce, GoesOverLosses}
 
 -- WHAT A HOST DID
 
@@ -20,6 +20,7 @@ same_by h (BreaksIn epoch g k call) = refl
 same_by h (Ends g) = refl
 same_by h (Crashes k) = refl
 same_by h (Loses k) = refl
+same_by h (Replaces k first newest) = refl
 
 pub deeds_there : (h : ℕ) (deeds : ℕ → Deeds) (entry : Entry) → is_of h entry ≡ false → deeds_after deeds entry h ≡ deeds h
 deeds_there h deeds entry other = deeds_of_others h deeds entry (same_by h entry ∙ other)
@@ -31,6 +32,7 @@ deeds_own h deeds (BreaksIn epoch g k call) own = subst (λ (x : ℕ). deeds_aft
 deeds_own h deeds (Ends g) own = subst (λ (x : ℕ). deeds_after deeds (Ends x) h ≡ []) (sym (eqb-true g h own)) (deeds_here deeds h [])
 deeds_own h deeds (Crashes k) own = absurd (true≢false (sym own))
 deeds_own h deeds (Loses k) own = absurd (true≢false (sym own))
+deeds_own h deeds (Replaces k first newest) own = absurd (true≢false (sym own))
 
 -- one entry more of a host, and of another
 pub own_more : (h : ℕ) (entry : Entry) (entries : List Entry) → is_of h entry ≡ true → of_host h (entry ∷ entries) ≡ entry ∷ of_host h entries
@@ -75,6 +77,7 @@ disk_here k disk (BreaksIn epoch h d call) left own = with_here disk d k left ow
 disk_here k disk (Ends h) left own = absurd (true≢false (sym own))
 disk_here k disk (Crashes d) left own = with_here disk d k left own
 disk_here k disk (Loses d) left own = with_here disk d k left own
+disk_here k disk (Replaces d first newest) left own = with_here disk d k left own
 
 disk_there : (k : ℕ) (disk : ℕ → DiskState) (entry : Entry) (left : DiskState) → is_on k entry ≡ false → disks_after disk entry left k ≡ disk k
 disk_there k disk (Does h (Calls d now)) left other = with_there disk d k left other
@@ -87,6 +90,7 @@ disk_there k disk (BreaksIn epoch h d call) left other = with_there disk d k lef
 disk_there k disk (Ends h) left other = refl
 disk_there k disk (Crashes d) left other = with_there disk d k left other
 disk_there k disk (Loses d) left other = with_there disk d k left other
+disk_there k disk (Replaces d first newest) left other = with_there disk d k left other
 
 on_more : (k : ℕ) (entry : Entry) (entries : List Entry) → is_on k entry ≡ true → on_disk k (entry ∷ entries) ≡ entry ∷ on_disk k entries
 on_more k entry entries own = ap (λ (b : Bool). cond b (entry ∷ on_disk k entries) (on_disk k entries)) own
@@ -128,26 +132,38 @@ module _ (crashing : Crashing) (c : Shape) where
     left_by (Ends h) serves = (w.disk 0, λ k is. absurd (true≢false (sym is)))
     left_by (Crashes d) serves = left_on (Crashes d) d (same_self d) (λ k is. eqb-true d k is) serves
     left_by (Loses d) serves = left_on (Loses d) d (same_self d) (λ k is. eqb-true d k is) serves
+    left_by (Replaces d first newest) serves = left_on (Replaces d first newest) d (same_self d) (λ k is. eqb-true d k is) serves
 
     -- the entry may follow
     mine : (entry : Entry) (h : ℕ) → is_of h entry ≡ true → Alone w.deeds (entry ∷ entries) → MayDoNext c h (w.deeds h) entry
     mine entry h own alone = (subst (DoesAlone c h (w.deeds h)) (own_more h entry entries own) (alone h)).0
 
-    may_follow : (entry : Entry) (left : DiskState) → Alone w.deeds (entry ∷ entries) → ((k : ℕ) → is_on k entry ≡ true → GoesTo crashing.IsCrash c k (w.disk k) entry left) → MayCrashAt w.deeds (entry ∷ entries) → MayFollow crashing c w entry left
-    may_follow (Does h (Calls d now)) left alone goes dark =
+    may_follow : (entry : Entry) (left : DiskState) → Alone w.deeds (entry ∷ entries) → ((k : ℕ) → is_on k entry ≡ true → GoesTo crashing.IsCrash c k (w.disk k) entry left) → MayCrashAt w.deeds (entry ∷ entries) → TakePart c w.deeds w.first w.called (entry ∷ entries) → MayFollow crashing c w entry left
+    may_follow (Does h (Calls d now)) left alone goes dark taking =
         let may = mine (Does h (Calls d now)) h (same_self h) alone in
-        (may.0, may.1, goes d (same_self d))
-    may_follow (Does h (CallsIn epoch d now call heard)) left alone goes dark =
+        (may.0, may.1, goes d (same_self d), taking.0)
+    may_follow (Does h (CallsIn epoch d now call heard)) left alone goes dark taking =
         let may = mine (Does h (CallsIn epoch d now call heard)) h (same_self h) alone in
-        (may.0, may.1, goes d (same_self d))
-    may_follow (Does h (Starts epoch)) left alone goes dark = let may = mine (Does h (Starts epoch)) h (same_self h) alone in (may.0, may.1, tt)
-    may_follow (Does h (Begins epoch task)) left alone goes dark = let may = mine (Does h (Begins epoch task)) h (same_self h) alone in (may.0, may.1, tt)
-    may_follow (Does h (Stops epoch)) left alone goes dark = let may = mine (Does h (Stops epoch)) h (same_self h) alone in (may.0, may.1, tt)
-    may_follow (Breaks h d call) left alone goes dark = let may = mine (Breaks h d call) h (same_self h) alone in (may.0, may.1, may.2, may.3, goes d (same_self d))
-    may_follow (BreaksIn epoch h d call) left alone goes dark = let may = mine (BreaksIn epoch h d call) h (same_self h) alone in (may.0, may.1, may.2, goes d (same_self d))
-    may_follow (Ends h) left alone goes dark = tt
-    may_follow (Crashes d) left alone goes dark = let by = goes d (same_self d) in (by.0, by.1, by.2, dark 0 d w refl (λ h. refl))
-    may_follow (Loses d) left alone goes dark = goes d (same_self d)
+        (may.0, may.1, goes d (same_self d), taking.0)
+    may_follow (Does h (Starts epoch)) left alone goes dark taking = let may = mine (Does h (Starts epoch)) h (same_self h) alone in (may.0, may.1, tt, tt)
+    may_follow (Does h (Begins epoch task)) left alone goes dark taking = let may = mine (Does h (Begins epoch task)) h (same_self h) alone in (may.0, may.1, tt, tt)
+    may_follow (Does h (Stops epoch)) left alone goes dark taking = let may = mine (Does h (Stops epoch)) h (same_self h) alone in (may.0, may.1, tt, tt)
+    may_follow (Breaks h d call) left alone goes dark taking = let may = mine (Breaks h d call) h (same_self h) alone in (may.0, may.1, may.2, may.3, goes d (same_self d))
+    may_follow (BreaksIn epoch h d call) left alone goes dark taking = let may = mine (BreaksIn epoch h d call) h (same_self h) alone in (may.0, may.1, may.2, goes d (same_self d))
+    may_follow (Ends h) left alone goes dark taking = tt
+    may_follow (Crashes d) left alone goes dark taking = let by = goes d (same_self d) in (by.0, by.1, by.2, dark 0 d w refl (λ h. refl))
+    may_follow (Loses d) left alone goes dark taking = goes d (same_self d)
+    may_follow (Replaces d first newest) left alone goes dark taking = let by = goes d (same_self d) in (by.0, taking.0, by.1)
+
+    -- and disks take part so in the rest
+    taking_next : (entry : Entry) → TakePart c w.deeds w.first w.called (entry ∷ entries) → TakePart c (deeds_after w.deeds entry) (firsts_after w.first entry) (called_after w.called entry) entries
+    taking_next (Does h deed) taking = taking.1
+    taking_next (Breaks h d call) taking = taking
+    taking_next (BreaksIn epoch h d call) taking = taking
+    taking_next (Ends h) taking = taking
+    taking_next (Crashes d) taking = taking
+    taking_next (Loses d) taking = taking
+    taking_next (Replaces d first newest) taking = taking.1
 
     -- and the rest behind it
     alone_next : (entry : Entry) → Alone w.deeds (entry ∷ entries) → Alone (deeds_after w.deeds entry) entries
@@ -164,13 +180,13 @@ module _ (crashing : Crashing) (c : Shape) where
           | inr other ↦ subst (λ (disk : DiskState). Serves crashing.IsCrash c k disk (on_disk k entries)) (sym (disk_there k w.disk entry left other)) (subst (Serves crashing.IsCrash c k (w.disk k)) (off_more k entry entries other) (serves k))
         ]
 
-  goes_from : (entries : List Entry) (w : World) → Alone w.deeds entries → AllServe w.disk entries → MayCrashAt w.deeds entries → GoesFrom crashing c w entries
-  goes_from [] w alone serves dark = tt
-  goes_from (entry ∷ entries) w alone serves dark =
+  goes_from : (entries : List Entry) (w : World) → Alone w.deeds entries → AllServe w.disk entries → MayCrashAt w.deeds entries → TakePart c w.deeds w.first w.called entries → GoesFrom crashing c w entries
+  goes_from [] w alone serves dark taking = tt
+  goes_from (entry ∷ entries) w alone serves dark taking =
       let left = left_by w entries entry serves in (
         left.0,
-        may_follow w entries entry left.0 alone (λ k is. (left.1 k is).0) dark,
-        goes_from entries (after w entry left.0) (alone_next w entries entry alone) (serves_next w entries entry left.0 serves (λ k is. (left.1 k is).1)) (λ i k v found same. dark (suc i) k v found same),
+        may_follow w entries entry left.0 alone (λ k is. (left.1 k is).0) dark taking,
+        goes_from entries (after w entry left.0) (alone_next w entries entry alone) (serves_next w entries entry left.0 serves (λ k is. (left.1 k is).1)) (λ i k v found same. dark (suc i) k v found same) (taking_next w entries entry taking),
       )
 
   -- APART
@@ -186,6 +202,7 @@ module _ (crashing : Crashing) (c : Shape) where
     may_do (Ends g) left may h own = tt
     may_do (Crashes k) left may h own = absurd (true≢false (sym own))
     may_do (Loses k) left may h own = absurd (true≢false (sym own))
+    may_do (Replaces k first newest) left may h own = absurd (true≢false (sym own))
 
     on_own : (entry : Entry) (left : DiskState) (d k : ℕ) → (d == k) ≡ true → GoesTo crashing.IsCrash c d (w.disk d) entry left → GoesTo crashing.IsCrash c k (w.disk k) entry left
     on_own entry left d k own goes = subst (λ (n : ℕ). GoesTo crashing.IsCrash c n (w.disk n) entry left) (eqb-true d k own) goes
@@ -201,6 +218,7 @@ module _ (crashing : Crashing) (c : Shape) where
     goes_to (Ends h) left may k own = absurd (true≢false (sym own))
     goes_to (Crashes d) left may k own = on_own (Crashes d) left d k own (may.0, may.1, may.2)
     goes_to (Loses d) left may k own = on_own (Loses d) left d k own may
+    goes_to (Replaces d first newest) left may k own = on_own (Replaces d first newest) left d k own (may.0, may.2)
 
   alone_from : (entries : List Entry) (w : World) → GoesFrom crashing c w entries → Alone w.deeds entries
   alone_from [] w goes h = tt
@@ -224,6 +242,17 @@ module _ (crashing : Crashing) (c : Shape) where
             (subst (λ (disk : DiskState). Serves crashing.IsCrash c k disk (on_disk k entries)) (disk_there k w.disk entry goes.0 other) rest)
       ]
 
+  -- and disks take part where they may
+  taking_from : (entries : List Entry) (w : World) → GoesFrom crashing c w entries → TakePart c w.deeds w.first w.called entries
+  taking_from [] w goes = tt
+  taking_from (Does h deed ∷ entries) w goes = (goes.1.3, taking_from entries (after w (Does h deed) goes.0) goes.2)
+  taking_from (Breaks h d call ∷ entries) w goes = taking_from entries (after w (Breaks h d call) goes.0) goes.2
+  taking_from (BreaksIn epoch h d call ∷ entries) w goes = taking_from entries (after w (BreaksIn epoch h d call) goes.0) goes.2
+  taking_from (Ends h ∷ entries) w goes = taking_from entries (after w (Ends h) goes.0) goes.2
+  taking_from (Crashes d ∷ entries) w goes = taking_from entries (after w (Crashes d) goes.0) goes.2
+  taking_from (Loses d ∷ entries) w goes = taking_from entries (after w (Loses d) goes.0) goes.2
+  taking_from (Replaces d first newest ∷ entries) w goes = (goes.1.1, taking_from entries (after w (Replaces d first newest) goes.0) goes.2)
+
   -- where a disk crashes, it may
   crashed_from : (entries : List Entry) (w : World) → GoesFrom crashing c w entries → (i k : ℕ) → slice_get entries i ≡ Some (Crashes k) → (v : World) × ((h : ℕ) → v.deeds h ≡ deeds_from w.deeds i entries h) × crashing.MayCrash v
   crashed_from [] w goes i k found = absurd (cc)
@@ -235,19 +264,20 @@ module _ (crashing : Crashing) (c : Shape) where
 -- BOTH
 
 pub at_once_goes : AtOnceGoes
-at_once_goes c entries is = goes_from model_crashes c entries (opening c) is.hosts is.disks (λ i k w found same. tt)
+at_once_goes c entries is = goes_from model_crashes c entries (opening c) is.hosts is.disks (λ i k w found same. tt) is.taking
 
 pub over_losses_goes : OverLossesGoes
 over_losses_goes c entries is =
-    goes_from power_losses c entries (opening c) is.hosts is.disks (λ i k w found same h. same h ∙ own_deeds h i no_deeds entries ∙ is.dark i k h found)
+    goes_from power_losses c entries (opening c) is.hosts is.disks (λ i k w found same h. same h ∙ own_deeds h i no_deeds entries ∙ is.dark i k h found) is.taking
 
 pub goes_at_once : GoesAtOnce
-goes_at_once c entries goes = record { hosts = alone_from model_crashes c entries (opening c) goes; disks = serves_from model_crashes c entries (opening c) goes }
+goes_at_once c entries goes = record { hosts = alone_from model_crashes c entries (opening c) goes; disks = serves_from model_crashes c entries (opening c) goes; taking = taking_from model_crashes c entries (opening c) goes }
 
 pub goes_over_losses : GoesOverLosses
 goes_over_losses c entries goes =
     record {
       hosts = alone_from power_losses c entries (opening c) goes;
       disks = serves_from power_losses c entries (opening c) goes;
+      taking = taking_from power_losses c entries (opening c) goes;
       dark = λ i k h found. (let there = crashed_from power_losses c entries (opening c) goes i k found in sym (own_deeds h i no_deeds entries) ∙ sym (there.1 h) ∙ there.2 h);
     }

@@ -15,7 +15,7 @@ use Rattle.epoch_deeds.specs.Knowing.{image_of}
 use Rattle.epoch_host.specs.Ending.{AreIdleBy}
 use Rattle.epoch_runs.specs.Laws.{KeepsOrder}
 use Rattle.epoch_runs.specs.Living.{Showing, showing_next, lived_of, place_of, deeds_from, shown_to}
-use Rattle.epoch_runs.specs.World.{Entry, Does, Breaks, BreaksIn, Ends, Crashes, Loses, World, opening, no_deeds, deeds_after, after, Crashing, GoesFrom, Goes}
+use Rattle.epoch_runs.specs.World.{Entry, Does, Breaks, BreaksIn, Ends, Crashes, Loses, Replaces, World, opening, no_deeds, deeds_after, after, Crashing, GoesFrom, Goes}
 use Rattle.epoch_runs.proofs.Lists.{last_same, first_same, not_nil, core_more, same_self}
 use Rattle.epoch_runs.proofs.Order.{order_is_kept}
 use Rattle.epoch_runs.proofs.Pending.{IsPending, pending}
@@ -73,6 +73,7 @@ module _ (entries : List Entry) (h : ℕ) where
   last_now j before deed (Ends g) found own is = absurd (not_nil before deed is)
   last_now j before deed (Crashes k) found own is = absurd (true≢false (sym own))
   last_now j before deed (Loses k) found own is = absurd (true≢false (sym own))
+  last_now j before deed (Replaces k first newest) found own is = absurd (true≢false (sym own))
 
   last_on : (j : ℕ) (before : Deeds) (deed : Deed) → deeds_at (suc j) ≡ deeds_at j → LastAt j before deed → LastAt (suc j) before deed
   last_on j before deed same last =

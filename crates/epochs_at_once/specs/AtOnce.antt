@@ -13,7 +13,7 @@ use Rattle.at_once.specs.Power.{LosesPower}
 use Rattle.epochs.specs.Acts.{IsModelCrash}
 use Rattle.epoch_deeds.specs.Deeds.{Deed, Deeds, Calls, CallsIn, past_on}
 use Rattle.epoch_deeds.specs.Knowing.{image_of, HasDue, RisesInTurn, MayDo}
-use Rattle.epoch_runs.specs.World.{Entry, Does, Breaks, BreaksIn, Ends, Crashes, Loses, model_crashes, power_losses, Goes}
+use Rattle.epoch_runs.specs.World.{Entry, Does, Breaks, BreaksIn, Ends, Crashes, Loses, Replaces, no_deeds, deeds_after, firsts_after, called_after, HearsOf, IsNewDisk, MayTakeOver, model_crashes, power_losses, Goes}
 
 -- WHOSE AN ENTRY IS
 
@@ -24,6 +24,7 @@ is_of h (BreaksIn epoch g k call) = g == h
 is_of h (Ends g) = g == h
 is_of h (Crashes k) = false
 is_of h (Loses k) = false
+is_of h (Replaces k first newest) = false
 
 abbrev pub is_call_on : ℕ → Deed → Bool
 is_call_on k (Calls d now) = d == k
@@ -37,6 +38,7 @@ is_on k (BreaksIn epoch h d call) = d == k
 is_on k (Ends h) = false
 is_on k (Crashes d) = d == k
 is_on k (Loses d) = d == k
+is_on k (Replaces d first newest) = d == k
 
 -- the entries of a host, and those on a disk
 abbrev pub of_host : ℕ → List Entry → List Entry
@@ -55,6 +57,7 @@ deeds_with deeds (BreaksIn epoch h k call) = []
 deeds_with deeds (Ends h) = []
 deeds_with deeds (Crashes k) = deeds
 deeds_with deeds (Loses k) = deeds
+deeds_with deeds (Replaces k first newest) = deeds
 
 abbrev pub deeds_behind : Deeds → List Entry → Deeds
 deeds_behind deeds [] = deeds
@@ -85,19 +88,36 @@ AnswersTo old (Calls k now) new = Step old now.call now.answer new
 AnswersTo old (CallsIn epoch k now call heard) new = Step old now.call now.answer new
 AnswersTo old other new = ⊥
 
--- disk k may go from old to new by this alone: a call that is answered so, a write within which its host stopped, a crash, or a loss
+-- disk k may go from old to new by this alone: a call that is answered so, a write within which its host stopped, a crash, or a loss, or a new disk in its place
 abbrev pub GoesTo : (DiskState → DiskState → Type 0) → Shape → ℕ → DiskState → Entry → DiskState → Type 0
 GoesTo IsCrash c k old (Does h deed) new = AnswersTo old deed new
 GoesTo IsCrash c k old (Breaks h d call) new = Tears call old new
 GoesTo IsCrash c k old (BreaksIn e h d call) new = Tears (moved (base_of (image_of c) (epoch_of e).area) call) old new
 GoesTo IsCrash c k old (Crashes d) new = (k < c.disks) × (old.gone ≡ false) × IsCrash old new
 GoesTo IsCrash c k old (Loses d) new = (k < c.disks) × (old.gone ≡ false) × (new ≡ lost old)
+GoesTo IsCrash c k old (Replaces d first newest) new = (k < c.disks) × IsNewDisk (image_of c) newest old new
 GoesTo IsCrash c k old other new = ⊥
 
 -- one after the other, with some disk behind each
 abbrev pub Serves : (DiskState → DiskState → Type 0) → Shape → ℕ → DiskState → List Entry → Type 0
 Serves IsCrash c k old [] = Unit {0}
 Serves IsCrash c k old (entry ∷ entries) = (new : DiskState) × GoesTo IsCrash c k old entry new × Serves IsCrash c k new entries
+
+-- WHERE A DISK TAKES PART
+
+-- In this order, disks take part from these epochs on, and cores have called them in these: in earlier epochs a core hears that its calls fail, and another disk is put in the place of one
+-- only where it may be.
+abbrev pub TakePart : Shape → (ℕ → Deeds) → (ℕ → ℕ) → (ℕ → ℕ → Bool) → List Entry → Type 0
+TakePart c deeds firsts called [] = Unit {0}
+TakePart c deeds firsts called (Does h deed ∷ entries) =
+    HearsOf firsts deed × TakePart c (deeds_after deeds (Does h deed)) firsts (called_after called (Does h deed)) entries
+TakePart c deeds firsts called (Replaces k first newest ∷ entries) =
+    MayTakeOver c deeds firsts called k first newest × TakePart c deeds (firsts_after firsts (Replaces k first newest)) called entries
+TakePart c deeds firsts called (other ∷ entries) = TakePart c (deeds_after deeds other) firsts (called_after called other) entries
+
+-- at first all take part in all epochs
+abbrev pub AllTakePart : Shape → List Entry → Type 0
+AllTakePart c entries = TakePart c no_deeds (λ k. 0) (λ k e. false) entries
 
 -- AT ONCE
 
@@ -109,11 +129,13 @@ opening_disk c = fresh_disk (whole_length (image_of c))
 pub record IsAtOnce (c : Shape) (entries : List Entry) : Type 0 where
   pub hosts : (h : ℕ) → DoesAlone c h [] (of_host h entries)
   pub disks : (k : ℕ) → Serves IsModelCrash c k (opening_disk c) (on_disk k entries)
+  pub taking : AllTakePart c entries
 
 -- So it is where disks lose power, as files do. A loss of power finds every host stopped: none has done anything since its start.
 pub record IsOverLosses (c : Shape) (entries : List Entry) : Type 0 where
   pub hosts : (h : ℕ) → DoesAlone c h [] (of_host h entries)
   pub disks : (k : ℕ) → Serves LosesPower c k (opening_disk c) (on_disk k entries)
+  pub taking : AllTakePart c entries
   pub dark : (i k h : ℕ) → slice_get entries i ≡ Some (Crashes k) → deeds_since (of_host h (take i entries)) ≡ []
 
 -- That is what hosts of all epochs do over shared disks.

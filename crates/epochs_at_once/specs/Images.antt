@@ -14,7 +14,7 @@ use Rattle.epoch_deeds.specs.Deeds.{Calls, CallsIn}
 use Rattle.epoch_deeds.specs.Knowing.{image_of}
 use Rattle.epoch_runs.specs.World.{Entry, Does, Crashes}
 use Rattle.log_folders.specs.Beginnings.{HoldsSurely, image_for}
-use Rattle.epochs_at_once.specs.AtOnce.{of_host, on_disk, deeds_since, DoesAlone, Serves, IsAtOnce, IsOverLosses}
+use Rattle.epochs_at_once.specs.AtOnce.{of_host, on_disk, deeds_since, DoesAlone, Serves, AllTakePart, IsAtOnce, IsOverLosses}
 use Rattle.epochs_at_once.specs.Joined.{HasOneLog}
 
 -- the slots of the image of one log that is as long as two areas with the rows of standings between them
@@ -43,6 +43,7 @@ pub record IsAtOnceOn (c : Shape) (images : ℕ → DiskState) (entries : List E
   pub reads : AllReadBehind c entries
   pub blank : (k : ℕ) → IsBlank c (images k)
   pub disks : (k : ℕ) → Serves IsModelCrash c k (images k) (on_disk k entries)
+  pub taking : AllTakePart c entries
 
 -- So it is where images lose power, which finds every host stopped.
 pub record IsOverLossesOn (c : Shape) (images : ℕ → DiskState) (entries : List Entry) : Type 0 where
@@ -50,6 +51,7 @@ pub record IsOverLossesOn (c : Shape) (images : ℕ → DiskState) (entries : Li
   pub reads : AllReadBehind c entries
   pub blank : (k : ℕ) → IsBlank c (images k)
   pub disks : (k : ℕ) → Serves LosesPower c k (images k) (on_disk k entries)
+  pub taking : AllTakePart c entries
   pub dark : (i k h : ℕ) → slice_get entries i ≡ Some (Crashes k) → deeds_since (of_host h (take i entries)) ≡ []
 
 -- What is done to images so is done at once to disks of zeros: to what hosts use of the images.

@@ -13,7 +13,7 @@ use Rattle.sector_runs.specs.Showing.{ShowsDisk}
 use Rattle.sector_runs.proofs.Over.{serves_on}
 use Rattle.sector_runs.proofs.Steps.{blank_devices_show}
 use Rattle.epoch_deeds.specs.Deeds.{Calls, CallsIn, Starts, Begins, Stops}
-use Rattle.epoch_runs.specs.World.{Entry, Does, Breaks, BreaksIn, Ends, Crashes, Loses}
+use Rattle.epoch_runs.specs.World.{Entry, Does, Breaks, BreaksIn, Ends, Crashes, Loses, Replaces}
 use Rattle.epochs_at_once.specs.AtOnce.{on_disk, Serves}
 use Rattle.epochs_at_once.specs.Images.{slots_of}
 use Rattle.epochs_at_once.proofs.Images.{images_have_one_log_over_losses}
@@ -35,6 +35,7 @@ module _ (c : Shape) (k : ℕ) where
   serve (Ends h ∷ entries) old serves = absurd serves.1
   serve (Crashes d ∷ entries) old serves = (serves.0, serves.1, serve entries serves.0 serves.2)
   serve (Loses d ∷ entries) old serves = (serves.0, serves.1, serve entries serves.0 serves.2)
+  serve (Replaces d first newest ∷ entries) old serves = absurd serves.1
 
 pub devices_serve : DevicesServe
 devices_serve c geometry images devices entries over =
@@ -47,6 +48,7 @@ devices_serve c geometry images devices entries over =
           λ k.
           serve c k (on_disk k entries) (images k)
           (serves_on c k (geometry k) (over.is k) (devices k) (images k) (all_told c (on_disk k entries)) (over.shows k) (own_on c k entries own) (over.serves k));
+      taking = over.taking;
       dark = over.dark;
     }
 

@@ -17,7 +17,7 @@ use Rattle.sector_runs.specs.Owning.{host_of, IsOfHost, IsOwn, AllOwn}
 use Rattle.sector_runs.proofs.Owning.{puts_own, doing_own}
 use Rattle.epoch_deeds.specs.Deeds.{Deeds, Calls, CallsIn, Starts, Begins, Stops, past_on}
 use Rattle.epoch_deeds.specs.Knowing.{image_of, HasDue, MayDo}
-use Rattle.epoch_runs.specs.World.{Entry, Does, Breaks, BreaksIn, Ends, Crashes, Loses, no_deeds, deeds_after}
+use Rattle.epoch_runs.specs.World.{Entry, Does, Breaks, BreaksIn, Ends, Crashes, Loses, Replaces, no_deeds, deeds_after}
 use Rattle.epoch_runs.proofs.Lists.{last_same, same_self}
 use Rattle.epochs_at_once.specs.AtOnce.{is_of, is_on, of_host, on_disk, MayDoNext, DoesAlone}
 use Rattle.epochs_at_once.proofs.Parting.{deeds_own, deeds_there, own_more, other_more}
@@ -146,6 +146,7 @@ module _ (c : Shape) where
   all_own (Ends h ∷ entries) deeds alone nothing = (tt, all_own entries (deeds_after deeds (Ends h)) (next deeds (Ends h) entries alone) nothing)
   all_own (Crashes k ∷ entries) deeds alone nothing = (tt, all_own entries (deeds_after deeds (Crashes k)) (next deeds (Crashes k) entries alone) nothing)
   all_own (Loses k ∷ entries) deeds alone nothing = (tt, all_own entries (deeds_after deeds (Loses k)) (next deeds (Loses k) entries alone) nothing)
+  all_own (Replaces k first newest ∷ entries) deeds alone nothing = (tt, all_own entries (deeds_after deeds (Replaces k first newest)) (next deeds (Replaces k first newest) entries alone) nothing)
 
   -- so it is with what is told of one disk
   pub own_on : (k : ℕ) (entries : List Entry) → AllOwn (all_told c entries) → AllOwn (all_told c (on_disk k entries))

@@ -17,7 +17,7 @@ use Rattle.sector_runs.specs.Steps as steps
 use Rattle.sector_runs.specs.Touches.{ServesBySectors}
 use Rattle.epoch_deeds.specs.Deeds.{Calls}
 use Rattle.epoch_runs.specs.World.{Entry, Does, Breaks, Crashes}
-use Rattle.epochs_at_once.specs.AtOnce.{of_host, on_disk, deeds_since, DoesAlone}
+use Rattle.epochs_at_once.specs.AtOnce.{of_host, on_disk, deeds_since, DoesAlone, AllTakePart}
 use Rattle.epochs_at_once.specs.Images.{slots_of, IsBlank, AllReadBehind, IsOverLossesOn}
 use Rattle.epochs_at_once.specs.Joined.{HasOneLog}
 use Rattle.sector_epochs.specs.World.{all_told}
@@ -52,6 +52,7 @@ pub record IsOverDevices (c : Shape) (geometry : ℕ → Geometry) (images : ℕ
   pub blank : (k : ℕ) → IsBlank c (images k)
   pub shows : (k : ℕ) → ShowsDisk (geometry k) (devices k) (images k)
   pub serves : (k : ℕ) → ServesBySectors c k (geometry k) (devices k) (all_told c (on_disk k entries))
+  pub taking : AllTakePart c entries
   pub dark : (i k h : ℕ) → slice_get entries i ≡ Some (Crashes k) → deeds_since (of_host h (take i entries)) ≡ []
 
 -- Then each image has served the calls, of which each takes effect at one moment, as images do that lose power.

@@ -6,9 +6,10 @@ use Rattle.standings.specs.Reading.{moved}
 use Rattle.world.specs.Entry.{Filled, Start, Stop, Called, Torn, Crashed, Lost}
 use Rattle.epoch_deeds.specs.Deeds.{Deed, Calls, CallsIn}
 use Rattle.epoch_deeds.specs.Knowing.{image_of}
-use Rattle.epoch_runs.specs.World.{Entry, Does, Breaks, BreaksIn, Ends, Crashes, Loses}
+use Rattle.epoch_runs.specs.World.{Entry, Does, Breaks, BreaksIn, Ends, Crashes, Loses, Replaces}
 
--- A call is told where it is made: that of a core in an epoch behind the beginning of its area. Deeds that are no calls are none of a device.
+-- A call is told where it is made: that of a core in an epoch behind the beginning of its area. Deeds that are no calls are none of a device. Of a new device in the place of another one is
+-- told what no device serves.
 abbrev pub call_by : ℕ → Deed → Filled
 call_by h (Calls d now) = Called h d now.call now.answer []
 call_by h (CallsIn epoch d now call heard) = Called h d now.call now.answer []
@@ -21,6 +22,7 @@ told_of c (BreaksIn epoch h d call) = Torn h d (moved (base_of (image_of c) (epo
 told_of c (Ends h) = Stop h
 told_of c (Crashes d) = Crashed d []
 told_of c (Loses d) = Lost d
+told_of c (Replaces d first newest) = Start 0
 
 abbrev pub all_told : Shape → List Entry → List Filled
 all_told c [] = []

@@ -1,0 +1,457 @@
+-- In which epochs each disk takes part: a new one only in those in which no core has called the one before, and in earlier ones each call of a core fails.
+use Rattle.std.specs.Prelude.{◌&&◌, ◌||◌, nat_le}
+use Rattle.std.proofs.Common.{ℕ, ◌≡◌, ◌==◌, ◌+◌, ◌≤◌, ◌<◌, Bool, true, false, cond, true≢false, Option, Some, None, List, [], ◌∷◌, ◌++◌, refl, sym, ◌∙◌, ap, subst, inl, inr, arith}
+use Rattle.std.proofs.lemmas.Bool.{cases_Bool, cases_lt, eqb-true, le-leb, leb-true}
+use Rattle.disk.specs.Disk.{DiskState, Call, Answer}
+use Rattle.paxos_block.specs.Shape.{Shape}
+use Rattle.standings.specs.Epochs.{epoch_of}
+use Rattle.standings.specs.Past.{Made}
+use Rattle.epochs.specs.Acts.{Epoch, takes_part, IsFault}
+use Rattle.epochs.specs.Pasts as served
+use Rattle.epochs.specs.Pasts.{AllHearFaultsBefore, NoneIsFor, IsForLater}
+use Rattle.epochs.proofs.Staying.{AllAreFor}
+use Rattle.epoch_deeds.specs.Deeds.{Deed, Deeds, Calls, CallsIn, Starts, Begins, Stops, past_on}
+use Rattle.epoch_runs.specs.World.{Entry, Does, Breaks, BreaksIn, Ends, Crashes, Loses, Replaces, World, called_in, called_after, firsts_after, deeds_after, after, Crashing, MayFollow, HearsOf, GoesFrom, GoesTo}
+use Rattle.epoch_runs.specs.Living.{is_row, Showing, showing_by, showing_next}
+use Rattle.epoch_runs.proofs.Disks.{row_deed, core_deed, deeds_at, deeds_on}
+use Rattle.epoch_runs.proofs.Lists.{deeds_here, same_self, same_back}
+use Rattle.epoch_runs.proofs.Pending.{is_by, next_of_others, IsPending, pending, pending_reads}
+use Rattle.epoch_runs.proofs.Served.{has_past}
+
+-- WHERE A DISK TAKES PART
+
+takes_from : (first e : ℕ) → first ≤ e → takes_part first (epoch_of e) ≡ true
+takes_from first e low = le-leb (first + (epoch_of e).area) (epoch_of e).number (omega (arith, low))
+
+pub not_before : (first e : ℕ) → takes_part first (epoch_of e) ≡ false → e < first
+not_before first e out =
+    elim (cases_lt e first) [
+      | inl before ↦ before
+      | inr from_there ↦ absurd (true≢false (sym (takes_from first e from_there) ∙ out))
+    ]
+
+pub before_not : (first e : ℕ) → e < first → takes_part first (epoch_of e) ≡ false
+before_not first e before =
+    elim (cases_Bool (takes_part first (epoch_of e))) [
+      | inl takes ↦ absurd (let low = leb-true (first + (epoch_of e).area) (epoch_of e).number takes in omega (arith, low, before))
+      | inr out ↦ out
+    ]
+
+-- LISTS
+
+fails_both : (first : ℕ) (one more : List served.Deed) → AllHearFaultsBefore first one → AllHearFaultsBefore first more → AllHearFaultsBefore first (one ++ more)
+fails_both first [] more a b = b
+fails_both first (served.Calls h made ∷ one) more a b = fails_both first one more a b
+fails_both first (served.CallsIn e h made call heard ∷ one) more a b = (a.0, fails_both first one more a.1 b)
+fails_both first (served.Breaks h call ∷ one) more a b = fails_both first one more a b
+fails_both first (served.BreaksIn e h call ∷ one) more a b = fails_both first one more a b
+fails_both first (served.Stops h ∷ one) more a b = fails_both first one more a b
+fails_both first (served.Crash ∷ one) more a b = fails_both first one more a b
+fails_both first (served.Loss ∷ one) more a b = fails_both first one more a b
+fails_both first (served.Replacement from ∷ one) more a b = fails_both first one more a b
+
+none_both : (e : Epoch) (one more : List served.Deed) → NoneIsFor e one → NoneIsFor e more → NoneIsFor e (one ++ more)
+none_both e [] more a b = b
+none_both e (served.Calls h made ∷ one) more a b = none_both e one more a b
+none_both e (served.CallsIn t h made call heard ∷ one) more a b = none_both e one more a b
+none_both e (served.Breaks h call ∷ one) more a b = none_both e one more a b
+none_both e (served.BreaksIn t h call ∷ one) more a b = none_both e one more a b
+none_both e (served.Stops h ∷ one) more a b = none_both e one more a b
+none_both e (served.Crash ∷ one) more a b = none_both e one more a b
+none_both e (served.Loss ∷ one) more a b = none_both e one more a b
+none_both e (served.Replacement from ∷ one) more a b = (a.0, none_both e one more a.1 b)
+
+for_both : (e : Epoch) (one more : List served.Deed) → AllAreFor e one → AllAreFor e more → AllAreFor e (one ++ more)
+for_both e [] more a b = b
+for_both e (served.Calls h made ∷ one) more a b = for_both e one more a b
+for_both e (served.CallsIn t h made call heard ∷ one) more a b = for_both e one more a b
+for_both e (served.Breaks h call ∷ one) more a b = for_both e one more a b
+for_both e (served.BreaksIn t h call ∷ one) more a b = for_both e one more a b
+for_both e (served.Stops h ∷ one) more a b = for_both e one more a b
+for_both e (served.Crash ∷ one) more a b = for_both e one more a b
+for_both e (served.Loss ∷ one) more a b = for_both e one more a b
+for_both e (served.Replacement from ∷ one) more a b = (a.0, for_both e one more a.1 b)
+
+-- WHAT IS KNOWN OF A WORLD
+
+or_true : (a b : Bool) → b ≡ true → (a || b) ≡ true
+or_true true b is = refl
+or_true false b is = is
+
+called_deed : (called : ℕ → ℕ → Bool) (h : ℕ) (deed : Deed) (d e : ℕ) → called d e ≡ true → called_after called (Does h deed) d e ≡ true
+called_deed called h (Calls k made) d e is = is
+called_deed called h (CallsIn epoch k made call heard) d e is = or_true (d == k && e == epoch) (called d e) is
+called_deed called h (Starts epoch) d e is = is
+called_deed called h (Begins epoch task) d e is = is
+called_deed called h (Stops epoch) d e is = is
+
+called_stays : (called : ℕ → ℕ → Bool) (entry : Entry) (d e : ℕ) → called d e ≡ true → called_after called entry d e ≡ true
+called_stays called (Does h deed) d e is = called_deed called h deed d e is
+called_stays called (Breaks h k call) d e is = is
+called_stays called (BreaksIn epoch h k call) d e is = or_true (d == k && e == epoch) (called d e) is
+called_stays called (Ends h) d e is = is
+called_stays called (Crashes k) d e is = is
+called_stays called (Loses k) d e is = is
+called_stays called (Replaces k first newest) d e is = is
+
+called_now : (called : ℕ → ℕ → Bool) (k d e : ℕ) → (d == k) ≡ true → called_in called k e d e ≡ true
+called_now called k d e same = λ i. (same i && same_self e i) || called d e
+
+module _ (crashing : Crashing) (c : Shape) where
+  -- a disk takes part from no earlier epoch on
+  pub firsts_rise : (w : World) (entry : Entry) (left : DiskState) (k : ℕ) → MayFollow crashing c w entry left → w.first k ≤ firsts_after w.first entry k
+  firsts_rise w (Does h deed) left k may = omega arith
+  firsts_rise w (Breaks h d call) left k may = omega arith
+  firsts_rise w (BreaksIn epoch h d call) left k may = omega arith
+  firsts_rise w (Ends h) left k may = omega arith
+  firsts_rise w (Crashes d) left k may = omega arith
+  firsts_rise w (Loses d) left k may = omega arith
+  firsts_rise w (Replaces d first newest) left k may =
+      elim (cases_Bool (k == d)) [
+        | inl same ↦
+            subst (λ (b : Bool). w.first k ≤ cond b first (w.first k)) (sym same) (subst (λ (x : ℕ). w.first x ≤ first) (sym (eqb-true k d same)) may.1.later)
+        | inr differ ↦ subst (λ (b : Bool). w.first k ≤ cond b first (w.first k)) (sym differ) (omega arith)
+      ]
+
+  -- NO LATER DISK
+
+  -- by an entry no disk takes part in the epoch, if it is no such replacement
+  none_at : (k e : ℕ) (entry : Entry) (entries : List Entry) → ((d first newest : ℕ) → entry ≡ Replaces d first newest → (d == k) ≡ true → e < first) → NoneIsFor (epoch_of e) (deeds_at k entry entries)
+  none_at k e (Does h (Calls d now)) entries new = either (d == k) (showing_next h entries)
+    where
+      either : (b : Bool) (next : Option Showing) → NoneIsFor (epoch_of e) (cond b (row_deed h now next ∷ []) [])
+      either true None = tt
+      either true (Some s) = tt
+      either false next = tt
+  none_at k e (Does h (CallsIn epoch d now call heard)) entries new = either (d == k) (is_row call heard)
+    where
+      either : (b row : Bool) → NoneIsFor (epoch_of e) (cond b (core_deed epoch h now call heard row ∷ []) [])
+      either true true = tt
+      either true false = tt
+      either false row = tt
+  none_at k e (Does h (Starts epoch)) entries new = tt
+  none_at k e (Does h (Begins epoch task)) entries new = tt
+  none_at k e (Does h (Stops epoch)) entries new = tt
+  none_at k e (Breaks h d call) entries new = either (d == k)
+    where
+      either : (b : Bool) → NoneIsFor (epoch_of e) (cond b (served.Breaks h call) (served.Stops h) ∷ [])
+      either true = tt
+      either false = tt
+  none_at k e (BreaksIn epoch h d call) entries new = either (d == k)
+    where
+      either : (b : Bool) → NoneIsFor (epoch_of e) (cond b (served.BreaksIn (epoch_of epoch) h call) (served.Stops h) ∷ [])
+      either true = tt
+      either false = tt
+  none_at k e (Ends h) entries new = tt
+  none_at k e (Crashes d) entries new = either (d == k)
+    where
+      either : (b : Bool) → NoneIsFor (epoch_of e) (cond b (served.Crash ∷ []) [])
+      either true = tt
+      either false = tt
+  none_at k e (Loses d) entries new = either (d == k)
+    where
+      either : (b : Bool) → NoneIsFor (epoch_of e) (cond b (served.Loss ∷ []) [])
+      either true = tt
+      either false = tt
+  none_at k e (Replaces d first newest) entries new = either (d == k) refl
+    where
+      either : (b : Bool) → (d == k) ≡ b → NoneIsFor (epoch_of e) (cond b (served.Replacement first ∷ []) [])
+      either true same = (before_not first e (new d first newest refl same), tt)
+      either false differ = tt
+
+  -- a core has called the disk in the epoch
+  none_now : (k e : ℕ) (w : World) (entry : Entry) (left : DiskState) → MayFollow crashing c w entry left → w.called k e ≡ true → (d first newest : ℕ) → entry ≡ Replaces d first newest → (d == k) ≡ true → e < first
+  none_now k e w (Does h deed) left may called d first newest is same = absurd (cc)
+  none_now k e w (Breaks h g call) left may called d first newest is same = absurd (cc)
+  none_now k e w (BreaksIn epoch h g call) left may called d first newest is same = absurd (cc)
+  none_now k e w (Ends h) left may called d first newest is same = absurd (cc)
+  none_now k e w (Crashes g) left may called d first newest is same = absurd (cc)
+  none_now k e w (Loses g) left may called d first newest is same = absurd (cc)
+  none_now k e w (Replaces g from upto) left may called d first newest is same =
+      let disk : g ≡ d = cc in
+      let number : from ≡ first = cc in
+      elim (cases_lt e first) [
+        | inl before ↦ before
+        | inr from_there ↦
+            absurd
+            (true≢false
+            (sym called ∙ ap (λ (x : ℕ). w.called x e) (sym (eqb-true d k same)) ∙ ap (λ (x : ℕ). w.called x e) (sym disk) ∙ may.1.uncalled e (let low : from ≤ e = omega (arith, number, from_there) in low)))
+      ]
+
+  none_from : (k e : ℕ) (entries : List Entry) (w : World) → GoesFrom crashing c w entries → w.called k e ≡ true → NoneIsFor (epoch_of e) (deeds_on k entries)
+  none_from k e [] w goes called = tt
+  none_from k e (entry ∷ entries) w goes called =
+      none_both (epoch_of e) (deeds_at k entry entries) (deeds_on k entries) (none_at k e entry entries (none_now k e w entry goes.0 goes.1 called))
+      (none_from k e entries (after w entry goes.0) goes.2 (called_stays w.called entry k e called))
+
+  -- A ROW THAT IS SHOWN
+
+  module _ (h : ℕ) (s : Showing) where
+    -- it is one of a disk that takes part in the epoch
+    shown_takes : (entries : List Entry) (w : World) → GoesFrom crashing c w entries → showing_next h entries ≡ Some s → s.epoch < w.first s.disk → IsFault s.heard
+    shown_takes [] w goes shown before = absurd (cc)
+    shown_takes (entry ∷ entries) w goes shown before =
+        elim (cases_Bool (is_by h entry)) [
+          | inl own ↦ own_entry entry own goes.0 goes.1 shown
+          | inr other ↦
+              let rises = firsts_rise w entry goes.0 s.disk goes.1 in
+              shown_takes entries (after w entry goes.0) goes.2 (sym (next_of_others h entry entries other) ∙ shown) (omega (arith, before, rises))
+        ]
+      where
+        by_deed : (g : ℕ) (deed : Deed) (left : DiskState) → MayFollow crashing c w (Does g deed) left → showing_by deed ≡ Some s → IsFault s.heard
+        by_deed g (Calls k now) left may one = absurd (cc)
+        by_deed g (Starts epoch) left may one = absurd (cc)
+        by_deed g (Begins epoch task) left may one = absurd (cc)
+        by_deed g (Stops epoch) left may one = absurd (cc)
+        by_deed g (CallsIn epoch k now call heard) left may one = either (is_row call heard) one
+          where
+            this : Showing
+            this = record { epoch = epoch; disk = k; made = now; call = call; heard = heard }
+
+            at_now : (other : Showing) → this ≡ other → other.epoch < w.first other.disk → IsFault other.heard
+            at_now other same = subst (λ (x : Showing). x.epoch < w.first x.disk → IsFault x.heard) same may.3
+
+            either : (b : Bool) → cond b (Some this) None ≡ Some s → IsFault s.heard
+            either true is = at_now s (let same : this ≡ s = cc in same) before
+            either false is = absurd (cc)
+
+        own_entry : (x : Entry) → is_by h x ≡ true → (left : DiskState) → MayFollow crashing c w x left → showing_next h (x ∷ entries) ≡ Some s → IsFault s.heard
+        own_entry (Does g deed) own left may one = by_deed g deed left may (sym (ap (λ (b : Bool). cond b (showing_by deed) (showing_next h entries)) own) ∙ one)
+        own_entry (Breaks g k call) own left may one = absurd (let none = sym (ap (λ (b : Bool). cond b None (showing_next h entries)) own) ∙ one in cc)
+        own_entry (BreaksIn epoch g k call) own left may one = absurd (let none = sym (ap (λ (b : Bool). cond b None (showing_next h entries)) own) ∙ one in cc)
+        own_entry (Ends g) own left may one = absurd (let none = sym (ap (λ (b : Bool). cond b None (showing_next h entries)) own) ∙ one in cc)
+        own_entry (Crashes k) own left may one = absurd (true≢false (sym own))
+        own_entry (Loses k) own left may one = absurd (true≢false (sym own))
+        own_entry (Replaces k first newest) own left may one = absurd (true≢false (sym own))
+
+    -- and no later one takes part there
+    shown_none : (entries : List Entry) (w : World) → GoesFrom crashing c w entries → showing_next h entries ≡ Some s → NoneIsFor (epoch_of s.epoch) (deeds_on s.disk entries)
+    shown_none [] w goes shown = absurd (cc)
+    shown_none (entry ∷ entries) w goes shown =
+        elim (cases_Bool (is_by h entry)) [
+          | inl own ↦
+              none_both (epoch_of s.epoch) (deeds_at s.disk entry entries) (deeds_on s.disk entries) (none_at s.disk s.epoch entry entries (own_new entry own))
+              (none_from s.disk s.epoch entries (after w entry goes.0) goes.2 (own_called entry own shown))
+          | inr other ↦
+              let still = sym (next_of_others h entry entries other) ∙ shown in
+              none_both (epoch_of s.epoch) (deeds_at s.disk entry entries) (deeds_on s.disk entries) (none_at s.disk s.epoch entry entries (no_new entry goes.0 goes.1 goes.2 still)) (shown_none entries (after w entry goes.0) goes.2 still)
+        ]
+      where
+        own_new : (x : Entry) → is_by h x ≡ true → (d first newest : ℕ) → x ≡ Replaces d first newest → (d == s.disk) ≡ true → s.epoch < first
+        own_new x own d first newest is same = absurd (true≢false (sym (sym (ap (is_by h) is) ∙ own)))
+
+        no_new : (x : Entry) (left : DiskState) → MayFollow crashing c w x left → GoesFrom crashing c (after w x left) entries → showing_next h entries ≡ Some s → (d first newest : ℕ) → x ≡ Replaces d first newest → (d == s.disk) ≡ true → s.epoch < first
+        no_new (Does g deed) left may more still d first newest is same = absurd (cc)
+        no_new (Breaks g k call) left may more still d first newest is same = absurd (cc)
+        no_new (BreaksIn epoch g k call) left may more still d first newest is same = absurd (cc)
+        no_new (Ends g) left may more still d first newest is same = absurd (cc)
+        no_new (Crashes k) left may more still d first newest is same = absurd (cc)
+        no_new (Loses k) left may more still d first newest is same = absurd (cc)
+        no_new (Replaces k from upto) left may more still d first newest is same =
+            let one : k ≡ d = cc in
+            let pends = pending crashing c h entries (after w (Replaces k from upto) left) s more still in
+            absurd (has_past c h (w.deeds h) s pends (subst (λ (x : ℕ). past_on x (w.deeds h) ≡ []) (one ∙ eqb-true d s.disk same) (may.1.anew h)))
+
+        called_by_deed : (g : ℕ) (deed : Deed) → showing_by deed ≡ Some s → called_after w.called (Does g deed) s.disk s.epoch ≡ true
+        called_by_deed g (Calls k now) one = absurd (cc)
+        called_by_deed g (Starts epoch) one = absurd (cc)
+        called_by_deed g (Begins epoch task) one = absurd (cc)
+        called_by_deed g (Stops epoch) one = absurd (cc)
+        called_by_deed g (CallsIn epoch k now call heard) one = either (is_row call heard) one
+          where
+            this : Showing
+            this = record { epoch = epoch; disk = k; made = now; call = call; heard = heard }
+
+            either : (b : Bool) → cond b (Some this) None ≡ Some s → called_in w.called k epoch s.disk s.epoch ≡ true
+            either true is = subst (λ (x : Showing). called_in w.called k epoch x.disk x.epoch ≡ true) (let same : this ≡ s = cc in same) (called_now w.called k k epoch (same_self k))
+            either false is = absurd (cc)
+
+        own_called : (x : Entry) → is_by h x ≡ true → showing_next h (x ∷ entries) ≡ Some s → called_after w.called x s.disk s.epoch ≡ true
+        own_called (Does g deed) own one = called_by_deed g deed (sym (ap (λ (b : Bool). cond b (showing_by deed) (showing_next h entries)) own) ∙ one)
+        own_called (Breaks g k call) own one = absurd (let none = sym (ap (λ (b : Bool). cond b None (showing_next h entries)) own) ∙ one in cc)
+        own_called (BreaksIn epoch g k call) own one = absurd (let none = sym (ap (λ (b : Bool). cond b None (showing_next h entries)) own) ∙ one in cc)
+        own_called (Ends g) own one = absurd (let none = sym (ap (λ (b : Bool). cond b None (showing_next h entries)) own) ∙ one in cc)
+        own_called (Crashes k) own one = absurd (true≢false (sym own))
+        own_called (Loses k) own one = absurd (true≢false (sym own))
+        own_called (Replaces k first newest) own one = absurd (true≢false (sym own))
+
+  -- it is of the disk on which the host has just read
+  shown_here : (h d : ℕ) (now : Made) (left : DiskState) (entries : List Entry) (w : World) (s : Showing) → GoesFrom crashing c (after w (Does h (Calls d now)) left) entries → showing_next h entries ≡ Some s → d ≡ s.disk
+  shown_here h d now left entries w s goes shown =
+      let deeds : Deeds = w.deeds h ++ Calls d now ∷ [] in
+      let is = subst (λ (l : Deeds). IsPending c h l s) (deeds_here w.deeds h deeds) (pending crashing c h entries (after w (Does h (Calls d now)) left) s goes shown) in
+      let reads : Calls d now ≡ Calls s.disk _ = pending_reads c h (w.deeds h) (Calls d now) s is in
+      cc
+
+  -- ALL ENTRIES
+
+  module _ (k : ℕ) where
+    fails_at : (first : ℕ) (w : World) (entry : Entry) (left : DiskState) (entries : List Entry) → MayFollow crashing c w entry left → GoesFrom crashing c (after w entry left) entries → first ≤ w.first k → AllHearFaultsBefore first (deeds_at k entry entries)
+    fails_at first w (Does h (Calls d now)) left entries may goes low = either (d == k) refl (showing_next h entries) refl
+      where
+        either : (b : Bool) → (d == k) ≡ b → (next : Option Showing) → showing_next h entries ≡ next → AllHearFaultsBefore first (cond b (row_deed h now next ∷ []) [])
+        either false differ next is = tt
+        either true same None is = tt
+        either true same (Some s) is = (
+          λ out.
+              let here = sym (shown_here h d now left entries w s goes is) ∙ eqb-true d k same in
+              let before = not_before first s.epoch out in
+              shown_takes h s entries (after w (Does h (Calls d now)) left) goes is (subst (λ (x : ℕ). s.epoch < w.first x) (sym here) (omega (arith, before, low))),
+          tt,
+        )
+    fails_at first w (Does h (CallsIn epoch d now call heard)) left entries may goes low = either (d == k) refl (is_row call heard)
+      where
+        either : (b : Bool) → (d == k) ≡ b → (row : Bool) → AllHearFaultsBefore first (cond b (core_deed epoch h now call heard row ∷ []) [])
+        either false differ row = tt
+        either true same true = tt
+        either true same false = (λ out. may.3 (let before = not_before first epoch out in subst (λ (x : ℕ). epoch < w.first x) (sym (eqb-true d k same)) (omega (arith, before, low))), tt)
+    fails_at first w (Does h (Starts epoch)) left entries may goes low = tt
+    fails_at first w (Does h (Begins epoch task)) left entries may goes low = tt
+    fails_at first w (Does h (Stops epoch)) left entries may goes low = tt
+    fails_at first w (Breaks h d call) left entries may goes low = either (d == k)
+      where
+        either : (b : Bool) → AllHearFaultsBefore first (cond b (served.Breaks h call) (served.Stops h) ∷ [])
+        either true = tt
+        either false = tt
+    fails_at first w (BreaksIn epoch h d call) left entries may goes low = either (d == k)
+      where
+        either : (b : Bool) → AllHearFaultsBefore first (cond b (served.BreaksIn (epoch_of epoch) h call) (served.Stops h) ∷ [])
+        either true = tt
+        either false = tt
+    fails_at first w (Ends h) left entries may goes low = tt
+    fails_at first w (Crashes d) left entries may goes low = either (d == k)
+      where
+        either : (b : Bool) → AllHearFaultsBefore first (cond b (served.Crash ∷ []) [])
+        either true = tt
+        either false = tt
+    fails_at first w (Loses d) left entries may goes low = either (d == k)
+      where
+        either : (b : Bool) → AllHearFaultsBefore first (cond b (served.Loss ∷ []) [])
+        either true = tt
+        either false = tt
+    fails_at first w (Replaces d from upto) left entries may goes low = either (d == k)
+      where
+        either : (b : Bool) → AllHearFaultsBefore first (cond b (served.Replacement from ∷ []) [])
+        either true = tt
+        either false = tt
+
+    fails_from : (first : ℕ) (entries : List Entry) (w : World) → GoesFrom crashing c w entries → first ≤ w.first k → AllHearFaultsBefore first (deeds_on k entries)
+    fails_from first [] w goes low = tt
+    fails_from first (entry ∷ entries) w goes low =
+        fails_both first (deeds_at k entry entries) (deeds_on k entries) (fails_at first w entry goes.0 entries goes.1 goes.2 low)
+        (fails_from first entries (after w entry goes.0) goes.2 (let rises = firsts_rise w entry goes.0 k goes.1 in omega (arith, low, rises)))
+
+    -- a new disk takes part later than any core has called the one before
+    pub for_later : (entries : List Entry) (w : World) → GoesFrom crashing c w entries → IsForLater (deeds_on k entries)
+    for_later [] w goes = tt
+    for_later (Does h (Calls d now) ∷ entries) w goes = either (d == k) refl (showing_next h entries) refl (for_later entries (after w (Does h (Calls d now)) goes.0) goes.2)
+      where
+        either : (b : Bool) → (d == k) ≡ b → (next : Option Showing) → showing_next h entries ≡ next → IsForLater (deeds_on k entries) → IsForLater (cond b (row_deed h now next ∷ []) [] ++ deeds_on k entries)
+        either false differ next is rest = rest
+        either true same None is rest = rest
+        either true same (Some s) is rest =
+            let here = sym (shown_here h d now goes.0 entries w s goes.2 is) ∙ eqb-true d k same in
+            (subst (λ (x : ℕ). NoneIsFor (epoch_of s.epoch) (deeds_on x entries)) here (shown_none h s entries (after w (Does h (Calls d now)) goes.0) goes.2 is), rest)
+    for_later (Does h (CallsIn epoch d now call heard) ∷ entries) w goes = either (d == k) refl (is_row call heard) (for_later entries (after w (Does h (CallsIn epoch d now call heard)) goes.0) goes.2)
+      where
+        either : (b : Bool) → (d == k) ≡ b → (row : Bool) → IsForLater (deeds_on k entries) → IsForLater (cond b (core_deed epoch h now call heard row ∷ []) [] ++ deeds_on k entries)
+        either false differ row rest = rest
+        either true same true rest = rest
+        either true same false rest = (none_from k epoch entries (after w (Does h (CallsIn epoch d now call heard)) goes.0) goes.2 (called_now w.called d k epoch (same_back d k same)), rest)
+    for_later (Does h (Starts epoch) ∷ entries) w goes = for_later entries (after w (Does h (Starts epoch)) goes.0) goes.2
+    for_later (Does h (Begins epoch task) ∷ entries) w goes = for_later entries (after w (Does h (Begins epoch task)) goes.0) goes.2
+    for_later (Does h (Stops epoch) ∷ entries) w goes = for_later entries (after w (Does h (Stops epoch)) goes.0) goes.2
+    for_later (Breaks h d call ∷ entries) w goes = either (d == k) (for_later entries (after w (Breaks h d call) goes.0) goes.2)
+      where
+        either : (b : Bool) → IsForLater (deeds_on k entries) → IsForLater (cond b (served.Breaks h call) (served.Stops h) ∷ deeds_on k entries)
+        either true rest = rest
+        either false rest = rest
+    for_later (BreaksIn epoch h d call ∷ entries) w goes = either (d == k) refl (for_later entries (after w (BreaksIn epoch h d call) goes.0) goes.2)
+      where
+        either : (b : Bool) → (d == k) ≡ b → IsForLater (deeds_on k entries) → IsForLater (cond b (served.BreaksIn (epoch_of epoch) h call) (served.Stops h) ∷ deeds_on k entries)
+        either true same rest = (none_from k epoch entries (after w (BreaksIn epoch h d call) goes.0) goes.2 (called_now w.called d k epoch (same_back d k same)), rest)
+        either false differ rest = rest
+    for_later (Ends h ∷ entries) w goes = for_later entries (after w (Ends h) goes.0) goes.2
+    for_later (Crashes d ∷ entries) w goes = either (d == k) (for_later entries (after w (Crashes d) goes.0) goes.2)
+      where
+        either : (b : Bool) → IsForLater (deeds_on k entries) → IsForLater (cond b (served.Crash ∷ []) [] ++ deeds_on k entries)
+        either true rest = rest
+        either false rest = rest
+    for_later (Loses d ∷ entries) w goes = either (d == k) (for_later entries (after w (Loses d) goes.0) goes.2)
+      where
+        either : (b : Bool) → IsForLater (deeds_on k entries) → IsForLater (cond b (served.Loss ∷ []) [] ++ deeds_on k entries)
+        either true rest = rest
+        either false rest = rest
+    for_later (Replaces d first newest ∷ entries) w goes = either (d == k) refl (for_later entries (after w (Replaces d first newest) goes.0) goes.2)
+      where
+        either : (b : Bool) → (d == k) ≡ b → IsForLater (deeds_on k entries) → IsForLater (cond b (served.Replacement first ∷ []) [] ++ deeds_on k entries)
+        either true same rest = (
+          fails_from first entries (after w (Replaces d first newest) goes.0) goes.2 (subst (λ (b : Bool). first ≤ cond b first (w.first k)) (sym (same_back d k same)) (omega arith)),
+          rest,
+        )
+        either false differ rest = rest
+
+  -- IN THE END
+
+  module _ (k : ℕ) where
+    firsts_last : (entries : List Entry) (w last : World) → GoesTo crashing c w entries last → w.first k ≤ last.first k
+    firsts_last [] w last goes = let same = ap (λ (v : World). v.first k) goes in omega (arith, same)
+    firsts_last (entry ∷ entries) w last goes =
+        let one = firsts_rise w entry goes.0 k goes.1 in
+        let rest = firsts_last entries (after w entry goes.0) last goes.2 in
+        omega (arith, one, rest)
+
+    for_at : (e : ℕ) (entry : Entry) (entries : List Entry) → ((first d newest : ℕ) → entry ≡ Replaces d first newest → (d == k) ≡ true → first ≤ e) → AllAreFor (epoch_of e) (deeds_at k entry entries)
+    for_at e (Does h (Calls d now)) entries low = either (d == k) (showing_next h entries)
+      where
+        either : (b : Bool) (next : Option Showing) → AllAreFor (epoch_of e) (cond b (row_deed h now next ∷ []) [])
+        either true None = tt
+        either true (Some s) = tt
+        either false next = tt
+    for_at e (Does h (CallsIn epoch d now call heard)) entries low = either (d == k) (is_row call heard)
+      where
+        either : (b row : Bool) → AllAreFor (epoch_of e) (cond b (core_deed epoch h now call heard row ∷ []) [])
+        either true true = tt
+        either true false = tt
+        either false row = tt
+    for_at e (Does h (Starts epoch)) entries low = tt
+    for_at e (Does h (Begins epoch task)) entries low = tt
+    for_at e (Does h (Stops epoch)) entries low = tt
+    for_at e (Breaks h d call) entries low = either (d == k)
+      where
+        either : (b : Bool) → AllAreFor (epoch_of e) (cond b (served.Breaks h call) (served.Stops h) ∷ [])
+        either true = tt
+        either false = tt
+    for_at e (BreaksIn epoch h d call) entries low = either (d == k)
+      where
+        either : (b : Bool) → AllAreFor (epoch_of e) (cond b (served.BreaksIn (epoch_of epoch) h call) (served.Stops h) ∷ [])
+        either true = tt
+        either false = tt
+    for_at e (Ends h) entries low = tt
+    for_at e (Crashes d) entries low = either (d == k)
+      where
+        either : (b : Bool) → AllAreFor (epoch_of e) (cond b (served.Crash ∷ []) [])
+        either true = tt
+        either false = tt
+    for_at e (Loses d) entries low = either (d == k)
+      where
+        either : (b : Bool) → AllAreFor (epoch_of e) (cond b (served.Loss ∷ []) [])
+        either true = tt
+        either false = tt
+    for_at e (Replaces d first newest) entries low = either (d == k) refl
+      where
+        either : (b : Bool) → (d == k) ≡ b → AllAreFor (epoch_of e) (cond b (served.Replacement first ∷ []) [])
+        either true same = (takes_from first e (low first d newest refl same), tt)
+        either false differ = tt
+
+    -- where a disk takes part in an epoch in the end, so has each that was put in the place of another
+    pub all_for : (e : ℕ) (entries : List Entry) (w last : World) → GoesTo crashing c w entries last → last.first k ≤ e → AllAreFor (epoch_of e) (deeds_on k entries)
+    all_for e [] w last goes low = tt
+    all_for e (entry ∷ entries) w last goes low =
+        for_both (epoch_of e) (deeds_at k entry entries) (deeds_on k entries)
+        (for_at e entry entries
+        (λ first d newest is same.
+        let rest = firsts_last entries (after w entry goes.0) last goes.2 in
+        let now : (after w entry goes.0).first k ≡ first = ap (λ (x : Entry). firsts_after w.first x k) is ∙ ap (λ (b : Bool). cond b first (w.first k)) (same_back d k same) in
+        omega (arith, rest, now, low)))
+        (all_for e entries (after w entry goes.0) last goes.2 low)
