@@ -36,6 +36,8 @@ def seconds(name, least, most, text, letter=""):
 MODES = ["NL", "CR", "CW", "PR", "PW", "EX"]
 HOST = number("host", "N", 0, 15, "the host number; without it mg chooses one")
 JSON = option("json", "FLAG", "for programs: an object a line")
+MODE = option("mode", "MODE", "the mode; EX without it", "MODE", bounds=", ".join(MODES), letter="m")
+WAIT = seconds("wait", 0, 86400000, "wait no longer, as 2.5", "w")
 
 # What a client may ask for, in the words of a script.
 COMMANDS = [
@@ -63,10 +65,10 @@ WORDS = [
         ["mg create images", "mg create images --disks 5"]),
     word("lock", "FOLDER NAME", [
         HOST,
-        option("mode", "MODE", "the mode; EX without it", "MODE", bounds="NL, CR, CW, PR, PW, EX", letter="m"),
+        MODE,
         option("shared", "FLAG", "the mode PR: others may have PR, too", letter="s"),
         option("exclusive", "FLAG", "the mode EX", letter="x"),
-        seconds("wait", 0, 86400000, "wait no longer, as 2.5", "w"),
+        WAIT,
         option("nonblock", "FLAG", "do not wait", letter="n"),
         number("conflict-exit-code", "N", 0, 255, "the status where the lock is not granted; 1 without it", "E"),
         number("check", "SECONDS", 1, 86400, "look so often whether the lock was taken away, and end COMMAND then", "k"),
@@ -80,6 +82,19 @@ WORDS = [
          "NAME has 1 to 15 bytes, and no blank.", "It becomes `mg-lock`, whose manual page has signals, statuses and what COMMAND finds in its environment."],
         ["mg lock images db -- ./backup", "mg lock images db --wait 60 -- ./backup", "mg lock images db -n -E 75 -- ./backup"],
         rest="COMMAND", one_of=(("mode", "shared", "exclusive"), ("wait", "nonblock"))),
+    word("take", "FOLDER NAME", [
+        HOST, MODE, WAIT,
+        option("json", "FLAG", "for programs: one object"),
+    ], "take a lock that stays when mg ends",
+        ["Waits for the lock on NAME, prints its number and its token, and ends with 0: the lock stays.", "The token grows from each holder of EX to the next: a resource can refuse a lower one.",
+         "The status is 1 if the lock was not granted in time; then nothing waits, and nothing is printed.",
+         "The lock has no process: `mg give` releases it, a purge of its host, and `mg recover --all`, but not `mg recover`.",
+         "If `mg take` was killed `mg table` shows whether it has taken a lock, and its number."],
+        ["mg take images db --wait 60"]),
+    word("give", "FOLDER NAME", [], "give back what mg take took",
+        ["Gives back locks on NAME that `mg take` took. LOCK is the number, or in one word the line that was printed.",
+         "The status is 1 where there is nothing to give, as the second time: so it may be run again after a kill."],
+        ["mg give images db 1541"], rest="LOCK", needs=True),
     word("status", "FOLDER", [
         option("json", "FLAG", "for programs: one object"),
         option("prometheus", "FLAG", "for node_exporter of Prometheus"),
@@ -266,7 +281,7 @@ def synopsis(it):
 
 def in_page(text):
     """FOLDER, NAME and so on are arguments of the page, and small letters there."""
-    return re.sub(r"\b(FOLDER|NAME|COMMAND|SCRIPT|LINE)\b", lambda it: it.group(0).lower(), text)
+    return re.sub(r"\b(FOLDER|NAME|COMMAND|SCRIPT|LINE|LOCK)\b", lambda it: it.group(0).lower(), text)
 
 
 def described(it):
@@ -307,8 +322,8 @@ def manual(version):
     out += [".Sh FILES", ".Bl -tag -width Ds", ".It Pa turn.lock", "in the folder: locked by", ".Cm submit , table", "and", ".Cm mark", "without", ".Fl -host .",
             "It is empty, and may stay.", ".It Pa hostHOST.lock", "in the folder: locked while a host number is in use.", ".It Pa libexec/midgegalena/mg-folder",
             "beside the folder of", ".Nm", "itself: a program for the words of a folder; no version has one yet.", ".El"]
-    out += [".Sh EXIT STATUS", "That of", ".Xr mg-lock 1", "for", ".Cm lock , status", "and", ".Cm recover .", "Otherwise:", ".Bl -tag -width Ds", ".It 0",
-            "done", ".It 1", "refused, or a check found something", ".It 2", "the words are wrong, and nothing was done;", ".Cm lock", "ends with 125 then", ".El"]
+    out += [".Sh EXIT STATUS", "That of", ".Xr mg-lock 1", "for", ".Cm lock , take , give , status", "and", ".Cm recover .", "Otherwise:", ".Bl -tag -width Ds", ".It 0",
+            "done", ".It 1", "refused, or a check found something", ".It 2", "the words are wrong, and nothing was done;", ".Cm lock , take", "and", ".Cm give", "end with 125 then", ".El"]
     out += [".Sh EXAMPLES", "Each word, as it is typed:", ".Bd -literal -offset indent"]
     out += [escaped(one) for it in WORDS for one in it.examples]
     out += [".Ed", ".Sh DIAGNOSTICS", "What is wrong with the words is said with what would be right, as", ".Ql --disks is 8: 1 to 7 .",
@@ -416,7 +431,7 @@ def zsh():
         if it.name == "submit":
             words += [f"'2:command:({' '.join(name for name, _ in COMMANDS)})'", "'*:words of the command:'"]
         elif it.rest:
-            words.append("'*::command: _normal'")
+            words.append("'*::command: _normal'" if it.rest == "COMMAND" else "'*:lock, the number or the line that was printed:'")
         joined = " \\\n                ".join(words)
         cases.append(f"        {it.name})\n            _arguments -S \\\n                {joined}\n            ;;")
     cases.append("        help) [[ $CURRENT -ne 2 ]] || _describe word tasks ;;")

@@ -11,7 +11,7 @@ _mg_lock() {
     for ((i = 1; i < COMP_CWORD; i++)); do
         case ${COMP_WORDS[i]} in
             -m | --mode | -w | --timeout | -E | --conflict-exit-code | -k | --check | -i | --interval) [[ $given -gt 0 ]] || ((i++)) ;;
-            --status) [[ $given -gt 0 ]] && ((given++)) || shows=1 ;;
+            --status | --give) [[ $given -gt 0 ]] && ((given++)) || shows=1 ;;
             -*) [[ $given -eq 0 ]] || ((given++)) ;;
             *) ((given++)) ;;
         esac
@@ -20,7 +20,7 @@ _mg_lock() {
     case $given in
         0)
             if [[ $word == -* ]]; then
-                words="--exclusive --shared --mode --nonblock --timeout --conflict-exit-code --value --close --check --interval --recover --all --status --json --prometheus --verbose --help --version"
+                words="--exclusive --shared --mode --nonblock --timeout --conflict-exit-code --value --close --check --interval --recover --all --take --give --status --json --prometheus --verbose --help --version"
                 mapfile -t COMPREPLY < <(compgen -W "$words" -- "$word")
             else
                 compopt -o filenames

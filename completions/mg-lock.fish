@@ -31,11 +31,13 @@ complete -c mg-lock -n 'test (__mg_lock_words) -eq 0' -s k -l check -x -d 'look 
 complete -c mg-lock -n 'test (__mg_lock_words) -eq 0' -s i -l interval -x -d 'longest pause between looks, in milliseconds'
 complete -c mg-lock -n 'test (__mg_lock_words) -eq 0' -s r -l recover -d 'release what processes that are gone have left'
 complete -c mg-lock -n 'test (__mg_lock_words) -eq 0' -s a -l all -d 'with -r: all locks of this host'
+complete -c mg-lock -n 'test (__mg_lock_words) -eq 0' -l take -d 'print the lock, and leave it taken'
+complete -c mg-lock -n 'test (__mg_lock_words) -eq 0' -l give -d 'give such locks back'
 complete -c mg-lock -n 'test (__mg_lock_words) -eq 0' -l status -d 'print slots, disks, host numbers in use here, and locks'
-complete -c mg-lock -n 'test (__mg_lock_words) -eq 0' -l json -d 'with --status: for programs'
+complete -c mg-lock -n 'test (__mg_lock_words) -eq 0' -l json -d 'with --status or --take: for programs'
 complete -c mg-lock -n 'test (__mg_lock_words) -eq 0' -l prometheus -d 'with --status: for node_exporter of Prometheus'
 complete -c mg-lock -n 'test (__mg_lock_words) -eq 0' -l verbose -d 'say how long it waited'
 complete -c mg-lock -n 'test (__mg_lock_words) -eq 0' -s h -l help -d 'show the options'
 complete -c mg-lock -n 'test (__mg_lock_words) -eq 0' -s V -l version -d 'show the version'
-complete -c mg-lock -n 'test (__mg_lock_words) -eq 1; and not contains -- --status (commandline -opc)' -a '(seq 0 15)' -d host
+complete -c mg-lock -n 'test (__mg_lock_words) -eq 1; and not contains -- --status (commandline -opc); and not contains -- --give (commandline -opc)' -a '(seq 0 15)' -d host
 complete -c mg-lock -n 'test (__mg_lock_words) -gt 2' -a '(__fish_complete_subcommand --fcs-skip=4)' -F

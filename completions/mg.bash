@@ -4,13 +4,15 @@ _mg() {
     local word=${COMP_WORDS[COMP_CWORD]} before=${COMP_WORDS[COMP_CWORD - 1]} task=${COMP_WORDS[1]-} words= options= takes=0 given=0 i
     COMPREPLY=()
     if [[ $COMP_CWORD -eq 1 ]]; then
-        mapfile -t COMPREPLY < <(compgen -W "create lock status watch recover submit table mark check migrate run sweep help --help --version" -- "$word")
+        mapfile -t COMPREPLY < <(compgen -W "create lock take give status watch recover submit table mark check migrate run sweep help --help --version" -- "$word")
         return
     fi
     case $task in
-        help) [[ $COMP_CWORD -ne 2 ]] || mapfile -t COMPREPLY < <(compgen -W "create lock status watch recover submit table mark check migrate run sweep" -- "$word"); return ;;
+        help) [[ $COMP_CWORD -ne 2 ]] || mapfile -t COMPREPLY < <(compgen -W "create lock take give status watch recover submit table mark check migrate run sweep" -- "$word"); return ;;
         create) options="--cluster --disks --slots --help" takes=1 ;;
         lock) options="--host --mode --shared --exclusive --wait --nonblock --conflict-exit-code --check --interval --value --close --verbose --command --help" takes=2 ;;
+        take) options="--host --mode --wait --json --help" takes=2 ;;
+        give) options="--help" takes=2 ;;
         status) options="--json --prometheus --help" takes=1 ;;
         watch) options="--every --help" takes=1 ;;
         recover) options="--host --all --help" takes=1 ;;

@@ -159,7 +159,7 @@ if command -v zsh >/dev/null; then
     shown 'dlm renew images 0 images 3 64 8 ' 'client that is left out'
     shown 'dlm-shared submit images 0 enqueue ' 'client, 0 to 239; then request, lock or host'
     shown 'dlm-shared take images ' "host, 0 to 15 $hosts"
-    TERM=xterm timeout 60 zsh -f -s "$top/completions" "${shown_lines[@]}" >"$work/shown" <<'END'
+    TERM=xterm timeout 600 zsh -f -s "$top/completions" "${shown_lines[@]}" >"$work/shown" <<'END'
 zmodload zsh/zpty || exit
 # Reads until the shell has printed a word, and keeps all before it.
 read_until() {

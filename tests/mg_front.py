@@ -68,7 +68,7 @@ def build():
 
 
 def mg(*words, **more):
-    return subprocess.run(["usr/bin/mg", *words], stdin=subprocess.DEVNULL, capture_output=True, text=True, timeout=60, check=False, **more)
+    return subprocess.run(["usr/bin/mg", *words], stdin=subprocess.DEVNULL, capture_output=True, text=True, timeout=600, check=False, **more)
 
 
 def folder(image="file"):
@@ -129,6 +129,12 @@ HANDED = [
     ("lock images db -- -c date", "mg-lock: [images] [0] [db] [--] [-c] [date]"),
     ("lock images db --wait 86400 --check=86400 --interval=60000 --conflict-exit-code=255 -- ls",
      "mg-lock: [--wait] [86400] [--conflict-exit-code] [255] [--check] [86400] [--interval] [60000] [images] [0] [db] [--] [ls]"),
+    ("take images db", "mg-lock: [--take] [images] [0] [db]"),
+    ("take --json images -m PR --host=4 db -w 2.5", "mg-lock: [--take] [--mode] [PR] [--wait] [2.5] [--json] [images] [4] [db]"),
+    ("take -- images -db", "mg-lock: [--take] [images] [0] [-db]"),
+    ("give images db 1539", "mg-lock: [--give] [images] [db] [1539]"),
+    ("give images db 1539 taken", "mg-lock: [--give] [images] [db] [1539] [taken]"),
+    ("give -- -odd -db -5", "mg-lock: [--give] [./-odd] [-db] [-5]"),
 ]
 
 
@@ -155,7 +161,7 @@ def handed_on():
 def statuses():
     folder()
     for status in (0, 1, 2, 42, 125, 255):
-        for words in ("lock images db ls", "table images", "run one.dlm"):
+        for words in ("lock images db ls", "take images db", "give images db 1539", "table images", "run one.dlm"):
             told = mg(*words.split(), env={**os.environ, "STATUS": str(status)})
             expect(told.returncode == status, f"{words}, status {status}: {told}")
     # Neither program is there, or it cannot be started.
@@ -218,7 +224,7 @@ def by_dlm():
 LONG = "x" * 300
 # The words, the status, and what is said of the word that is bad.
 WRONG = [
-    (["tabel"], 2, "no word is called tabel: create, lock, status, "),
+    (["tabel"], 2, "no word is called tabel: create, lock, take, give, status, "),
     (["format"], 2, "no word is called format: create, "),
     ([""], 2, "no word is called '': create, "),
     (["Lock"], 2, "no word is called Lock: create, "),
@@ -274,6 +280,16 @@ WRONG = [
     (["lock", "images", "db", "-c", "date", "ls"], 125, "ls is a word too many: LINE of --command is one word"),
     (["lock", "images", "db", "-c", ""], 125, "-c is '': a line for the shell"),
     (["lock", "images", "db", "-c"], 125, "-c has no value: a line for the shell"),
+    (["take", "images"], 125, "NAME is missing: mg take FOLDER NAME [OPTION].."),
+    (["take", "images", "a b"], 125, "NAME is a b: 1 to 15 bytes"),
+    (["take", "images", "db", "ls"], 125, "ls is a word too many: mg take FOLDER NAME "),
+    (["take", "images", "db", "--nonblock"], 125, "--nonblock is no option of take: --host, --mode, --wait, --json"),
+    (["take", "images", "db", "--wait", "-1"], 125, "--wait is -1: a number of seconds, 0 to 86400"),
+    (["give", "images"], 125, "NAME is missing: mg give FOLDER NAME LOCK.."),
+    (["give", "images", "db"], 125, "LOCK is missing: mg give FOLDER NAME LOCK.."),
+    (["give", "images", "db", "--"], 125, "LOCK is missing: mg give FOLDER NAME LOCK.."),
+    (["give", "images", "", "1539"], 125, "NAME is '': 1 to 15 bytes"),
+    (["give", "images", "db", "--host", "0", "1539"], 125, "--host is no option of give: it has none"),
     (["status"], 2, "FOLDER is missing: mg status FOLDER [--json] [--prometheus]"),
     (["status", "images", "--json", "--prometheus"], 2, "--json and --prometheus: one of them"),
     (["status", "images", "--json=yes"], 2, "--json is yes: it takes no value"),
@@ -308,6 +324,9 @@ REFUSED = [
     (["status", "one.dlm"], 1, "FOLDER is one.dlm: not a folder"),
     (["lock", "nowhere", "db", "ls"], 125, "FOLDER is nowhere: no such folder"),
     (["lock", "one.dlm/images", "db", "ls"], 125, "FOLDER is one.dlm/images: not a folder"),
+    (["take", "nowhere", "db"], 125, "FOLDER is nowhere: no such folder"),
+    (["give", "nowhere", "db", "1539"], 125, "FOLDER is nowhere: no such folder"),
+    (["take", "empty", "db"], 125, "FOLDER is empty: 26 Unreadable disk0 (disk0.img: No such file or directory)"),
     (["create", "nowhere/images"], 1, "FOLDER is nowhere/images: it cannot be made: no such folder above it"),
     (["create", "one.dlm"], 1, "FOLDER is one.dlm: not a folder"),
     (["create", LONG], 1, f"FOLDER is {LONG[:100]}..: it cannot be made: file name too long"),
@@ -324,7 +343,7 @@ def said(words):
     """The status, all that was printed, and each write to standard error."""
     ours, theirs = socket.socketpair(socket.AF_UNIX, socket.SOCK_SEQPACKET)
     with ours, theirs, open("out", "wb") as out:
-        ended = subprocess.run(["usr/bin/mg", *words], stdin=subprocess.DEVNULL, stdout=out, stderr=theirs, timeout=60, check=False)
+        ended = subprocess.run(["usr/bin/mg", *words], stdin=subprocess.DEVNULL, stdout=out, stderr=theirs, timeout=600, check=False)
         theirs.close()
         writes = []
         while more := ours.recv(1 << 16):
@@ -354,7 +373,7 @@ def wrong_words():
 
 # ---- help ----
 
-NAMES = ["create", "lock", "status", "watch", "recover", "submit", "table", "mark", "check", "migrate", "run", "sweep"]
+NAMES = ["create", "lock", "take", "give", "status", "watch", "recover", "submit", "table", "mark", "check", "migrate", "run", "sweep"]
 
 
 def helps():
@@ -403,9 +422,16 @@ def host_numbers():
         expect(host_of(mg(*words.split())) == 1, f"{words}: the least that nobody has")
         kept += [Kept(1), Kept(3)]
         expect(host_of(mg(*words.split())) == 2, f"{words}: between two")
-        # One that is let go soon is waited for.
-        threading.Timer(0.1, kept[0].close).start()
-        expect(host_of(mg(*words.split())) == 0, f"{words}: one that is let go")
+        # One that is let go soon is waited for, but not for long: where the machine has other work it may be let go too late.
+        chosen = []
+        for _ in range(3):
+            threading.Timer(0.1, kept[0].close).start()
+            chosen.append(host_of(mg(*words.split())))
+            if chosen[-1] == 0:
+                break
+            kept[0].close()
+            kept[0] = Kept(0)
+        expect(chosen[-1] == 0, f"{words}: one that is let go: {chosen}")
         for one in kept:
             one.close()
     kept = [Kept(number) for number in range(16)]
@@ -440,12 +466,12 @@ def at_once():
     started = [begin("submit", "images", "status", "1", str(number), "1", env=locks) for number in range(12)]
     started += [begin("lock", "images", "db", "--", "ls", env=locks) for _ in range(12)]
     for one in started:
-        out, err = one.communicate(timeout=60)
+        out, err = one.communicate(timeout=600)
         # mg-lock waits for its number; mg-folder may meet an mg-lock that came in between, and has done nothing then.
         is_met = one.returncode == 1 and err.startswith("mg: 36 HostInUse ")
         expect((one.returncode == 0 and err == "") or is_met, f"at once: {one.returncode}, {out}, {err}")
     started = [begin(*words.split(), env=locks) for words in ["table images", "mark images", "submit images status 1 1 1"] * 6]
-    told = [one.communicate(timeout=60) for one in started]
+    told = [one.communicate(timeout=600) for one in started]
     expect(all(one.returncode == 0 for one in started) and all("[--host] [0]" in out for out, _ in told), f"mg-folder at once, in turn: {told}")
 
 
@@ -460,7 +486,7 @@ def signals():
         process.stdout.readline()
         expect(process.stdout.readline() == f"pid {process.pid}\n", f"{words}: the same process")
         process.send_signal(signal.SIGTERM)
-        out, _ = process.communicate(timeout=20)
+        out, _ = process.communicate(timeout=600)
         expect((process.returncode, out) == (9, "heard\n"), f"{words}: {process.returncode}, {out}")
 
 
@@ -502,7 +528,7 @@ def watches():
     child, terminal = pty.fork()
     if child == 0:
         os.execv("usr/bin/mg", ["mg", "watch", "images", "--every", "0.1"])
-    text, end = b"", time.monotonic() + 20
+    text, end = b"", time.monotonic() + 120
     while text.count(b"status of images") < 3 and time.monotonic() < end:
         if select.select([terminal], [], [], 0.1)[0]:
             text += os.read(terminal, 4096)
@@ -516,11 +542,11 @@ def watches():
     process = begin("watch", "images", "--every=0.1", env={**os.environ, "STATUS_FAILS": "1"})
     lines = [process.stdout.readline() for _ in range(6)]
     process.send_signal(signal.SIGTERM)
-    process.communicate(timeout=20)
+    process.communicate(timeout=600)
     expect(lines[1] == lines[4] == "mg-lock: 7 NoMajority\n" and lines[2] == "\n" and "\x1b" not in "".join(lines), f"watch in a pipe: {lines}")
-    told = subprocess.run(["bash", "-c", "usr/bin/mg watch images > /dev/full"], capture_output=True, timeout=20, check=False)
+    told = subprocess.run(["bash", "-c", "usr/bin/mg watch images > /dev/full"], capture_output=True, timeout=600, check=False)
     expect(told.returncode == 1, f"watch, nowhere to print: {told}")
-    told = subprocess.run(["bash", "-c", 'exec "$0" "$@" >&- 2>&- <&-', "usr/bin/mg", "recover", "images"], env={**os.environ, "TOLD": "told"}, timeout=20, check=False)
+    told = subprocess.run(["bash", "-c", 'exec "$0" "$@" >&- 2>&- <&-', "usr/bin/mg", "recover", "images"], env={**os.environ, "TOLD": "told"}, timeout=600, check=False)
     expect(told.returncode == 0, f"recover with closed streams: {told}")
 
 

@@ -1,6 +1,6 @@
 /*
- * mg-lock: takes a lock in a folder of images, runs a command, and lets go. man man/mg-lock.1 says how it is used. All of its locks are
- * those of a session with MG_SHARE (mg_session.h), and the command inherits the sign of life.
+ * mg-lock: takes a lock in a folder of images, runs a command, and lets go. Or it takes one that outlives it, or gives that back. man man/mg-lock.1 says how it is
+ * used. All of its locks are those of a session with MG_SHARE (mg_session.h), and the command inherits the sign of life.
  *
  * Signals are blocked throughout, and taken where it pauses. So no talk with the images is cut off in the middle.
  */
@@ -22,6 +22,7 @@
 #include <stdlib.h>
 #include <string.h>
 #include <sys/prctl.h>
+#include <sys/stat.h>
 #include <sys/syscall.h>
 #include <sys/wait.h>
 #include <time.h>
@@ -29,6 +30,7 @@
 
 enum { FAILED = 125, CANNOT_RUN = 126, NOT_FOUND = 127, LOWEST_SIGN = 100, FEW_OF_SLOTS = 20 };
 enum { MOMENT = 2, MOMENTS = 6, LATE = 5000 }; /* milliseconds, and how many moments */
+enum { FIRST_CLIENT = 240, FIRST_LOCK = 1536, LOCKS_OF_A_HOST = 4000 }; /* of sessions: mg_session.h */
 
 static const char *const MODES[] = {"NL", "CR", "CW", "PR", "PW", "EX"};
 static const int SIGNALS[] = {SIGHUP, SIGINT, SIGQUIT, SIGTERM, SIGUSR1, SIGUSR2};
@@ -36,10 +38,10 @@ static const int SIGNALS[] = {SIGHUP, SIGINT, SIGQUIT, SIGTERM, SIGUSR1, SIGUSR2
 /* What is asked for. */
 static struct {
     const char *folder, *name;
-    char **words, **command;
+    char **words, **command; /* --give: the locks */
     unsigned host;
     int mode, conflict, interval, check, timeout; /* milliseconds, below 0: none */
-    bool closes, prints, verbose, recovers, all, shows;
+    bool closes, prints, verbose, recovers, all, shows, takes, gives;
     enum status_form form;
 } asked = {.mode = MG_EX, .conflict = 1, .interval = 5, .timeout = -1};
 
@@ -361,6 +363,8 @@ static int run(struct mg_session *session, const sigset_t *before, bool *lost) {
 static void usage(FILE *where) {
     fputs("usage: mg-lock [OPTION]... FOLDER HOST NAME [--] [COMMAND [ARGUMENT]...]\n"
           "       mg-lock [OPTION]... FOLDER HOST NAME -c LINE\n"
+          "       mg-lock --take [--json] [OPTION]... FOLDER HOST NAME\n"
+          "       mg-lock --give FOLDER NAME LOCK...\n"
           "       mg-lock --recover [--all] FOLDER HOST\n"
           "       mg-lock --status [--json | --prometheus] FOLDER\n"
           "Runs COMMAND while it holds a lock on NAME, through host HOST of the images in FOLDER.\n"
@@ -378,6 +382,8 @@ static void usage(FILE *where) {
           "  -i, --interval MS      longest pause between looks (5)\n"
           "  -r, --recover          release what mg-locks that are gone have left, and no more\n"
           "  -a, --all              with -r: all locks of this host; only when its machine has just started\n"
+          "      --take             print the lock and its token, and leave it taken; with --json for programs\n"
+          "      --give             give such locks back: their numbers, or the lines that were printed\n"
           "      --status           print slots, disks, host numbers in use here, and locks; it only looks\n"
           "      --json             with --status: for programs\n"
           "      --prometheus       with --status: for node_exporter of Prometheus\n"
@@ -385,8 +391,8 @@ static void usage(FILE *where) {
           "  -c, --command LINE     after NAME: the shell runs LINE, which is one word\n"
           "  -h, --help; -V, --version\n"
           "\n"
-          "Exit status: that of COMMAND, 128 + N if signal N ended it; 1 (-E) not granted; 125 mg-lock failed, or the\n"
-          "lock was lost, or may stay; 126, 127 COMMAND cannot be run, was not found.\n",
+          "Exit status: that of COMMAND, 128 + N if signal N ended it; 1 (-E) not granted, or nothing to give; 125 mg-lock\n"
+          "failed, or the lock was lost, or may stay; 126, 127 COMMAND cannot be run, was not found.\n",
           where);
 }
 
@@ -455,6 +461,7 @@ static const struct option OPTIONS[] = {
     {"value", 0, NULL, 'v'},     {"close", 0, NULL, 'o'},    {"check", 1, NULL, 'k'},   {"interval", 1, NULL, 'i'},
     {"recover", 0, NULL, 'r'},   {"all", 0, NULL, 'a'},      {"verbose", 0, NULL, 'l'}, {"help", 0, NULL, 'h'},
     {"version", 0, NULL, 'V'},   {"status", 0, NULL, 'S'},   {"json", 0, NULL, 'J'},    {"prometheus", 0, NULL, 'P'},
+    {"take", 0, NULL, 'T'},      {"give", 0, NULL, 'G'},
     {NULL, 0, NULL, 0}};
 
 /* 0, or the status to end with; below 0: end well. */
@@ -491,6 +498,8 @@ static int read_options(int argc, char **argv) {
         case 'a': asked.all = true; break;
         case 'l': asked.verbose = true; break;
         case 'S': asked.shows = true; break;
+        case 'T': asked.takes = true; break;
+        case 'G': asked.gives = true; break;
         case 'J':
         case 'P':
             if (asked.form == (option == 'J' ? FOR_PROMETHEUS : AS_JSON))
@@ -510,11 +519,13 @@ static int read_options(int argc, char **argv) {
 
 /* Whether there are as many words as what is asked for takes, and no option of something else. */
 static bool may_be(int words) {
+    if (asked.shows + asked.recovers + asked.takes + asked.gives > 1 || (asked.all && !asked.recovers))
+        return false;
     if (asked.shows)
-        return words == 1 && !asked.recovers && !asked.all;
-    if (asked.recovers)
-        return words == 2 && asked.form == FOR_PEOPLE;
-    return words >= 3 && !asked.all && asked.form == FOR_PEOPLE;
+        return words == 1;
+    if (asked.takes)
+        return words == 3 && asked.form != FOR_PROMETHEUS;
+    return (asked.recovers ? words == 2 : words >= 3) && asked.form == FOR_PEOPLE;
 }
 
 /* The shell is to run this one word. */
@@ -546,6 +557,11 @@ static int read_arguments(int argc, char **argv) {
     asked.folder = argv[0];
     if (asked.shows)
         return 0;
+    if (asked.gives) {
+        asked.name = argv[1];
+        asked.command = argv + 2;
+        return 0;
+    }
     if (!number(argv[1], 0, MG_HOSTS - 1, &host))
         return refuse("no host", argv[1]);
     asked.host = (unsigned)host;
@@ -656,6 +672,160 @@ static void warn_of_end(struct mg_session *session) {
 /* Whether it was granted so late that it is not wanted any more, as where this process was stopped meanwhile. */
 static bool is_late(void) { return asked.timeout > 0 && milliseconds() > begun + asked.timeout + LATE; }
 
+/* ---- a lock that outlives this process ---- */
+
+/* It has no sign of life. So it may be somebody's, and no recovery releases it but one of all locks. Once its sign is there again, and nobody's, it is one that
+ * is left over, and each recovery releases it: whoever has made the sign need not live on. */
+
+/* Its path is empty where that is too long: nothing is found or made there. */
+static const char *path_of_sign(uint64_t cluster) {
+    static char path[4200];
+    int length = snprintf(path, sizeof path, "%s/mg-lock.%llu.%u.%u", asked.folder, (unsigned long long)cluster, asked.host, (unsigned)db.lock);
+    if (length < 0 || length >= (int)sizeof path)
+        path[0] = '\0';
+    return path;
+}
+
+static bool make_sign(uint64_t cluster) {
+    int file = open(path_of_sign(cluster), O_RDWR | O_CREAT | O_CLOEXEC | O_NOFOLLOW, 0666);
+    if (file >= 0)
+        close(file);
+    return file >= 0 || access(path_of_sign(cluster), F_OK) == 0;
+}
+
+/* The folder may be a link that leads elsewhere by now. */
+static bool remove_sign(struct mg_session *session) {
+    struct stat ours, there;
+    const char *path = path_of_sign(db.cluster);
+    return fstat(mg_sign_of(session, db.lock), &ours) == 0 && stat(path, &there) == 0 && ours.st_dev == there.st_dev && ours.st_ino == there.st_ino &&
+           unlink(path) == 0;
+}
+
+/* "taken db: lock 1541 of client 240, token 17", and for programs an object. */
+static bool print_taken(void) {
+    char line[256], name[2 * MG_NAME_LENGTH + 1];
+    size_t length = 0;
+    for (const char *next = asked.name; *next; next++) {
+        if (*next == '"' || *next == '\\')
+            name[length++] = '\\';
+        name[length++] = *next;
+    }
+    name[length] = '\0';
+    if (asked.form == AS_JSON)
+        snprintf(line, sizeof line, "{\"name\": \"%s\", \"lock\": %u, \"client\": %u, \"host\": %u, \"held\": \"%s\", \"token\": %lld, \"cluster\": \"%llu\"}\n", name,
+                 (unsigned)db.lock, FIRST_CLIENT + asked.host, asked.host, MODES[asked.mode], (long long)db.slot, (unsigned long long)db.cluster);
+    else
+        snprintf(line, sizeof line, "taken %s: lock %u of client %u, token %lld\n", asked.name, (unsigned)db.lock, FIRST_CLIENT + asked.host, (long long)db.slot);
+    return print(line, strlen(line));
+}
+
+/* Leaves the lock taken, and says which it is. Where nobody can hear that it is given back. */
+static int leave_taken(struct mg_session *session) {
+    bool is_removed = remove_sign(session);
+    if (is_removed && print_taken())
+        return 0;
+    say("%s: %s", is_removed ? "it could not be printed" : "the sign of life cannot be removed", strerror(errno));
+    if (is_removed)
+        (void)make_sign(db.cluster);
+    (void)give_back(session);
+    return FAILED;
+}
+
+/* The number of a lock, or the line that was printed when it was taken. Its host follows from it, and with MG_SHARE it is odd. */
+static bool read_lock(const char *text) {
+    char begins[64];
+    size_t length = (size_t)snprintf(begins, sizeof begins, "taken %.*s: lock ", MG_NAME_LENGTH + 1, asked.name);
+    bool is_line = strncmp(text, begins, length) == 0;
+    char *end;
+    unsigned long lock;
+    text += is_line ? length : 0;
+    lock = strtoul(text, &end, 10);
+    if (end == text || text[0] == '-' || (is_line ? *end != ' ' : *end != '\0') || lock % 2 == 0 || lock < FIRST_LOCK ||
+        lock >= FIRST_LOCK + LOCKS_OF_A_HOST * MG_HOSTS)
+        return false;
+    db.lock = (uint32_t)lock;
+    asked.host = ((unsigned)lock - FIRST_LOCK) / LOCKS_OF_A_HOST;
+    return true;
+}
+
+/* MG_OK: as far as a look tells the lock is in the table, and on this name. */
+static int look_for_it(struct mg_session *session) {
+    struct mg_lock_view view;
+    struct mg_host_view facts;
+    struct mg_host *host;
+    int status = mg_host_of(session, &host);
+    if (status == MG_OK)
+        status = mg_look(host, NULL);
+    if (status == MG_OK)
+        status = mg_host_facts(host, &facts);
+    if (status == MG_OK) {
+        db.cluster = facts.cluster;
+        status = mg_lock(host, db.lock, &view);
+    }
+    cause = errno;
+    if (status == MG_OK && (view.client != FIRST_CLIENT + asked.host || view.host != asked.host || strcmp(view.name, asked.name) != 0))
+        return MG_NO_SUCH_LOCK;
+    return status;
+}
+
+/* Releases it as one that is left over. A look sees nothing after a command without a mark, so it is recovered before a lock is not there. */
+static int release_it(struct mg_session *session) {
+    int recovered, status = look_for_it(session);
+    if (status != MG_OK) {
+        status = mg_recover(session, 0, NULL);
+        cause = errno;
+        if (status == MG_OK)
+            status = look_for_it(session);
+    }
+    if (status == MG_NO_SUCH_LOCK) {
+        say("there is nothing to give: %s has no lock %u", asked.name, (unsigned)db.lock);
+        return 1;
+    }
+    if (status != MG_OK)
+        return refuse(told(status), NULL);
+    if (!make_sign(db.cluster))
+        return refuse("the sign of life cannot be made", strerror(errno));
+    recovered = mg_recover(session, 0, NULL);
+    cause = errno;
+    status = look_for_it(session);
+    /* Whoever has released it has removed its sign. */
+    if (status == MG_NO_SUCH_LOCK || (recovered == MG_OK && access(path_of_sign(db.cluster), F_OK) != 0))
+        return 0;
+    if (recovered != MG_OK) {
+        say_what_stays(recovered);
+        return FAILED;
+    }
+    if (status != MG_OK)
+        return refuse(told(status), NULL);
+    say("there is nothing to give: a process has the lock %u on %s", (unsigned)db.lock, asked.name);
+    return 1;
+}
+
+static int give(const char *text) {
+    struct mg_session *session;
+    int status;
+    if (!read_lock(text))
+        return refuse("no lock that --take printed", text);
+    status = mg_begin(asked.folder, asked.host, MG_SHARE, &session, NULL);
+    cause = errno;
+    if (status != MG_OK)
+        return refuse(told(status), NULL);
+    status = release_it(session);
+    mg_end(session);
+    return status;
+}
+
+/* Each of them is tried. */
+static int give_all(void) {
+    int worst = 0;
+    for (char **text = asked.command; *text; text++) {
+        int status = give(*text);
+        if (status > worst)
+            worst = status;
+    }
+    return worst;
+}
+
 static int take_and_run(struct mg_session *session, const sigset_t *before) {
     bool lost = false;
     int result, status = mg_take(session, asked.name, asked.mode, asked.timeout, &db);
@@ -678,6 +848,8 @@ static int take_and_run(struct mg_session *session, const sigset_t *before) {
     if (asked.verbose)
         say("%s was granted after %.3f s", asked.name, seconds_since_begin());
     warn_of_end(session);
+    if (asked.takes)
+        return leave_taken(session);
     result = run(session, before, &lost);
     status = give_back(session);
     if (status == MG_NO_SUCH_LOCK && !lost)
@@ -696,6 +868,8 @@ int main(int argc, char **argv) {
         return show();
     begun = milliseconds();
     block_signals(&before);
+    if (asked.gives)
+        return give_all();
     status = mg_begin(asked.folder, asked.host, MG_SHARE, &session, NULL);
     cause = errno;
     if (status != MG_OK)

@@ -37,6 +37,11 @@ static struct {
     char **rest;                /* COMMAND, or NULL */
 } asked;
 
+static bool is_asked(enum word_name name) { return asked.word == &ALL_WORDS[name]; }
+
+/* What ends with the statuses of mg-lock. */
+static bool is_of_lock(void) { return is_asked(W_LOCK) || is_asked(W_TAKE) || is_asked(W_GIVE); }
+
 /* ---- saying ---- */
 
 /* A word in one line, with what a terminal would obey spelled out. Three may be shown at once. */
@@ -90,7 +95,7 @@ __attribute__((noreturn, format(printf, 1, 2))) static void wrong(const char *fo
     va_start(rest, format);
     say(format, rest, page);
     va_end(rest);
-    exit(asked.word == &ALL_WORDS[W_LOCK] ? LOCK_FAILED : WRONG);
+    exit(is_of_lock() ? LOCK_FAILED : WRONG);
 }
 
 /* The words are right, and it cannot be done. */
@@ -99,7 +104,7 @@ __attribute__((noreturn, format(printf, 1, 2))) static void refuse(const char *f
     va_start(rest, format);
     say(format, rest, " (see man mg, DIAGNOSTICS)");
     va_end(rest);
-    exit(asked.word == &ALL_WORDS[W_LOCK] ? LOCK_FAILED : REFUSED);
+    exit(is_of_lock() ? LOCK_FAILED : REFUSED);
 }
 
 /* What the library refused: "25 WrongHeader disk1 (disk1.img is of another set)". */
@@ -255,12 +260,12 @@ static void see_whole(bool is_parted) {
     if (asked.count < takes)
         wrong("%s is missing: %s", word->takes[asked.count], word->usage);
     if (!asked.rest && (word->needs_more || (is_parted && word->is_followed && !asked.given[O_COMMAND])))
-        wrong("COMMAND is missing: %s", word->usage);
+        wrong("%s is missing: %s", is_asked(W_GIVE) ? "LOCK" : "COMMAND", word->usage);
     if (asked.rest && asked.given[O_COMMAND])
         wrong("%s is a word too many: LINE of --command is one word, and no COMMAND follows", shown(asked.rest[0]));
     see_one_of(word->one_of[0]);
     see_one_of(word->one_of[1]);
-    if (word == &ALL_WORDS[W_LOCK])
+    if (is_of_lock())
         see_name(asked.taken[1]);
 }
 
@@ -482,6 +487,8 @@ __attribute__((noreturn)) static void become_folder(void) {
 
 __attribute__((noreturn)) static void become_lock(void) {
     begin_words("mg-lock", false);
+    if (is_asked(W_TAKE))
+        add("--take");
     for (const struct option_of *option = asked.word->options; option->name; option++)
         if (option->is != O_HOST && option->is != O_COMMAND)
             add_given(option);
@@ -493,6 +500,16 @@ __attribute__((noreturn)) static void become_lock(void) {
         add(asked.given[O_COMMAND]);
     } else if (asked.rest)
         add("--");
+    add_rest();
+    become_it();
+}
+
+/* The host follows from the number of a lock. */
+__attribute__((noreturn)) static void become_giving(void) {
+    begin_words("mg-lock", false);
+    add("--give");
+    add_folder(asked.taken[0]);
+    add(asked.taken[1]);
     add_rest();
     become_it();
 }
@@ -623,7 +640,9 @@ static int carry_out(void) {
     if (name == W_CREATE)
         see_room();
     switch (name) {
-    case W_LOCK: find_host(); become_lock();
+    case W_LOCK:
+    case W_TAKE: find_host(); become_lock();
+    case W_GIVE: become_giving();
     case W_STATUS: begin_status(); become_it();
     case W_WATCH: watch();
     case W_RECOVER:

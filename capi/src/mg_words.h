@@ -33,6 +33,8 @@ enum option_name {
 enum word_name {
     W_CREATE,
     W_LOCK,
+    W_TAKE,
+    W_GIVE,
     W_STATUS,
     W_WATCH,
     W_RECOVER,
@@ -138,6 +140,50 @@ static const struct word ALL_WORDS[WORDS] = {
         "  mg lock images db -- ./backup\n"
         "  mg lock images db --wait 60 -- ./backup\n"
         "  mg lock images db -n -E 75 -- ./backup\n",
+    },
+    [W_TAKE] = {
+        .name = "take",
+        .takes = {"FOLDER", "NAME"},
+        .is_followed = false,
+        .needs_more = false,
+        .options =
+            {{"host", O_HOST, 0, NUMBER, 0u, 15u, "0 to 15"},
+             {"mode", O_MODE, 'm', MODE, 0u, 0u, "NL, CR, CW, PR, PW, EX"},
+             {"wait", O_WAIT, 'w', SECONDS, 0u, 86400000u, "a number of seconds, 0 to 86400"},
+             {"json", O_JSON, 0, FLAG, 0u, 0u, ""}},
+        .one_of = {{OPTIONS, OPTIONS, OPTIONS}, {OPTIONS, OPTIONS, OPTIONS}},
+        .usage = "mg take FOLDER NAME [OPTION]..",
+        .help =
+        "usage: mg take FOLDER NAME [OPTION]..\n"
+        "Waits for the lock on NAME, prints its number and its token, and ends with 0: the lock stays.\n"
+        "The token grows from each holder of EX to the next: a resource can refuse a lower one. The\n"
+        "status is 1 if the lock was not granted in time; then nothing waits, and nothing is printed. The\n"
+        "lock has no process: mg give releases it, a purge of its host, and mg recover --all, but not mg\n"
+        "recover. If mg take was killed mg table shows whether it has taken a lock, and its number.\n"
+        "\n"
+        "      --host N        the host number; without it mg chooses one\n"
+        "  -m, --mode MODE     the mode; EX without it\n"
+        "  -w, --wait SECONDS  wait no longer, as 2.5\n"
+        "      --json          for programs: one object\n"
+        "\n"
+        "Example:\n"
+        "  mg take images db --wait 60\n",
+    },
+    [W_GIVE] = {
+        .name = "give",
+        .takes = {"FOLDER", "NAME"},
+        .is_followed = true,
+        .needs_more = true,
+        .one_of = {{OPTIONS, OPTIONS, OPTIONS}, {OPTIONS, OPTIONS, OPTIONS}},
+        .usage = "mg give FOLDER NAME LOCK..",
+        .help =
+        "usage: mg give FOLDER NAME LOCK..\n"
+        "Gives back locks on NAME that mg take took. LOCK is the number, or in one word the line that was\n"
+        "printed. The status is 1 where there is nothing to give, as the second time: so it may be run\n"
+        "again after a kill.\n"
+        "\n"
+        "Example:\n"
+        "  mg give images db 1541\n",
     },
     [W_STATUS] = {
         .name = "status",
@@ -348,6 +394,8 @@ static const char SHORT_HELP[] =
         "\n"
         "  mg create FOLDER     make the images of a folder\n"
         "  mg lock FOLDER NAME  run a command under a lock\n"
+        "  mg take FOLDER NAME  take a lock that stays when mg ends\n"
+        "  mg give FOLDER NAME  give back what mg take took\n"
         "  mg status FOLDER     show slots, disks and locks\n"
         "  mg watch FOLDER      show the status again and again\n"
         "  mg recover FOLDER    release what killed processes left\n"
@@ -366,6 +414,6 @@ static const char SHORT_HELP[] =
         "mg help WORD has the options, and an example. man mg says more. mg --version shows the version.\n";
 
 static const char NAMES_OF_WORDS[] =
-        "create, lock, status, watch, recover, submit, table, mark, check, migrate, run, sweep, help";
+        "create, lock, take, give, status, watch, recover, submit, table, mark, check, migrate, run, sweep, help";
 
 #endif
