@@ -311,7 +311,7 @@ END
         PATH=$work/stands:$PATH SLEEPS=60 setsid python3 -c 'import os, signal, sys; signal.signal(signal.SIGINT, signal.SIG_DFL); os.execvp(sys.argv[1], sys.argv[1:])' \
             "$PREFIX/bin/dlm-shared" check "$work/images" > "$work/said.txt" &
         checker=$!
-        for _ in {1..3000}; do
+        for _ in {1..6000}; do
             ! grep -q images "$work/said.txt" || break
             sleep 0.02
         done
@@ -544,7 +544,7 @@ holds() { # guard has db, as $holder, until descriptor 3 is closed
     ./guard images 0 < in > held.txt 2>&1 &
     holder=$!
     exec 3> in
-    for _ in {1..500}; do
+    for _ in {1..6000}; do
         [[ ! -s held.txt ]] || break
         sleep 0.02
     done

@@ -9,6 +9,14 @@ cp -- "$top/dlm" "$top/build.sh" "$work"
 printf '# bytes: a heading\ninspect:\ndisk: thiserror\nbeats: disk\nbench: disk\ndlm: inspect beats thiserror\n' > "$work/crates.txt"
 touch -- "$work/crates/dlm/src/main.rt" "$work/crates/disk/src/lib.rt" "$work/crates/disk/src/more.rt"
 
+# Until the clock of files has gone on, as seldom as it may do so: what is written from then on is newer than what was written before.
+cat > "$work/bin/tick" <<END
+#!/usr/bin/env bash
+touch -- "$work/ticked"
+until touch -- "$work/ticks" && [[ -n \$(find "$work/ticks" -newer "$work/ticked") ]]; do sleep 0.005; done
+END
+chmod +x -- "$work/bin/tick"
+
 # It proves the crates of the folder that it is run in, of which one was proved before. It fails where there is a file `broken`, and edits a source
 # in the midst of a build where there is a file `late`.
 cat > "$work/bin/rt" <<END
@@ -22,7 +30,7 @@ while read -r line; do
     echo "logic=proved functions=7 and more"
     echo "rt: \$crate proved"
 done < crates.txt
-[[ ! -e "$work/late" ]] || { rm "$work/late" && sleep 0.02 && echo late >> "$work/crates/dlm/src/main.rt"; }
+[[ ! -e "$work/late" ]] || { rm "$work/late" && "$work/bin/tick" && echo late >> "$work/crates/dlm/src/main.rt"; }
 mkdir -p crates/dlm/out && printf '#!/usr/bin/env bash\necho ran "\$@"\n' > crates/dlm/out/dlm && chmod +x crates/dlm/out/dlm
 echo "4 passed, 0 failed"
 END
@@ -42,11 +50,11 @@ expect() {
         echo "$1: written: $written, said: $(cat -- "$work/said")"
         failed=$((failed + 1))
     fi
-    sleep 0.02
+    tick
 }
 
 # As `cp -r` leaves it, where the program is copied first, and a while before the rest.
-all_newer() { sleep 0.02; find "$work/crates/"*/{src,specs} "$work/crates.txt" -exec touch {} + 2> /dev/null; sleep 0.02; }
+all_newer() { tick; find "$work/crates/"*/{src,specs} "$work/crates.txt" -exec touch {} + 2> /dev/null; tick; }
 
 expect "no program" yes
 expect "nothing changed" no

@@ -12,6 +12,13 @@ echo 1.7 > "$work/VERSION"
 printf '#define MG_VERSION_MAJOR 1\n#define MG_VERSION_MINOR 7\n' > "$work/capi/include/midgegalena.h"
 touch -- "$work/HANDLES" "$work/crates/"{dlm_c,disk}/src/lib.rt "$work/capi/src/mg-lock.c" "$work/stand_ins/c/"{libos_c,liblibc_c}.a
 
+# Until the clock of files has gone on, as seldom as it may do so: what is written from then on is newer than what was written before.
+cat > "$work/stand_ins/bin/tick" << END
+#!/usr/bin/env bash
+touch -- "$work/ticked"
+until touch -- "$work/ticks" && [[ -n \$(find "$work/ticks" -newer "$work/ticked") ]]; do sleep 0.005; done
+END
+
 # `rt check` says in which crate it is run, and fails where there is a file `unproved`. `rt lib` makes the archive of the crate that it is run in, says so, and
 # fails where there is a file `broken`; it edits a source in the midst where there is `late`. `rt ci` makes the program of crates/mg, and says so.
 cat > "$work/stand_ins/bin/rt" << END
@@ -21,7 +28,7 @@ cat > "$work/stand_ins/bin/rt" << END
 [[ \$1 == lib && \${PWD##*/} == dlm_c && ! -e "$work/broken" ]] || exit 1
 echo rt >> "$work/calls"
 mkdir -p out && date +%N > out/libdlm_c.a
-[[ ! -e "$work/late" ]] || { rm "$work/late" && sleep 0.02 && echo late >> src/lib.rt; }
+[[ ! -e "$work/late" ]] || { rm "$work/late" && "$work/stand_ins/bin/tick" && echo late >> src/lib.rt; }
 END
 # The others write what their word -o, or the archive's name, says.
 for name in cc ld ar objcopy; do
@@ -40,7 +47,7 @@ export PATH=$work/stand_ins/bin:$PATH
 # expect NAME CALLS: what a build calls, of `rt` and the linking of the shared object.
 expect() {
     local called
-    sleep 0.02
+    tick
     : > "$work/calls"
     "$work/capi/build.sh" "$work/usr" 2> "$work/said" || fail "$1: status $?: $(<"$work/said")"
     called=$(paste -sd ' ' "$work/calls")

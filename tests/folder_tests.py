@@ -26,7 +26,7 @@ def wants(what, got, wanted):
 def run(text):
     """The status, the output and what was told, of words parted by single spaces."""
     try:
-        ended = subprocess.run([PROGRAM, *text.split(" ")], stdin=subprocess.DEVNULL, capture_output=True, check=False, text=True, timeout=120)
+        ended = subprocess.run([PROGRAM, *text.split(" ")], stdin=subprocess.DEVNULL, capture_output=True, check=False, text=True, timeout=600)
     except subprocess.TimeoutExpired:
         raise Differs(f"`{text}`: does not end") from None
     return ended.returncode, ended.stdout, ended.stderr

@@ -88,7 +88,7 @@ class Round:
             os.mkdir(point)
             self.servers.append((subprocess.Popen([self.given.mount, folder, point]), point))
             self.folders[machine] = point
-        for _ in range(500):
+        for _ in range(12000):
             if all(os.path.exists(f"{point}/disk0.img") for _, point in self.servers):
                 return
             time.sleep(0.01)
@@ -180,7 +180,8 @@ class Round:
         deadline = time.monotonic() + self.given.seconds
         while any(each.is_alive() for each in threads):
             time.sleep(0.02)
-            self.stop |= time.monotonic() > deadline
+            # On slow disks it may take longer until something is acknowledged.
+            self.stop |= time.monotonic() > deadline + (0 if self.acks else 120)
         for each in threads:
             each.join()
 

@@ -253,27 +253,33 @@ if [[ -x $program ]]; then
     fi
     if [[ -e /dev/fuse ]]; then
         "$work/dlm-mount" "$work/c" "$work/shown" &
-        for _ in $(seq 100); do [[ -e $work/shown/disk0.img ]] && break || sleep 0.05; done
+        for _ in $(seq 2400); do [[ -e $work/shown/disk0.img ]] && break || sleep 0.05; done
         expect "dlm over dlm-mount" 0 "ack 5 Granted(000102030405060708090a0b0c0d0e0f)" "$program" submit "$work/shown" 2 enqueue 3 1 3 NL db
         expect "another machine's number there" 1 "dlm: 37 NoLock host1" "$program" table "$work/shown" 1
         expect "what it did" 0 "recovered 6" bash -c '"$1" table "$2" 1 | head -n 1' _ "$shared" "$work/b"
         umount "$work/shown"
         wait
-        # A disk that was not there, and devices that go and come back: the same mount works on with them.
+        # A disk that was not there, and devices that go and come back, which the mount looks for once a second: it works on with them.
+        comes() {
+            for _ in $(seq 600); do
+                [[ $("$program" table "$work/shown" 2 2> /dev/null | head -n 1) != "recovered 6" ]] || break
+                sleep 0.2
+            done
+        }
         mv -- "$work/c/disk1.img" "$work/c/away1"
         mv -- "$work/c/disk2.img" "$work/c/away2"
         GONE=$work/gone "$work/dlm-mount-gone" "$work/c" "$work/shown" &
-        for _ in $(seq 100); do [[ -e $work/shown/disk0.img ]] && break || sleep 0.05; done
+        for _ in $(seq 2400); do [[ -e $work/shown/disk0.img ]] && break || sleep 0.05; done
         expect "one disk of three" 1 "dlm: 37 NoLock host2" "$program" table "$work/shown" 2
         mv -- "$work/c/away1" "$work/c/disk1.img"
         mv -- "$work/c/away2" "$work/c/disk2.img"
-        sleep 2
+        comes
         expect "disks that came" 0 "recovered 6" bash -c '"$1" table "$2" 2 | head -n 1' _ "$program" "$work/shown"
         exec 5< "$work/shown/disk0.img"
         touch -- "$work/gone"
         expect "no disk" 1 "dlm: 37 NoLock host2" "$program" table "$work/shown" 2
         rm -- "$work/gone"
-        sleep 2
+        comes
         expect "disks that came back" 0 "recovered 6" bash -c '"$1" table "$2" 2 | head -n 1' _ "$program" "$work/shown"
         ! dd bs=4096 count=1 status=none <&5 > "$work/told" 2>&1 || fail "a file that was open before reads on"
         exec 5<&-

@@ -12,8 +12,8 @@
  *     }
  *     mg_end(session);
  *
- * Sessions of host H are client 240 + H, and use the lock numbers from 1536 + 4000 H on. Whoever counts for himself, by the six
- * commands or by the program dlm, takes clients and locks below 240 and 1536.
+ * Sessions of host H are client 240 + H, and use the lock numbers from 1536 + 4000 H on. Whoever counts for himself, by the
+ * commands of a host or by the program dlm, takes clients and locks below 240 and 1536.
  *
  * A session is for one thread at a time. A child of fork may use no session of its parent.
  */

@@ -27,14 +27,19 @@ def expect(well, what):
     return well
 
 
-def until(what, seconds=20):
-    """Whether it came true in time."""
+def until(what, seconds=120):
+    """Whether it came true in time: the machine may have other work, and its disks may be slow."""
     end = time.monotonic() + seconds
     while time.monotonic() < end:
         if what():
             return True
         time.sleep(0.01)
     return False
+
+
+def in_time(what, tries=3):
+    """Whether it was in time, once of so many tries: where the machine has other work it may be late, and what is late each time is late by itself."""
+    return any(what() for _ in range(tries))
 
 
 def finish(name, more=""):

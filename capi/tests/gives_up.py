@@ -25,7 +25,7 @@ OPERATOR, HOLDER = "13", "5"  # hosts
 def told(process):
     """How a process of mg-lock ended, and what it said. One that hangs is ended."""
     try:
-        err = process.communicate(timeout=90)[1]
+        err = process.communicate(timeout=600)[1]
     except subprocess.TimeoutExpired:
         process.kill()
         err = process.communicate()[1] + "(killed: it did not end)"
@@ -98,7 +98,7 @@ def is_released(what, folder, host):
 
 
 def another_gets_it(what, folder):
-    status, said = run("-w", "3", folder.at, 3, "db", "--", "true")
+    status, said = run("-w", "60", folder.at, 3, "db", "--", "true")
     expect(status == 0, f"{what}: another host does not get the lock: status {status}, {said}")
 
 
@@ -114,13 +114,18 @@ def lets_go(folder):
     do("submit", folder.at, HOLDER, "release", 7, 2, 9)
 
 
-def wait_gives_up(what, folder, breaks, mends, by_signal):
-    process = waits(folder, "-w", 600 if by_signal else 3)
-    breaks()
-    if by_signal:
-        process.send_signal(signal.SIGTERM)
-    status, said = told(process)
-    mends()
+def wait_gives_up(what, name, slots, breaks, mends, by_signal):
+    # Where the machine has other work a short time may be up before that is done, and the wait leaves nothing.
+    for seconds in (600,) if by_signal else (3, 15, 60):
+        folder = Folder(f"{name}{seconds}", slots)
+        process = waits(folder, "-w", seconds)
+        breaks(folder)
+        if by_signal:
+            process.send_signal(signal.SIGTERM)
+        status, said = told(process)
+        mends(folder)
+        if status != 1 or said or folder.locks(1):
+            break
     if expect(len(folder.locks(1)) == 1, f"{what}: its lock cannot have gone: status {status}, {said}"):
         is_said(what, 1, status, said, (125, -signal.SIGTERM) if by_signal else (125,))
     is_released(what, folder, 1)
@@ -130,10 +135,8 @@ def wait_gives_up(what, folder, breaks, mends, by_signal):
 
 def waits_give_up():
     for by_signal, how in ((False, "a wait whose time is up"), (True, "a wait that SIGTERM ends")):
-        folder = Folder(f"full{by_signal:d}")
-        wait_gives_up(f"{how}, full log", folder, folder.fill, folder.renew, by_signal)
-        folder = Folder(f"lost{by_signal:d}", slots=64)
-        wait_gives_up(f"{how}, lost disks", folder, folder.lose_disks, folder.bring_disks_back, by_signal)
+        wait_gives_up(f"{how}, full log", "full", 24, Folder.fill, Folder.renew, by_signal)
+        wait_gives_up(f"{how}, lost disks", "lost", 64, Folder.lose_disks, Folder.bring_disks_back, by_signal)
 
 
 def holder_ends():

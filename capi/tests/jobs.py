@@ -68,7 +68,7 @@ try:
             jobs += 1
         running[host] = begin(images, host, folder)
     for worker in running:
-        assert worker.wait(120) == 0, worker.returncode
+        assert worker.wait(3600) == 0, worker.returncode
 finally:
     for worker in running:
         worker.kill()
@@ -76,24 +76,24 @@ expect_done(folder, jobs)
 with Session(images, workers, library=library) as session:
     assert session.locks() == [], session.locks()
 # With nothing to do a worker ends.
-assert begin(images, 0, folder).wait(30) == 0
+assert begin(images, 0, folder).wait(3600) == 0
 
 # The log gets full: a worker says so, and what it has done is done. No job is lost.
 images, folder = spool("full", 9, 20)
 worker = begin(images, 0, folder, stderr=subprocess.PIPE, text=True)
-said = worker.communicate(timeout=90)[1]
+said = worker.communicate(timeout=3600)[1]
 assert worker.returncode == 1 and said.startswith(f"jobs.py: {LOG_FULL} "), said
 done = set(os.listdir(folder / "done"))
 assert done and done | set(os.listdir(folder / "todo")) == {str(job) for job in range(20)}, done
 # Once the log is another one the rest is done.
 images, _ = spool("full-2", 4096, 0)
-assert begin(images, 0, folder).wait(60) == 0
+assert begin(images, 0, folder).wait(3600) == 0
 expect_done(folder, 20)
 
 # The host number is another process's.
 with Session(images, 0, library=library):
     worker = begin(images, 0, folder, stderr=subprocess.PIPE, text=True)
-    assert worker.communicate(timeout=60)[1].startswith("jobs.py: 36 ") and worker.returncode == 1
+    assert worker.communicate(timeout=3600)[1].startswith("jobs.py: 36 ") and worker.returncode == 1
 try:
     Session(images, 0, interval=0, library=library)
     raise AssertionError("an interval of 0")

@@ -65,7 +65,7 @@ static void by_commands(const char *folder) {
     IS(mg_mark(host, NULL), MG_OK);
     IS(seen(), 5);
     IS(mg_status(host, 1, 6, 1, &answer), MG_OK);
-    IS(mg_wait(host, 1, 5, 1000, &granted), MG_OK);
+    IS(mg_wait(host, 1, 5, 60000, &granted), MG_OK);
     IS(seen(), 6);
     IS(mg_status(host, 1, 7, 1, &answer), MG_OK);
     IS(mg_enqueue(host, 1, 8, 3, MG_NL, "three", 0, &answer), MG_OK);
@@ -118,7 +118,7 @@ static void by_sessions(const char *folder, unsigned flags) {
     IS(mg_mark_taken(session), MG_OK);
     for (int way = 0; way < 4; way++) {
         long before = seen();
-        IS(mg_take(session, "db", MG_EX, 1000, &held), MG_OK);
+        IS(mg_take(session, "db", MG_EX, 60000, &held), MG_OK);
         IS(held.slot, before);
         IS(seen(), before);
         IS(mg_open(path, 0, &host, NULL), MG_HOST_IN_USE);
@@ -138,7 +138,7 @@ static void by_sessions(const char *folder, unsigned flags) {
         IS(seen(), before + 2);
         IS(mg_mark_taken(session), MG_OK);
     }
-    IS(mg_take(session, "db", MG_EX, 1000, &held), MG_OK);
+    IS(mg_take(session, "db", MG_EX, 60000, &held), MG_OK);
     mg_end(session);
     IS(seen(), 9);
     IS(mg_lock(eye, held.lock, &view), MG_OK);
@@ -156,7 +156,7 @@ static void killed_before(const char *folder) {
     for (unsigned host = 0; host < 2; host++) {
         pid_t child = fork();
         if (child == 0) {
-            if (mg_begin(path, 0, MG_LATE | MG_SHARE, &session, NULL) == MG_OK && mg_take(session, "db", MG_EX, 1000, &held) == MG_OK)
+            if (mg_begin(path, 0, MG_LATE | MG_SHARE, &session, NULL) == MG_OK && mg_take(session, "db", MG_EX, 60000, &held) == MG_OK)
                 raise(SIGKILL);
             _exit(1);
         }
@@ -168,7 +168,7 @@ static void killed_before(const char *folder) {
             mg_end(session);
         }
         IS(mg_begin(path, 0, MG_SHARE, &session, NULL), MG_OK);
-        IS(mg_take(session, "db", MG_EX, 10000, &held), MG_OK);
+        IS(mg_take(session, "db", MG_EX, 60000, &held), MG_OK);
         IS(mg_give(session, held.lock, NULL), MG_OK);
         mg_end(session);
     }

@@ -1,7 +1,7 @@
 /*
  * How late a take comes back whose time is up, or which is told to stop, while five other hosts take and give without a pause. Each leaves the queue. And one
- * that is told once is told, also while it releases what others left. Where the machine has other work a take may be late, too: so it is tried up to three
- * times, and what is late each time is late by itself.
+ * that is told once is told, also while it releases what others left. Where the machine has other work all of them are slower: so time goes on no faster than
+ * the turns that the five have meanwhile, of which TURNS are a second's. And it is tried up to three times: what is late each time is late by itself.
  * Linked as device_faults.c says: a sync of what was written lasts as long as SYNC, whatever the disk is.
  *
  *   over FOLDER      an empty folder
@@ -26,14 +26,21 @@
 #define SYNC 2000   /* microseconds */
 
 /* Milliseconds. */
-#define ENDS 100    /* when a take is to end */
-#define MOSTLY 1000 /* when three of four takes have ended */
-#define ALWAYS 8000 /* when each has ended */
+#define ENDS 100      /* when a take is to end */
+#define MOSTLY 1000   /* when three of four takes have ended */
+#define ALWAYS 8000   /* when each has ended */
+#define TURNS 20      /* of the five, in a second: fewer than they have where the machine has no other work */
+#define LONGEST 60000 /* so long one take may last by the clock, too */
 
 enum { HOSTS = 5, FIRST_HOST = 2, TAKES = 20, SECONDS = 6, TRIES = 3, LOG_SLOTS = 2048, FEW_SLOTS = 500, MILLION = 1000000, LEFT = 20, PAUSES = 4 };
 
-/* Slots that are left in the log, as the busy hosts know it. */
-static volatile uint64_t *slots_left;
+/* Slots that are left in the log, as the busy hosts know it, and how many turns they have had. */
+static struct shared {
+    volatile uint64_t slots_left;
+    long turns;
+} *shared;
+
+static long turns(void) { return __atomic_load_n(&shared->turns, __ATOMIC_SEQ_CST); }
 
 static void works(const char *folder, unsigned host) {
     struct mg_session *session;
@@ -44,8 +51,9 @@ static void works(const char *folder, unsigned host) {
     while (status == MG_OK || status == MG_TIMED_OUT || status == MG_IN_DOUBT) {
         status = mg_take(session, name, MG_EX, 1000, &held);
         if (status == MG_OK) {
-            *slots_left = held.slots_left;
+            shared->slots_left = held.slots_left;
             status = mg_give(session, held.lock, NULL);
+            (void)__atomic_fetch_add(&shared->turns, 1, __ATOMIC_SEQ_CST);
         }
     }
     _exit(status != MG_LOG_FULL);
@@ -82,13 +90,13 @@ static void begin(struct scene *scene, int left) {
         leave(scene->folder, left);
     IS(mg_begin(scene->folder, 0, 0, &scene->holder, NULL), MG_OK);
     IS(mg_take(scene->holder, "db", MG_EX, 0, &held), MG_OK);
-    *slots_left = LOG_SLOTS;
+    shared->slots_left = LOG_SLOTS;
     for (unsigned i = 0; i < HOSTS; i++) {
         scene->workers[i] = fork();
         if (scene->workers[i] == 0)
             works(scene->folder, FIRST_HOST + i);
     }
-    for (int i = 0; *slots_left == LOG_SLOTS && i < 10000; i++)
+    for (int i = 0; shared->slots_left == LOG_SLOTS && i < 120000; i++)
         usleep(1000);
 }
 
@@ -115,19 +123,21 @@ static int rest(void *with, int length) {
     return milliseconds() >= stops_at;
 }
 
-/* So long one take lasts. It ends by its time, or is told to stop then. */
+/* So long one take lasts, by the turns of the others where these say less. It ends by its time, or is told to stop then. */
 static int64_t take(struct mg_session *session, bool stops) {
-    int64_t began = milliseconds(), stops_at = began + ENDS;
+    int64_t began = milliseconds(), stops_at = began + ENDS, by_turns;
+    long before = turns();
     struct mg_held held;
     int status;
     IS(mg_set_rest(session, stops ? rest : NULL, &stops_at), MG_OK);
     status = mg_take(session, "db", MG_EX, stops ? -1 : ENDS, &held);
     began = milliseconds() - began;
+    by_turns = ENDS + (turns() - before) * 1000 / TURNS;
     if (status != (stops ? MG_STOPPED : MG_TIMED_OUT)) {
         printf("a take of what another host holds said %d\n", status);
         failures++;
     }
-    return began;
+    return began < by_turns || began > LONGEST ? began : by_turns;
 }
 
 /* Whether they ended in time. */
@@ -143,7 +153,7 @@ static bool try_takes(const char *kind, unsigned flags, bool stops) {
         worst = lasted > worst ? lasted : worst;
         late += lasted > MOSTLY;
         takes++;
-        if (*slots_left < FEW_SLOTS) {
+        if (shared->slots_left < FEW_SLOTS) {
             mg_end(session);
             end(&scene);
             begin(&scene, 0);
@@ -182,7 +192,7 @@ static void try_once(unsigned flags) {
         begin(&scene, LEFT);
         IS(mg_begin(scene.folder, 1, flags, &session, NULL), MG_OK);
         IS(mg_set_rest(session, stops_once, &pauses), MG_OK);
-        status = mg_take(session, "db", MG_EX, 3000, &held);
+        status = mg_take(session, "db", MG_EX, 60000, &held);
         if (status != MG_STOPPED) {
             printf("told to stop in pause %d alone: mg_take said %d\n", pause, status);
             failures++;
@@ -196,8 +206,8 @@ int main(int argc, char **argv) {
     if (argc != 2)
         return 2;
     work = argv[1];
-    slots_left = mmap(NULL, sizeof *slots_left, PROT_READ | PROT_WRITE, MAP_SHARED | MAP_ANONYMOUS, -1, 0);
-    if (slots_left == MAP_FAILED)
+    shared = mmap(NULL, sizeof *shared, PROT_READ | PROT_WRITE, MAP_SHARED | MAP_ANONYMOUS, -1, 0);
+    if (shared == MAP_FAILED)
         return 2;
     set_sync(SYNC);
     for (int stops = 0; stops < 2; stops++) {

@@ -71,7 +71,7 @@ def pools():
             again = pickle.loads(pickle.dumps(why, protocol))
             assert (type(again), str(again), again.status, again.lock, again.told) == (kind, str(why), HOST_IN_USE, 1536, "by whom"), again
     with multiprocessing.get_context("fork").Pool(1) as pool:
-        why = raises(Refused, pool.map_async(is_refused, [0]).get, 20)
+        why = raises(Refused, pool.map_async(is_refused, [0]).get, 120)
         assert why.status == HOST_IN_USE, why
 
 
@@ -91,7 +91,7 @@ def stops():
         begun = time.monotonic()
         timer.start()
         raises(Stopped, hold, refused, "db", stop=stop)
-        assert 0.2 <= time.monotonic() - begun < 3, time.monotonic() - begun
+        assert 0.2 <= time.monotonic() - begun < 60, time.monotonic() - begun
         raises(Stopped, hold, refused, "other", stop=stop)
         assert len(holder.locks()) == 1, holder.locks()
         timer.join()
@@ -113,7 +113,7 @@ def interrupted():
         before = signal.signal(signal.SIGALRM, interrupt)
         signal.setitimer(signal.ITIMER_REAL, 0.001, 0.001)
         try:
-            raises(KeyboardInterrupt, hold, refused, "db", timeout=10)
+            raises(KeyboardInterrupt, hold, refused, "db", timeout=60)
         finally:
             signal.setitimer(signal.ITIMER_REAL, 0)
             signal.signal(signal.SIGALRM, before)
@@ -147,7 +147,7 @@ def fenced():
                     write(database, first, line)
                     assert text() == [(line,)]
                 purge(0)
-                with other.lock("page", timeout=5) as second:
+                with other.lock("page", timeout=60) as second:
                     write(database, second, "three")
                     raises(RuntimeError, write, database, first, "four")
                     assert text() == [("three",)], text()

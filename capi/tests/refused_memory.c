@@ -128,7 +128,7 @@ static int use_session(const char *folder, unsigned flags) {
     int status = mg_begin(folder, 1, flags, &session, NULL), given = MG_OK;
     if (status != MG_OK)
         return status;
-    status = mg_take(session, "db", MG_PR, 1000, &held);
+    status = mg_take(session, "db", MG_PR, 60000, &held);
     if (status == MG_OK)
         status = mg_check(session, held.lock);
     if (held.lock != 0)

@@ -151,7 +151,7 @@ static void taken_and_given(const char *name, unsigned flags) {
     /* A value, that a null lock keeps. */
     IS(mg_take(second, "db", MG_NL, 0, &c), MG_OK);
     IS(mg_give(first, a.lock, "0123456789abcdef"), MG_OK);
-    IS(mg_take(second, "db", MG_EX, 1000, &b), MG_OK);
+    IS(mg_take(second, "db", MG_EX, 60000, &b), MG_OK);
     IS(memcmp(b.value.bytes, "0123456789abcdef", 16), 0);
     IS(b.slot > a.slot, 1);
     IS(mg_give(second, b.lock, NULL), MG_OK);
@@ -275,7 +275,7 @@ static void left_over(void) {
     IS(mg_give(other, b.lock, NULL), MG_OK);
     mg_end(other);
     session = begun(path, 0, MG_SHARE);
-    IS(mg_take(session, "db", MG_EX, 2000, &b), MG_OK);
+    IS(mg_take(session, "db", MG_EX, 60000, &b), MG_OK);
     IS(mg_give(session, b.lock, NULL), MG_OK);
     IS(locks_of(path), 0);
     mg_end(session);
@@ -287,7 +287,7 @@ static void left_over(void) {
     IS(mg_give(session, a.lock, NULL), MG_OK);
     IS(a.released, 1);
     killed(takes_db_shared, path);
-    IS(mg_take(session, "db", MG_EX, 2000, &a), MG_OK);
+    IS(mg_take(session, "db", MG_EX, 60000, &a), MG_OK);
     IS(a.released, 1);
     /* One that lives is left alone, by both kinds; and a session of the other kind leaves what it does not know. */
     other = begun(path, 0, MG_SHARE);
@@ -376,7 +376,7 @@ static void purged(void) {
     IS(mg_give(shares, a.lock, NULL), MG_NO_SUCH_LOCK);
     if (fork() == 0)
         _exit(purges_who_waits(path));
-    IS(mg_take(shares, "db", MG_EX, 20000, &a), MG_NO_SUCH_LOCK);
+    IS(mg_take(shares, "db", MG_EX, 120000, &a), MG_NO_SUCH_LOCK);
     IS(a.lock, 0);
     wait(NULL);
     mg_end(shares);

@@ -16,14 +16,14 @@ import time
 from concurrent.futures import ThreadPoolExecutor
 
 import heard  # noqa: F401
-from checks import endless, expect, finish, lay_out, until
+from checks import endless, expect, finish, in_time, lay_out, until
 
 mg_lock, dlm, work, with_answers = map(os.path.abspath, sys.argv[1:])
 images, held = os.path.join(work, "images"), os.path.join(work, "held")
 
 
 def run(*words, by=mg_lock, **more):
-    return subprocess.run([by, *map(str, words)], capture_output=True, text=True, timeout=30, **more)
+    return subprocess.run([by, *map(str, words)], capture_output=True, text=True, timeout=300, **more)
 
 
 def begin(*words, by=mg_lock, environment=(), **more):
@@ -39,14 +39,16 @@ def left_nothing(what):
     expect("granted" not in table() and "waiting" not in table(), f"{what}: no lock is left:\n{table()}")
 
 
-# Tells that it is there, and then how many of these signals reached it until half a second after so many.
+# Tells that it is there, and then how many of these signals reached it until half a second after so many, or until its input ended a while ago.
 COUNTS = """
-import os, signal, sys, time
+import os, select, signal, sys, time
 if "leaves" in sys.argv: os.setpgrp()
 got = []
 for number in (signal.SIGTERM, signal.SIGINT): signal.signal(number, lambda *_: got.append(1))
 print("here", flush=True)
-while len(got) < int(sys.argv[1]): time.sleep(0.01)
+while len(got) < int(sys.argv[1]) and not select.select([sys.stdin], [], [], 0.01)[0]: pass
+end = time.monotonic() + 10
+while len(got) < int(sys.argv[1]) and time.monotonic() < end: time.sleep(0.01)
 time.sleep(0.5)
 print(len(got), flush=True)
 """
@@ -68,24 +70,36 @@ def to_both(process, number):
 
 def of_the_group():
     """What is sent to the group, to mg-lock, or to both, reaches the command once. So does what is sent to the group that the command has left."""
-    def counted(name, number, *ways, leaves=False):
+    def counted(name, number, *ways, leaves=False, pause=0):
         """How many reached the command, of one for each way."""
-        process = begin(images, 0, name, "--", sys.executable, "-S", "-E", "-c", COUNTS, len(ways), *["leaves"] * leaves, stdout=subprocess.PIPE, text=True)
+        process = begin(images, 0, name, "--", sys.executable, "-S", "-E", "-c", COUNTS, len(ways), *["leaves"] * leaves,
+                        stdin=subprocess.PIPE, stdout=subprocess.PIPE, text=True)
         process.stdout.readline()
         for how in ways:
             how(process, number)
-            time.sleep(0.15 if len(ways) > 1 else 0)
-        got = process.communicate(timeout=30)[0].strip()
+            time.sleep(pause)
+        got = process.communicate(timeout=300)[0].strip()
         return got if process.returncode == 0 else f"it ended with {process.returncode}"
+
+    def tried(i, how, leaves):
+        """mg-lock waits for the second of two signals, but not for long: where this process has to wait in between it is tried again."""
+        got = []
+        while got[-1:] != ["1"] and len(got) < (3 if how == to_both else 1):
+            got.append(counted(f"db{i}", tries[i], how, leaves=leaves))
+        return got[-1]
 
     tries = [(signal.SIGTERM, signal.SIGINT)[i % 2] for i in range(8)]
     with ThreadPoolExecutor(len(tries)) as pool:
         for how, leaves in ((to_group, False), (to_it, False), (to_both, False), (to_group, True)):
-            got = list(pool.map(lambda i: counted(f"db{i}", tries[i], how, leaves=leaves), range(len(tries))))
+            got = list(pool.map(lambda i: tried(i, how, leaves), range(len(tries))))
             expect(got == ["1"] * len(tries), f"{how.__name__}{', which the command has left' * leaves}: it reached the command so often: {got}")
-    # One after the other: each is told from the one before.
-    got = counted("db", signal.SIGTERM, to_group, to_it, to_group, to_it)
-    expect(got == "4", f"four, one after the other: {got}")
+    # One after the other: each is told from the one before, once mg-lock and the command have heard that.
+    got = []
+    for pause in (0.15, 1, 5):
+        got.append(counted("db", signal.SIGTERM, to_group, to_it, to_group, to_it, pause=pause))
+        if got[-1] == "4":
+            break
+    expect(got[-1] == "4", f"four, one after the other: {got}")
     left_nothing("group")
 
 
@@ -130,7 +144,7 @@ def has_stopped(process):
     def stands():
         with open(f"/proc/{process.pid}/stat") as file:
             return file.read().rpartition(") ")[2][0] == "T"
-    return until(stands, 5)
+    return until(stands)
 
 
 def number_is_free(host):
@@ -148,7 +162,7 @@ def job_control():
     expect(has_stopped(stopped), "SIGTSTP in the midst of a talk: it stops")
     expect(number_is_free(0), "SIGTSTP in the midst of a talk: it keeps the host number")
     stopped.send_signal(signal.SIGCONT)
-    expect(stopped.wait(20) == 0, "and goes on")
+    expect(stopped.wait(300) == 0, "and goes on")
     first = begin(images, 0, "db", "--", "sh", "-c", f"echo > {held}; exec sleep 1000")
     expect(until(lambda: os.path.exists(held)), "one holds")
     waiting = begin(images, 0, "db", "--", "true")
@@ -163,7 +177,7 @@ def job_control():
     expect(has_stopped(first) and number_is_free(0), "SIGTSTP while the command runs")
     to_group(first, signal.SIGCONT)
     to_it(first, signal.SIGTERM)
-    expect(first.wait(20) == 143 and waiting.wait(20) == 0, "the next one gets it")
+    expect(first.wait(300) == 143 and waiting.wait(300) == 0, "the next one gets it")
     left_nothing("job control")
 
 
@@ -178,7 +192,7 @@ def looks_on():
         to_it(process, signal.SIGUSR1)
         time.sleep(0.3)
         return process.poll() is not None
-    expect(until(has_ended, 5) and process.returncode == 143, f"-k 1 with a signal every 0.3 s: {process.returncode}")
+    expect(until(has_ended, 60) and process.returncode == 143, f"-k 1 with a signal every 0.3 s: {process.returncode}")
     if process.poll() is None:
         to_group(process, signal.SIGKILL)
         process.wait()
@@ -209,9 +223,14 @@ def causes():
 
 def late():
     """A lock that comes long after its time is given back, as to a process that stood still meanwhile."""
-    for seconds, options, status in ((10, ["-w", "1"], 75), (3, ["-w", "1"], 0), (10, [], 0)):
-        said = run(*options, "-E", 75, images, 0, "db", "--", "true", by=with_answers, env={**os.environ, "LATE": str(seconds)})
-        expect(said.returncode == status and said.stderr == "", f"{options}, granted after {seconds} s: {said}")
+    for seconds, options, status in ((10, ["-w", "1"], 75), (2, ["-w", "1"], 0), (10, [], 0)):
+        said = []
+
+        def ends_so():
+            said.append(run(*options, "-E", 75, images, 0, "db", "--", "true", by=with_answers, env={**os.environ, "LATE": str(seconds)}))
+            return said[-1].returncode == status and said[-1].stderr == ""
+
+        expect(in_time(ends_so), f"{options}, granted after {seconds} s: {said}")
     left_nothing("late")
 
 

@@ -45,7 +45,7 @@ def submit(host, line):
 
 
 def run(*words, **more):
-    return subprocess.run([mg_lock, *map(str, words)], capture_output=True, text=True, timeout=60, **more)
+    return subprocess.run([mg_lock, *map(str, words)], capture_output=True, text=True, timeout=300, **more)
 
 
 def told(status=0):
@@ -146,7 +146,7 @@ def samples_of(status, folder, in_epoch):
 
 
 def show(*words, shows=(mg_lock,)):
-    return subprocess.run([*shows, "--status", *words], capture_output=True, timeout=60)
+    return subprocess.run([*shows, "--status", *words], capture_output=True, timeout=300)
 
 
 def measured(what, status=0, named=images, label=None, shows=(mg_lock,)):
@@ -209,7 +209,7 @@ def names():
     expect(all(name in shown for name in given), f"names: {shown}")
     measured("names")
     # A byte that is no text can only be in the folder's name.
-    said = subprocess.run([mg_lock, images, "0", b"a\xff", "true"], capture_output=True, timeout=60)
+    said = subprocess.run([mg_lock, images, "0", b"a\xff", "true"], capture_output=True, timeout=300)
     expect(said.returncode == 125 and len(told()["locks"]) == len(given), f"a name with a byte that is no text: {said}")
     for name, label in ((b'"\\\n,} 1\r\t\xc3\xa9', '"\\\n,} 1\r\t\u00e9'), (b"\xff\xc3", "\\xff\\xc3"), (b"\xed\xa0\x80 \xe2\x82\xac", "\\xed\\xa0\\x80 \u20ac"),
                         (b"\xc0\xaf\xf4\x90\x80\x80\xf0\x9f\x90\x9d", "\\xc0\\xaf\\xf4\\x90\\x80\\x80\U0001f41d")):
@@ -254,7 +254,7 @@ def hosts():
     measured("hosts")
     for file in [*files, shared]:
         os.close(file)
-    waits.wait(20)
+    waits.wait(120)
     expect(told()["hosts"] == [], f"hosts that let go: {told()['hosts']}")
     os.unlink(elsewhere)
 
@@ -270,7 +270,7 @@ def killed():
     expect([(it["held"], it["wanted"], it["sign"]) for it in told()["locks"][1:]] == [(None, "EX", "held")] * 2, f"the others: {told()['locks']}")
     for process in others:
         process.terminate()
-        process.wait(20)
+        process.wait(120)
     # Its command lives on.
     holder.kill()
     holder.wait()
@@ -303,7 +303,7 @@ def without_proc():
     expect("host numbers in use on this machine: not known, /proc/locks cannot be read\n" in said.stdout, f"without /proc: {said}")
     expect("locks_left_over" not in measured("without /proc", shows=(*hides, mg_lock)), "without /proc, for Prometheus")
     os.killpg(holder.pid, signal.SIGTERM)
-    holder.wait(20)
+    holder.wait(120)
 
 
 def facts():
@@ -351,7 +351,7 @@ def only_looks():
     expect(refused == 0, f"a host was kept from its number {refused} times")
     expect(facts() == before, "something in the folder was changed")
     os.killpg(holder.pid, signal.SIGTERM)
-    holder.wait(20)
+    holder.wait(120)
 
 
 def named(disk):
