@@ -102,6 +102,11 @@ memory=$(mktemp -d -p /dev/shm 2> /dev/null) && trap 'rm -rf -- "$work" "$memory
 tried "endless" "$work/endless" "$memory" "$dlm"
 says_endless() { { "$@" 2>&1 || true; } | grep -q ' 25 WrongHeader disk0 (an image for the processes of one machine alone: '; }
 tried "refused: dlm-shared" says_endless "$PREFIX/bin/dlm-shared" table "$memory/epochs" 0
+# A lost image is replaced there: by the test, and by dlm.
+tried "replaced, built" cc -std=c99 $common "$here/tests/replaced.c" $flags -o "$work/replaced"
+mkdir -- "$memory/replaced" "$memory/replaced_by_dlm"
+tried "replaced" "$work/replaced" "$memory/replaced"
+[[ ! -x $dlm ]] || tried "replaced by dlm" "$work/replaced" "$memory/replaced_by_dlm" "$dlm"
 rm -rf -- "$memory"
 endless_test() { # PROGRAM [WORD..]: builds it so that the logs of its folders have no end
     local source=$here/tests/$1.c

@@ -33,6 +33,7 @@ def seconds(name, least, most, text, letter=""):
     return option(name, "SECONDS", text, "SECONDS", least, most, f"a number of seconds, {least / 1000:g} to {most // 1000}", letter)
 
 
+DISKS = [str(disk) for disk in range(7)]
 MODES = ["NL", "CR", "CW", "PR", "PW", "EX"]
 HOST = number("host", "N", 0, 15, "the host number; without it mg chooses one")
 JSON = option("json", "FLAG", "for programs: an object a line")
@@ -124,6 +125,10 @@ WORDS = [
     word("migrate", "FOLDER", [JSON], "make a log that ends endless",
          ["Makes the log of FOLDER one without an end, in its own images.", "Stop every host of the folder before, and copy the images: there is no way back."],
          ["mg migrate images"]),
+    word("replace", "FOLDER DISK", [], "make a new image in the place of a lost one",
+         ["Makes a new image of number DISK, 0 to 6, in the place of a lost one, in a log without an end.",
+          "End every process that has FOLDER open before, and move away what has the name of the image.", "Until the epoch that it prints the new image counts as lost."],
+         ["mg replace images 1"]),
     word("run", "SCRIPT", [], "run a script over disks in memory", ["Runs SCRIPT over disks in memory, with hosts, faults and crashes where it says so.", "A SCRIPT `-` is the standard input."],
          ["mg run examples/first_reply.dlm"]),
     word("sweep", "SCRIPT", [], "run a script with each single fault", ["Runs SCRIPT once for each fault before each of its steps, and says how many runs were wrong.", "A SCRIPT `-` is the standard input."],
@@ -281,7 +286,7 @@ def synopsis(it):
 
 def in_page(text):
     """FOLDER, NAME and so on are arguments of the page, and small letters there."""
-    return re.sub(r"\b(FOLDER|NAME|COMMAND|SCRIPT|LINE|LOCK)\b", lambda it: it.group(0).lower(), text)
+    return re.sub(r"\b(FOLDER|NAME|DISK|COMMAND|SCRIPT|LINE|LOCK)\b", lambda it: it.group(0).lower(), text)
 
 
 def described(it):
@@ -391,6 +396,7 @@ _mg() {{
         0:run | 0:sweep) compopt -o filenames; mapfile -t COMPREPLY < <(compgen -f -- "$word") ;;
         0:*) compopt -o filenames; mapfile -t COMPREPLY < <(compgen -d -- "$word") ;;
         1:submit) mapfile -t COMPREPLY < <(compgen -W "{' '.join(name for name, _ in COMMANDS)}" -- "$word") ;;
+        1:replace) mapfile -t COMPREPLY < <(compgen -W "{' '.join(DISKS)}" -- "$word") ;;
         5:submit) mapfile -t COMPREPLY < <(compgen -W "{' '.join(MODES)}" -- "$word") ;;
         1:lock) ;;
         *:lock) compopt -o filenames; mapfile -t COMPREPLY < <(compgen -c -- "$word"; compgen -f -- "$word") ;;
@@ -427,7 +433,8 @@ def zsh():
     for it in WORDS:
         words = [zsh_option(one) for one in it.options] + ["'(- *)'{-h,--help}'[show the options and an example]'"]
         for at, one in enumerate(it.takes, 1):
-            words.append({"FOLDER": f"'{at}:folder:_directories'", "SCRIPT": f"'{at}:script:_files'", "NAME": f"'{at}:name, 1 to 15 bytes:'"}[one])
+            words.append({"FOLDER": f"'{at}:folder:_directories'", "SCRIPT": f"'{at}:script:_files'", "NAME": f"'{at}:name, 1 to 15 bytes:'",
+                          "DISK": f"'{at}:disk:({' '.join(DISKS)})'"}[one])
         if it.name == "submit":
             words += [f"'2:command:({' '.join(name for name, _ in COMMANDS)})'", "'*:words of the command:'"]
         elif it.rest:
@@ -493,6 +500,7 @@ def fish():
             letter = f" -s {one.letter}" if one.letter else ""
             lines.append(f"complete -c mg -n '__mg_word {it.name}'{letter} -l {one.name}{value} -d {in_fish(one.text)}")
     lines.append(f"complete -c mg -n '__mg_at submit 1' -a '{' '.join(name for name, _ in COMMANDS)}'")
+    lines.append(f"complete -c mg -n '__mg_at replace 1' -a '{' '.join(DISKS)}'")
     lines.append(f"complete -c mg -n '__mg_at submit 5' -a '{' '.join(MODES)}'")
     lines.append("complete -c mg -n '__mg_word lock; and test (__mg_given) -ge 2' -F")
     return "\n".join(lines) + "\n"

@@ -35,7 +35,7 @@ expect() {
     fi
 }
 
-expect 'dlm ' '<check> <fill> <format> <mark> <migrate> <race> <renew> <run> <submit> <sweep> <table>'
+expect 'dlm ' '<check> <fill> <format> <mark> <migrate> <race> <renew> <replace> <run> <submit> <sweep> <table>'
 expect 'dlm f' '<fill> <format>'
 expect 'dlm race ' '<race> <1> <2> <3> <4> <5> <6> <7> <8> <9> <10> <11> <12> <13> <14> <15> <16>'
 expect 'dlm-shared ' '<check> <export> <format> <mark> <submit> <table> <take>'
@@ -104,6 +104,8 @@ expect 'mg lock images db --mode P' '<lock> <images> <db> <--mode> <PR> <PW>'
 expect 'mg lock images db -w 3 --no' '<lock> <images> <db> <-w> <3> <--nonblock>'
 expect 'mg lock images db -- one' '<lock> <images> <db> <--> <one.dlm>'
 expect 'mg lock images db --host 2 -- ls --mode one' '<lock> <images> <db> <--host> <2> <--> <ls> <--mode> <one.dlm>'
+expect 'mg replace im' '<replace> <images>'
+expect 'mg replace images ' '<replace> <images> <0> <1> <2> <3> <4> <5> <6>'
 expect 'mg status images --p' '<status> <images> <--prometheus>'
 
 # asked TYPED WORDS: fish offers these words.
@@ -118,7 +120,7 @@ asked() {
 }
 
 if command -v fish >/dev/null; then
-    asked 'dlm ' 'check fill format mark migrate race renew run submit sweep table'
+    asked 'dlm ' 'check fill format mark migrate race renew replace run submit sweep table'
     asked 'dlm table ' 'images/ more images/'
     asked 'dlm submit images 0 ' 'cancel convert enqueue forget purge release status'
     asked 'dlm submit images 0 enqueue 1 1 1 ' 'CR CW EX NL PR PW'

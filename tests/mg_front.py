@@ -109,6 +109,8 @@ HANDED = [
     ("check --json images", "mg-folder: [check] [images] [--json]"),
     ("migrate images", "mg-folder: [migrate] [images]"),
     ("migrate images --json", "mg-folder: [migrate] [images] [--json]"),
+    ("replace images 1", "mg-folder: [replace] [images] [1]"),
+    ("replace -- -odd 6", "mg-folder: [replace] [./-odd] [6]"),
     ("run one.dlm", "mg-folder: [run] [one.dlm]"),
     ("run -", "mg-folder: [run] [/dev/stdin]"),
     ("run -- -odd/-one", "mg-folder: [run] [./-odd/-one]"),
@@ -195,6 +197,7 @@ BY_DLM = [
     ("mark images", "dlm: [mark] [images] [0]"),
     ("check images", "dlm: [check] [images]"),
     ("migrate images", "dlm: [migrate] [images]"),
+    ("replace images 0", "dlm: [replace] [images] [0]"),
     ("run one.dlm", "dlm: [run] [one.dlm]"),
     ("sweep one.dlm", "dlm: [sweep] [one.dlm]"),
 ]
@@ -312,6 +315,13 @@ WRONG = [
     (["mark", "images", "--host", "\x1b[31m"], 2, "--host is \\x1b[31m: 0 to 15"),
     (["check", "images", "--host", "1"], 2, "--host is no option of check: --json"),
     (["migrate", "images", "new", "64"], 2, "new is a word too many: mg migrate FOLDER [--json]"),
+    (["replace", "images"], 2, "DISK is missing: mg replace FOLDER DISK"),
+    (["replace", "images", "7"], 2, "DISK is 7: 0 to 6"),
+    (["replace", "images", "01"], 2, "DISK is 01: 0 to 6"),
+    (["replace", "images", ""], 2, "DISK is '': 0 to 6"),
+    (["replace", "images", "disk1.img"], 2, "DISK is disk1.img: 0 to 6"),
+    (["replace", "images", "1", "2"], 2, "2 is a word too many: mg replace FOLDER DISK"),
+    (["replace", "images", "1", "--host", "0"], 2, "--host is no option of replace: it has none"),
     (["run"], 2, "SCRIPT is missing: mg run SCRIPT"),
     (["run", "one.dlm", "--json"], 2, "--json is no option of run: it has none"),
     (["sweep", "one.dlm", "two.dlm"], 2, "two.dlm is a word too many: mg sweep SCRIPT"),
@@ -333,6 +343,7 @@ REFUSED = [
     (["run", "nowhere.dlm"], 1, "SCRIPT is nowhere.dlm: no such file"),
     (["sweep", "images"], 1, "SCRIPT is images: it is a folder"),
     (["watch", "nowhere"], 1, "FOLDER is nowhere: no such folder"),
+    (["replace", "nowhere", "1"], 1, "FOLDER is nowhere: no such folder"),
     (["recover", "nowhere"], 1, "FOLDER is nowhere: no such folder"),
     (["table", "empty"], 1, "FOLDER is empty: 26 Unreadable disk0 (disk0.img: No such file or directory)"),
     (["lock", "empty", "db", "ls"], 125, "FOLDER is empty: 26 Unreadable disk0 (disk0.img: No such file or directory)"),
@@ -374,6 +385,7 @@ def wrong_words():
 # ---- help ----
 
 NAMES = ["create", "lock", "take", "give", "status", "watch", "recover", "submit", "table", "mark", "check", "migrate", "run", "sweep"]
+NAMES = ["create", "lock", "status", "watch", "recover", "submit", "table", "mark", "check", "migrate", "replace", "run", "sweep"]
 
 
 def helps():

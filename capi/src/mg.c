@@ -31,7 +31,7 @@ enum { LONGEST = 100, ROOM = OPTIONS + 16 }; /* bytes of a word that is shown; w
 /* What is asked for. */
 static struct {
     const struct word *word;
-    const char *taken[2]; /* FOLDER and NAME, or SCRIPT */
+    const char *taken[2]; /* FOLDER, and NAME or DISK; or SCRIPT */
     size_t count;
     const char *given[OPTIONS]; /* the value of each option, "" of a flag; NULL: not given */
     char **rest;                /* COMMAND, or NULL */
@@ -253,6 +253,13 @@ static void see_name(const char *name) {
         wrong("NAME is %s: 1 to 15 bytes from 0x21 to 0x7E, no blank", shown(name));
 }
 
+static void see_disk(const char *disk) {
+    uint64_t number;
+    const char *end = digits(disk, MG_DISKS - 1, &number);
+    if (!end || *end != '\0')
+        wrong("DISK is %s: 0 to %d", shown(disk), MG_DISKS - 1);
+}
+
 /* Sees whether all is there. */
 static void see_whole(bool is_parted) {
     const struct word *word = asked.word;
@@ -267,6 +274,8 @@ static void see_whole(bool is_parted) {
     see_one_of(word->one_of[1]);
     if (is_of_lock())
         see_name(asked.taken[1]);
+    if (word == &ALL_WORDS[W_REPLACE])
+        see_disk(asked.taken[1]);
 }
 
 /* Shows the help of one word, or of all. */
@@ -321,6 +330,13 @@ static void add_folder(const char *folder) {
         refuse("FOLDER is %s: no memory", shown(folder));
     sprintf(safe, "./%s", folder);
     add(safe);
+}
+
+/* FOLDER or SCRIPT, and DISK. */
+static void add_taken(void) {
+    add_folder(asked.taken[0]);
+    if (asked.taken[1])
+        add(asked.taken[1]);
 }
 
 static void add_given(const struct option_of *option) {
@@ -460,7 +476,7 @@ __attribute__((noreturn)) static void become_dlm(void) {
     if (access(words[0], F_OK) != 0)
         words[0] = strrchr(words[0], '/') + 1;
     add(creates ? "format" : asked.word->name);
-    add_folder(asked.taken[0]);
+    add_taken();
     if (creates) {
         add(asked.given[O_DISKS] ? asked.given[O_DISKS] : "3");
         if (asked.given[O_SLOTS])
@@ -478,7 +494,7 @@ __attribute__((noreturn)) static void become_folder(void) {
     if (access(words[0], F_OK) != 0)
         become_dlm();
     add(asked.word->name);
-    add_folder(asked.taken[0]);
+    add_taken();
     for (const struct option_of *option = asked.word->options; option->name; option++)
         add_given(option);
     add_rest();

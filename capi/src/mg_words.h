@@ -43,6 +43,7 @@ enum word_name {
     W_MARK,
     W_CHECK,
     W_MIGRATE,
+    W_REPLACE,
     W_RUN,
     W_SWEEP,
     WORDS
@@ -356,6 +357,22 @@ static const struct word ALL_WORDS[WORDS] = {
         "Example:\n"
         "  mg migrate images\n",
     },
+    [W_REPLACE] = {
+        .name = "replace",
+        .takes = {"FOLDER", "DISK"},
+        .is_followed = false,
+        .needs_more = false,
+        .one_of = {{OPTIONS, OPTIONS, OPTIONS}, {OPTIONS, OPTIONS, OPTIONS}},
+        .usage = "mg replace FOLDER DISK",
+        .help =
+        "usage: mg replace FOLDER DISK\n"
+        "Makes a new image of number DISK, 0 to 6, in the place of a lost one, in a log without an end.\n"
+        "End every process that has FOLDER open before, and move away what has the name of the image.\n"
+        "Until the epoch that it prints the new image counts as lost.\n"
+        "\n"
+        "Example:\n"
+        "  mg replace images 1\n",
+    },
     [W_RUN] = {
         .name = "run",
         .takes = {"SCRIPT"},
@@ -392,20 +409,21 @@ static const char SHORT_HELP[] =
         "usage: mg WORD ..\n"
         "Locks for programs that share disks: a folder of images, no network, no daemon.\n"
         "\n"
-        "  mg create FOLDER     make the images of a folder\n"
-        "  mg lock FOLDER NAME  run a command under a lock\n"
-        "  mg take FOLDER NAME  take a lock that stays when mg ends\n"
-        "  mg give FOLDER NAME  give back what mg take took\n"
-        "  mg status FOLDER     show slots, disks and locks\n"
-        "  mg watch FOLDER      show the status again and again\n"
-        "  mg recover FOLDER    release what killed processes left\n"
-        "  mg submit FOLDER     put a command into the log\n"
-        "  mg table FOLDER      show the lock table\n"
-        "  mg mark FOLDER       mark what has no mark\n"
-        "  mg check FOLDER      look for damage in the images\n"
-        "  mg migrate FOLDER    make a log that ends endless\n"
-        "  mg run SCRIPT        run a script over disks in memory\n"
-        "  mg sweep SCRIPT      run a script with each single fault\n"
+        "  mg create FOLDER        make the images of a folder\n"
+        "  mg lock FOLDER NAME     run a command under a lock\n"
+        "  mg take FOLDER NAME     take a lock that stays when mg ends\n"
+        "  mg give FOLDER NAME     give back what mg take took\n"
+        "  mg status FOLDER        show slots, disks and locks\n"
+        "  mg watch FOLDER         show the status again and again\n"
+        "  mg recover FOLDER       release what killed processes left\n"
+        "  mg submit FOLDER        put a command into the log\n"
+        "  mg table FOLDER         show the lock table\n"
+        "  mg mark FOLDER          mark what has no mark\n"
+        "  mg check FOLDER         look for damage in the images\n"
+        "  mg migrate FOLDER       make a log that ends endless\n"
+        "  mg replace FOLDER DISK  make a new image in the place of a lost one\n"
+        "  mg run SCRIPT           run a script over disks in memory\n"
+        "  mg sweep SCRIPT         run a script with each single fault\n"
         "\n"
         "Two lines to begin with:\n"
         "  mg create images\n"
@@ -414,6 +432,6 @@ static const char SHORT_HELP[] =
         "mg help WORD has the options, and an example. man mg says more. mg --version shows the version.\n";
 
 static const char NAMES_OF_WORDS[] =
-        "create, lock, take, give, status, watch, recover, submit, table, mark, check, migrate, run, sweep, help";
+        "create, lock, take, give, status, watch, recover, submit, table, mark, check, migrate, replace, run, sweep, help";
 
 #endif

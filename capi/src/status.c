@@ -222,7 +222,9 @@ static void print_disks(FILE *out, const struct status *status) {
     else
         fprintf(out, "%zu more may fail\n", spare(status));
     for (size_t i = 0; i < status->facts.disks; i++) {
-        if (status->disks[i].status != MG_OK)
+        if (status->disks[i].status == MG_NOT_YET)
+            fprintf(out, "  disk%zu takes part from a later epoch on", i);
+        else if (status->disks[i].status != MG_OK)
             fprintf(out, "  disk%zu %d %s", i, (int)status->disks[i].status, mg_name(status->disks[i].status));
         else if (status->images[i].read_only)
             fprintf(out, "  disk%zu is read only", i);

@@ -7,7 +7,9 @@ ghost use Rattle.dlm.specs.Tasks.{HasPrinted};
 
 use crate::racing;
 use crate::refusal_line::refusal_line;
-use dlm_tasks::{CommandFailure, Fault, images, made_endless, print_sweep, run_any_script};
+use dlm_tasks::{
+    CommandFailure, Fault, images, made_endless, print_sweep, replaced, run_any_script,
+};
 use dlm_words::{Subcommand, WordsFault, task_of};
 use epoch_script::read_any_script;
 use folders::TryLock;
@@ -64,6 +66,7 @@ where
         Subcommand::Check { folder } => images::check(rt, folder, out),
         Subcommand::Migrate { old, new, slots } => images::migrate(rt, old, new, slots, out),
         Subcommand::MakeEndless { folder } => made_endless::make_endless(rt, folder, out),
+        Subcommand::Replace { folder, disk } => replaced::replace(rt, folder, disk, out),
         Subcommand::Fill { folder, host } => images::fill(rt, folder, host, out),
         Subcommand::Renew {
             old,

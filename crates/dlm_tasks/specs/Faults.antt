@@ -2,6 +2,7 @@
 use Rattle.lock_script.specs.declared.script.ScriptFault.{ScriptFault}
 use Rattle.lock_script.specs.declared.script.ScriptFault.TheVariants as script
 use Rattle.attempt.specs.declared.refusal.Refusal.{Refusal}
+use Rattle.attempt.specs.declared.refusal.Refusal.TheVariants as refusal
 use Rattle.epoch_images.specs.declared.fault.EpochFault.{EpochFault}
 use Rattle.epoch_images.specs.declared.fault.EpochFault.TheVariants as epoch
 use Rattle.folders.specs.declared.fault.FolderFault.{FolderFault}
@@ -12,6 +13,8 @@ use Rattle.folders.specs.declared.host_lock.LockFault.{LockFault}
 use Rattle.folders.specs.declared.host_lock.LockFault.TheVariants as lock
 use Rattle.in_place.specs.declared.in_place_fault.InPlaceFault.{InPlaceFault}
 use Rattle.in_place.specs.declared.in_place_fault.InPlaceFault.TheVariants as in_place
+use Rattle.in_place.specs.declared.replace_fault.ReplaceFault.{ReplaceFault}
+use Rattle.in_place.specs.declared.replace_fault.ReplaceFault.TheVariants as replace
 use Rattle.folder_migration.specs.declared.fault.MoveFault.{MoveFault}
 use Rattle.folder_migration.specs.declared.fault.MoveFault.TheVariants as move
 use Rattle.folder_migration.specs.declared.fill.FillFault.{FillFault}
@@ -71,6 +74,12 @@ of_in_place (in_place.Folder fault) = of_folder fault
 of_in_place (in_place.Lock fault) = of_lock fault
 of_in_place in_place.TooFewSlots = TooFewSlots
 of_in_place in_place.Renewed = RenewedElsewhere
+
+-- a lost image was not replaced
+abbrev pub of_replacing : ReplaceFault → Fault
+of_replacing (replace.Folder fault) = of_folder fault
+of_replacing (replace.Lock fault) = of_lock fault
+of_replacing replace.NoMajority = of_refusal refusal.NoMajority
 
 -- a log was not filled
 abbrev pub of_filling : FillFault → Fault

@@ -8,6 +8,7 @@ mod fault;
 mod folder_text;
 pub mod images;
 pub mod made_endless;
+pub mod replaced;
 mod run;
 mod sweeping;
 mod without_end;

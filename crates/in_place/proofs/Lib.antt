@@ -1,3 +1,4 @@
 pub mod InPlaceDisks
 pub mod InPlaceFiles
 pub mod MadeReady
+pub mod Replaced

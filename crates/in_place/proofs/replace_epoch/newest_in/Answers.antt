@@ -1,0 +1,15 @@
+use Rattle.std.specs.Prelude.{slice_index}
+use Rattle.std.proofs.Common.{ℕ}
+use Rattle.standings.specs.Reading.{numbers_in}
+use Rattle.log_folders.proofs.Insiders.{newest_as}
+use Rattle.in_place.proofs.replace_epoch.newest_in.Goals as goal
+
+pub returns : goal.returns
+returns c = (
+  (λ damaged. absurd (let none = c.in_ok-numbers.ensures.damaged.1 damaged in cc)),
+  (
+    c.newest.result,
+    newest_as c.args.area (slice_index c.in_ok-numbers.numbers) (numbers_in c.args.row.now) c.in_ok-numbers.ensures.each c.newest.result c.newest.ensures.newest,
+    c.unwrap_or.ensures,
+  ),
+)
