@@ -7,7 +7,8 @@ use Rattle.dlm_tasks.specs.Checking.{EndsIn, IsFound}
 use Rattle.dlm_tasks.specs.Folders.{WritesAck, WritesLog, WritesMarked}
 use Rattle.dlm_tasks.specs.InPlace.{WritesMaking}
 use Rattle.dlm_tasks.specs.AnyRun.{WritesRun}
-use Rattle.dlm_tasks.specs.Printed.{WritesFilling, WritesMove, WritesRenewal, WritesSweep, formatted_text, sound_text}
+use Rattle.dlm_tasks.specs.AnySweep.{WritesSweep}
+use Rattle.dlm_tasks.specs.Printed.{WritesFilling, WritesMove, WritesRenewal, formatted_text, sound_text}
 use Rattle.dlm_tasks.specs.declared.images.TheConstants.{TRIES}
 use Rattle.dlm.specs.RaceText.{WritesRace}
 

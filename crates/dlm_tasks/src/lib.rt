@@ -2,6 +2,7 @@
 #![tactic(auto)]
 
 mod any_run;
+mod any_sweep;
 mod command_failure;
 mod ending;
 mod fault;
@@ -13,7 +14,7 @@ mod sweeping;
 mod without_end;
 
 pub use any_run::run_any_script;
+pub use any_sweep::sweep_any_script;
 pub use command_failure::CommandFailure;
 pub use fault::Fault;
 pub use run::run_script;
-pub use sweeping::print_sweep;

@@ -1,0 +1,4 @@
+pub mod Counted
+pub mod Keeping
+pub mod Running
+pub mod Right
