@@ -5,3 +5,4 @@ pub mod Faults
 pub mod Folders
 pub mod InPlace
 pub mod Printed
+pub mod Refusing

@@ -1,10 +1,13 @@
-ghost use Rattle.std.specs.Prelude.{◌≡◌, ℕ, true, IfOk, OnOk};
+ghost use Rattle.std.specs.Prelude.{◌≡◌, ◌⊎◌, ℕ, true, IfErr, IfOk, OnOk};
 ghost use Rattle.lock_command.specs.Command.{is_submittable};
 ghost use Rattle.host.specs.Host.{fresh};
 ghost use Rattle.host.specs.Kept.{LeadsTo};
 ghost use Rattle.folder_migration.specs.Filling.{IsOver};
+ghost use Rattle.dlm_tasks.specs.Checking.{IsNotOpened};
+ghost use Rattle.dlm_tasks.specs.Faults.{IfRefused};
 ghost use Rattle.dlm_tasks.specs.Printed as printed;
 ghost use Rattle.dlm_tasks.specs.Printed.{Begins, HasSearched, IsFresh, WritesAcknowledgement, WritesFilling, WritesMarks, WritesTable};
+ghost use Rattle.dlm_tasks.specs.Refusing.{IsNotFilled, IsNotMarked, IsNotRecovered, IsNotSubmitted};
 
 use crate::command_failure::CommandFailure;
 use crate::fault::Fault;
@@ -37,7 +40,8 @@ pub fn submit<R: Files + Clock + RandomSource + AllocGlobal, O: Write>(
 where
     R::File: FileExt + OpenFile + Drop,
     requires { is_submittable command ≡ true }
-    ensures { OnOk result (WritesAcknowledgement TRIES command (O.contents out.old) (O.contents out.new)) }
+    ensures written { OnOk result (WritesAcknowledgement TRIES command (O.contents out.old) (O.contents out.new)) }
+    ensures refused { IfErr result (λ failure. IfRefused failure (λ fault. IsNotOpened fault ⊎ IsNotSubmitted TRIES command fault)) }
 {
     let mut over = started(images, rt.alloc(), command.host)?;
     submit_in(rt, folder, &mut over, command, out)
@@ -50,7 +54,8 @@ pub fn table<F: FileExt + OpenFile + Drop, O: Write>(
     host: HostNumber,
     out: &mut O,
 ) -> Result<(), CommandFailure>
-    ensures { OnOk result (WritesTable TRIES host (O.contents out.old) (O.contents out.new)) }
+    ensures written { OnOk result (WritesTable TRIES host (O.contents out.old) (O.contents out.new)) }
+    ensures refused { IfErr result (λ failure. IfRefused failure (λ fault. (fault ≡ Fault.NoMemory) ⊎ IsNotOpened fault ⊎ IsNotRecovered TRIES host fault)) }
 {
     let mut over = started(images, alloc, host)?;
     recover_table(alloc, &mut over, out)
@@ -63,7 +68,8 @@ pub fn mark<F: FileExt + OpenFile + Drop, O: Write>(
     host: HostNumber,
     out: &mut O,
 ) -> Result<(), CommandFailure>
-    ensures { OnOk result (WritesMarks TRIES host (O.contents out.old) (O.contents out.new)) }
+    ensures written { OnOk result (WritesMarks TRIES host (O.contents out.old) (O.contents out.new)) }
+    ensures refused { IfErr result (λ failure. IfRefused failure (λ fault. IsNotOpened fault ⊎ IsNotMarked TRIES host fault)) }
 {
     let mut over = started(images, alloc, host)?;
     mark_through(&mut over, out)
@@ -76,7 +82,8 @@ pub fn fill<R: Clock + RandomSource + AllocGlobal, F: FileExt + OpenFile + Drop,
     host: HostNumber,
     out: &mut O,
 ) -> Result<(), CommandFailure>
-    ensures { OnOk result (WritesFilling host (O.contents out.old) (O.contents out.new)) }
+    ensures written { OnOk result (WritesFilling host (O.contents out.old) (O.contents out.new)) }
+    ensures refused { IfErr result (λ failure. IfRefused failure (λ fault. IsNotOpened fault ⊎ IsNotFilled host fault)) }
 {
     let config = images.config;
     let mut over = started(images, rt.alloc(), host)?;
@@ -91,6 +98,7 @@ fn started<F: FileExt + OpenFile + Drop>(
 ) -> Result<DiskHost<FileDisk<F>>, Fault>
     ensures over { IfOk result (λ over. LeadsTo images.config host fresh over.core) }
     ensures fresh { IfOk result (λ over. IsFresh host over) }
+    ensures fault { IfErr result IsNotOpened }
 {
     let over = start_host(images, alloc, host)?;
     Ok(over)
@@ -105,6 +113,7 @@ fn host_in<R: Files + AllocGlobal>(
 where
     R::File: FileExt + OpenFile + Drop,
     ensures fresh { IfOk result (λ over. IsFresh host over) }
+    ensures fault { IfErr result IsNotOpened }
 {
     let images = open_folder(rt, folder)?;
     let over = started(images, rt.alloc(), host)?;
@@ -128,7 +137,8 @@ where
     R::File: FileExt + OpenFile + Drop,
     requires asked { is_submittable command ≡ true }
     requires fresh { IsFresh command.host host.old }
-    ensures { OnOk result (WritesAcknowledgement TRIES command (O.contents out.old) (O.contents out.new)) }
+    ensures written { OnOk result (WritesAcknowledgement TRIES command (O.contents out.old) (O.contents out.new)) }
+    ensures refused { IfErr result (λ failure. IfRefused failure (λ fault. IsNotOpened fault ⊎ IsNotSubmitted TRIES command fault)) }
 {
     if has_found(host, &command) {
         let mut other = host_in(rt, folder, command.host)?;
@@ -165,7 +175,8 @@ fn submit_through<R: Clock + RandomSource, F: FileExt + OpenFile + Drop, O: Writ
 ) -> Result<(), CommandFailure>
     requires asked { is_submittable command ≡ true }
     requires host { command.host ≡ host.old.core.learner.host }
-    ensures { OnOk result (Begins command host.old → WritesAcknowledgement TRIES command (O.contents out.old) (O.contents out.new)) }
+    ensures written { OnOk result (Begins command host.old → WritesAcknowledgement TRIES command (O.contents out.old) (O.contents out.new)) }
+    ensures refused { IfErr result (λ failure. Begins command host.old → IfRefused failure (IsNotSubmitted TRIES command)) }
 {
     match submit_patiently(rt, host, command, TRIES) {
         Ok(done) => {
@@ -183,7 +194,8 @@ fn recover_table<F: FileExt + OpenFile + Drop, O: Write>(
     host: &mut DiskHost<FileDisk<F>>,
     out: &mut O,
 ) -> Result<(), CommandFailure>
-    ensures { OnOk result ((number : ℕ) → IsFresh number host.old → WritesTable TRIES number (O.contents out.old) (O.contents out.new)) }
+    ensures written { OnOk result ((number : ℕ) → IsFresh number host.old → WritesTable TRIES number (O.contents out.old) (O.contents out.new)) }
+    ensures refused { IfErr result (λ failure. (number : ℕ) → IsFresh number host.old → IfRefused failure (λ fault. (fault ≡ Fault.NoMemory) ⊎ IsNotRecovered TRIES number fault)) }
 {
     let _ = host.look();
     match host.recover(TRIES) {
@@ -196,7 +208,8 @@ fn mark_through<F: FileExt + OpenFile + Drop, O: Write>(
     host: &mut DiskHost<FileDisk<F>>,
     out: &mut O,
 ) -> Result<(), CommandFailure>
-    ensures { OnOk result ((number : ℕ) → IsFresh number host.old → WritesMarks TRIES number (O.contents out.old) (O.contents out.new)) }
+    ensures written { OnOk result ((number : ℕ) → IsFresh number host.old → WritesMarks TRIES number (O.contents out.old) (O.contents out.new)) }
+    ensures refused { IfErr result (λ failure. (number : ℕ) → IsFresh number host.old → IfRefused failure (IsNotMarked TRIES number)) }
 {
     // A slot that the look learns from a mark need not be marked again.
     let _ = host.look();
@@ -213,7 +226,8 @@ fn fill_through<R: Clock + RandomSource + AllocGlobal, F: FileExt + OpenFile + D
     out: &mut O,
 ) -> Result<(), CommandFailure>
     requires { IsOver config host.old }
-    ensures { OnOk result ((number : ℕ) → LeadsTo config number fresh host.old.core → WritesFilling number (O.contents out.old) (O.contents out.new)) }
+    ensures written { OnOk result ((number : ℕ) → LeadsTo config number fresh host.old.core → WritesFilling number (O.contents out.old) (O.contents out.new)) }
+    ensures refused { IfErr result (λ failure. (number : ℕ) → LeadsTo config number fresh host.old.core → IfRefused failure (IsNotFilled number)) }
 {
     let _ = host.look();
     match fill_log(rt, rt.alloc(), host, config) {

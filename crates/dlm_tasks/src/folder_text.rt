@@ -1,7 +1,8 @@
-ghost use Rattle.std.specs.Prelude.{OnOk};
+ghost use Rattle.std.specs.Prelude.{IfErr, OnOk};
 ghost use Rattle.std.specs.Io.KnownBytes.{Appends};
 ghost use Rattle.host.specs.declared.answer.HostAnswer.TheVariants.{Ack};
 ghost use Rattle.dlm_tasks.specs.Printed.{answer_line, filled_text, formatted_text, marked_text, moved_text, renewed_text, sound_text, table_text};
+ghost use Rattle.dlm_tasks.specs.Refusing.{IsCutShort};
 
 use crate::command_failure::CommandFailure;
 use crate::fault::Fault;
@@ -30,7 +31,8 @@ pub fn print_formatted<O: Write>(kind: Kind, config: Config, out: &mut O) -> io:
 
 /// Where a command stands in the log, and what the lock table replied to it there.
 pub fn print_ack<O: Write>(place: u64, reply: Reply, out: &mut O) -> Result<(), CommandFailure>
-    ensures { OnOk result (Appends (O.contents out.old) (O.contents out.new) (answer_line (Ack place reply))) }
+    ensures written { OnOk result (Appends (O.contents out.old) (O.contents out.new) (answer_line (Ack place reply))) }
+    ensures cut_short { IfErr result IsCutShort }
 {
     let reply = ReplyText(reply);
     writeln!(out, "ack {place} {reply}")?;
@@ -40,7 +42,8 @@ pub fn print_ack<O: Write>(place: u64, reply: Reply, out: &mut O) -> Result<(), 
 
 /// How much of the log was recovered, and how many of its slots were marked then.
 pub fn print_marked<O: Write>(length: u64, marked: u64, out: &mut O) -> Result<(), CommandFailure>
-    ensures { OnOk result (Appends (O.contents out.old) (O.contents out.new) (marked_text length marked)) }
+    ensures written { OnOk result (Appends (O.contents out.old) (O.contents out.new) (marked_text length marked)) }
+    ensures cut_short { IfErr result IsCutShort }
 {
     writeln!(out, "recovered {length}")?;
     writeln!(out, "marked {marked} slots")?;
@@ -55,7 +58,8 @@ pub fn print_table<O: Write>(
     table: &Table,
     out: &mut O,
 ) -> Result<(), CommandFailure>
-    ensures { OnOk result (Appends (O.contents out.old) (O.contents out.new) (table_text length table.now)) }
+    ensures written { OnOk result (Appends (O.contents out.old) (O.contents out.new) (table_text length table.now)) }
+    ensures cut_short { IfErr result IsCutShort }
 {
     let picture = table.picture(alloc).map_err(Fault::from)?;
     writeln!(out, "recovered {length}")?;
@@ -65,7 +69,8 @@ pub fn print_table<O: Write>(
 }
 
 pub fn print_filled<O: Write>(count: u16, out: &mut O) -> Result<(), CommandFailure>
-    ensures { OnOk result (Appends (O.contents out.old) (O.contents out.new) (filled_text count)) }
+    ensures written { OnOk result (Appends (O.contents out.old) (O.contents out.new) (filled_text count)) }
+    ensures cut_short { IfErr result IsCutShort }
 {
     writeln!(out, "filled {count} slots")?;
     out.flush()?;

@@ -4,9 +4,12 @@ ghost use Rattle.lock_command.specs.Command.{is_submittable};
 ghost use Rattle.endless_image.specs.Kinds.{IsSlotsBy};
 ghost use Rattle.log_folders.specs.LogFolders.{IsLogOpened};
 ghost use Rattle.dlm_tasks.specs.Checking.{EndsIn, IsFound, IsFoundFault, IsNotOpened};
-ghost use Rattle.dlm_tasks.specs.Faults.{IfRefused, of_finding};
+ghost use Rattle.folder_migration.specs.Migrating.{MayFail};
+ghost use Rattle.folder_migration.specs.RenewingFolders.{MayNotRenew};
+ghost use Rattle.dlm_tasks.specs.Faults.{IfRefused, of_finding, of_move, of_renewal};
 ghost use Rattle.dlm_tasks.specs.Folders.{MakesImages, WritesAck, WritesLog, WritesMarked};
 ghost use Rattle.dlm_tasks.specs.Printed.{WritesFilling, WritesMove, WritesRenewal, formatted_text, sound_text};
+ghost use Rattle.dlm_tasks.specs.Refusing.{IsFillFault, IsMarkFault, IsNotBegun, IsNotMade, IsOf, IsSubmitFault, IsTableFault};
 
 use crate::command_failure::CommandFailure;
 use crate::fault::Fault;
@@ -45,6 +48,7 @@ where
     requires { IsSlotsBy kind config.slots }
     ensures laid_out { OnOk result (MakesImages kind config cluster) }
     ensures prints { OnOk result (Appends (O.contents out.old) (O.contents out.new) (formatted_text kind config)) }
+    ensures refused { IfErr result (λ failure. IfRefused failure (IsNotMade config)) }
 {
     make_images(rt, folder, kind, config, cluster)?;
     print_formatted(kind, config, out)?;
@@ -63,7 +67,8 @@ pub fn submit<R: Files + Clock + RandomSource + AllocGlobal, O: Write>(
 where
     R::File: FileExt + OpenFile + TryLock + Drop,
     requires { is_submittable command ≡ true }
-    ensures { OnOk result (WritesAck TRIES command (O.contents out.old) (O.contents out.new)) }
+    ensures written { OnOk result (WritesAck TRIES command (O.contents out.old) (O.contents out.new)) }
+    ensures refused { IfErr result (λ failure. IfRefused failure (IsSubmitFault TRIES command)) }
 {
     let folder = find_folder(rt, folder).map_err(Fault::from)?;
     let (images, _lock) = locked_log(rt, folder.as_str(), command.host)?;
@@ -82,7 +87,8 @@ pub fn table<R: Files + AllocGlobal, O: Write>(
 ) -> Result<(), CommandFailure>
 where
     R::File: FileExt + OpenFile + TryLock + Drop,
-    ensures { OnOk result (WritesLog TRIES host (O.contents out.old) (O.contents out.new)) }
+    ensures written { OnOk result (WritesLog TRIES host (O.contents out.old) (O.contents out.new)) }
+    ensures refused { IfErr result (λ failure. IfRefused failure (IsTableFault TRIES host)) }
 {
     let folder = find_folder(rt, folder).map_err(Fault::from)?;
     let (images, _lock) = locked_log(rt, folder.as_str(), host)?;
@@ -102,7 +108,8 @@ pub fn mark<R: Files + AllocGlobal, O: Write>(
 ) -> Result<(), CommandFailure>
 where
     R::File: FileExt + OpenFile + TryLock + Drop,
-    ensures { OnOk result (WritesMarked TRIES host (O.contents out.old) (O.contents out.new)) }
+    ensures written { OnOk result (WritesMarked TRIES host (O.contents out.old) (O.contents out.new)) }
+    ensures refused { IfErr result (λ failure. IfRefused failure (IsMarkFault TRIES host)) }
 {
     let folder = find_folder(rt, folder).map_err(Fault::from)?;
     let (images, _lock) = locked_log(rt, folder.as_str(), host)?;
@@ -138,7 +145,8 @@ pub fn migrate<R: Files + AllocGlobal, O: Write>(
 ) -> Result<(), CommandFailure>
 where
     R::File: FileExt + OpenFile + TryLock + Drop,
-    ensures { OnOk result (WritesMove slots (O.contents out.old) (O.contents out.new)) }
+    ensures written { OnOk result (WritesMove slots (O.contents out.old) (O.contents out.new)) }
+    ensures refused { IfErr result (λ failure. IfRefused failure (IsOf (MayFail slots) of_move)) }
 {
     let moved = migrate_folder(rt, old, new, slots).map_err(Fault::from)?;
     print_moved(moved, slots, out)?;
@@ -155,7 +163,8 @@ pub fn fill<R: Files + Clock + RandomSource + AllocGlobal, O: Write>(
 ) -> Result<(), CommandFailure>
 where
     R::File: FileExt + OpenFile + TryLock + Drop,
-    ensures { OnOk result (WritesFilling host (O.contents out.old) (O.contents out.new)) }
+    ensures written { OnOk result (WritesFilling host (O.contents out.old) (O.contents out.new)) }
+    ensures refused { IfErr result (λ failure. IfRefused failure (IsFillFault host)) }
 {
     let (images, _lock) = locked_folder(rt, folder, host)?;
     ending::fill(rt, images, host, out)
@@ -174,7 +183,8 @@ pub fn renew<R: Files + AllocGlobal, O: Write>(
 ) -> Result<(), CommandFailure>
 where
     R::File: FileExt + OpenFile + TryLock + Drop,
-    ensures { OnOk result (WritesRenewal host config cluster leave.now (O.contents out.old) (O.contents out.new)) }
+    ensures written { OnOk result (WritesRenewal host config cluster leave.now (O.contents out.old) (O.contents out.new)) }
+    ensures refused { IfErr result (λ failure. IfRefused failure (IsOf (MayNotRenew host config cluster leave.now) of_renewal)) }
 {
     let renewed = renew_folder(rt, old, host, new, config, cluster, leave).map_err(Fault::from)?;
     print_renewed(renewed, config, out)?;
@@ -193,7 +203,8 @@ fn make_images<R: Files + AllocGlobal>(
 where
     R::File: FileExt + OpenFile + Drop,
     requires { IsSlotsBy kind config.slots }
-    ensures { OnOk result (MakesImages kind config cluster) }
+    ensures laid_out { OnOk result (MakesImages kind config cluster) }
+    ensures fault { IfErr result (IsNotMade config) }
 {
     let Some(set) = NewSet::new(kind, config, cluster) else {
         unreachable!()
@@ -212,6 +223,7 @@ fn locked_log<R: Files + AllocGlobal>(
 where
     R::File: FileExt + OpenFile + TryLock + Drop,
     ensures locked { IfOk result (λ log. R.File.locked log.1) }
+    ensures fault { IfErr result (IsNotBegun host) }
 {
     let images = open_log(rt, folder, Access::ReadAndWrite)?;
     let lock = lock_host(rt, folder, host)?;
@@ -227,6 +239,7 @@ fn locked_folder<R: Files + AllocGlobal>(
 where
     R::File: FileExt + OpenFile + TryLock + Drop,
     ensures locked { IfOk result (λ log. R.File.locked log.1) }
+    ensures fault { IfErr result (IsNotBegun host) }
 {
     let folder = find_folder(rt, folder)?;
     let images = open_folder(rt, folder.as_str())?;

@@ -1,10 +1,12 @@
-ghost use Rattle.std.specs.Prelude.{◌≡◌, ℕ, true, Option, OnOk};
+ghost use Rattle.std.specs.Prelude.{◌≡◌, ◌⊎◌, ℕ, true, Option, IfErr, OnOk};
 ghost use Rattle.disk.specs.FileStates.{FileGives};
 ghost use Rattle.lock_command.specs.Command.{is_submittable};
 ghost use Rattle.epoch_host.specs.declared.answer.EpochAnswer.{EpochAnswer};
-ghost use Rattle.epoch_host.specs.declared.task.EpochTask.TheVariants.{Look};
+ghost use Rattle.epoch_host.specs.declared.task.EpochTask.TheVariants.{Look, Mark};
 ghost use Rattle.epoch_images.specs.Working.{HasWorked};
 ghost use Rattle.dlm_tasks.specs.Endless.{HasBegun, WritesEndlessAcknowledgement, WritesEndlessMarks, WritesEndlessTable};
+ghost use Rattle.dlm_tasks.specs.Faults.{IfRefused};
+ghost use Rattle.dlm_tasks.specs.Refusing.{IsNotLearned, IsNotPlaced};
 
 use crate::command_failure::CommandFailure;
 use crate::fault::Fault;
@@ -32,7 +34,8 @@ pub fn submit<R: Clock + RandomSource + AllocGlobal, F: FileExt + OpenFile + Dro
     out: &mut O,
 ) -> Result<(), CommandFailure>
     requires { is_submittable command ≡ true }
-    ensures { OnOk result (WritesEndlessAcknowledgement TRIES command (O.contents out.old) (O.contents out.new)) }
+    ensures written { OnOk result (WritesEndlessAcknowledgement TRIES command (O.contents out.old) (O.contents out.new)) }
+    ensures refused { IfErr result (λ failure. IfRefused failure (IsNotPlaced TRIES command)) }
 {
     let mut host = begun(images, rt.alloc(), command.host);
     submit_through(rt, &mut host, command, out)
@@ -45,7 +48,8 @@ pub fn table<F: FileExt + OpenFile + Drop, O: Write>(
     host: HostNumber,
     out: &mut O,
 ) -> Result<(), CommandFailure>
-    ensures { OnOk result (WritesEndlessTable TRIES host (O.contents out.old) (O.contents out.new)) }
+    ensures written { OnOk result (WritesEndlessTable TRIES host (O.contents out.old) (O.contents out.new)) }
+    ensures refused { IfErr result (λ failure. IfRefused failure (λ fault. (fault ≡ Fault.NoMemory) ⊎ IsNotLearned TRIES host fault)) }
 {
     let mut host = begun(images, alloc, host);
     recover_table(alloc, &mut host, out)
@@ -58,7 +62,8 @@ pub fn mark<F: FileExt + OpenFile + Drop, O: Write>(
     host: HostNumber,
     out: &mut O,
 ) -> Result<(), CommandFailure>
-    ensures { OnOk result (WritesEndlessMarks TRIES host (O.contents out.old) (O.contents out.new)) }
+    ensures written { OnOk result (WritesEndlessMarks TRIES host (O.contents out.old) (O.contents out.new)) }
+    ensures refused { IfErr result (λ failure. IfRefused failure (IsNotLearned TRIES host)) }
 {
     let mut host = begun(images, alloc, host);
     mark_through(&mut host, out)
@@ -93,17 +98,24 @@ fn submit_through<R: Clock + RandomSource, F: FileExt + OpenFile + Drop, O: Writ
 ) -> Result<(), CommandFailure>
     requires asked { is_submittable command ≡ true }
     requires host { command.host ≡ host.old.host.host }
-    ensures { OnOk result (HasBegun command.host host.old → WritesEndlessAcknowledgement TRIES command (O.contents out.old) (O.contents out.new)) }
+    ensures written { OnOk result (HasBegun command.host host.old → WritesEndlessAcknowledgement TRIES command (O.contents out.old) (O.contents out.new)) }
+    ensures refused { IfErr result (λ failure. HasBegun command.host host.old → IfRefused failure (IsNotPlaced TRIES command)) }
 {
     match submit_in_turn(rt, host, command, TRIES) {
         Ok(placed) => {
             print_ack(placed.place, placed.reply, out)?;
-            // The command is in the log whether or not the marking succeeds.
-            let _ = host.mark(placed.place);
+            mark_place(host, placed.place);
             Ok(())
         }
         Err(fault) => Err(CommandFailure::from(Fault::from(fault))),
     }
+}
+
+/// Marks the place of a command, which is in the log whether or not that succeeds.
+fn mark_place<F: FileExt + OpenFile + Drop>(host: &mut EpochDiskHost<FileDisk<F>>, place: u64)
+    ensures { (seen : Option EpochAnswer) × HasWorked FileGives (Mark place) seen host.old host.new }
+{
+    let _ = host.mark(place);
 }
 
 fn recover_table<F: FileExt + OpenFile + Drop, O: Write>(
@@ -111,7 +123,8 @@ fn recover_table<F: FileExt + OpenFile + Drop, O: Write>(
     host: &mut EpochDiskHost<FileDisk<F>>,
     out: &mut O,
 ) -> Result<(), CommandFailure>
-    ensures { OnOk result ((number : ℕ) → HasBegun number host.old → WritesEndlessTable TRIES number (O.contents out.old) (O.contents out.new)) }
+    ensures written { OnOk result ((number : ℕ) → HasBegun number host.old → WritesEndlessTable TRIES number (O.contents out.old) (O.contents out.new)) }
+    ensures refused { IfErr result (λ failure. (number : ℕ) → HasBegun number host.old → IfRefused failure (λ fault. (fault ≡ Fault.NoMemory) ⊎ IsNotLearned TRIES number fault)) }
 {
     match host.recover(TRIES) {
         Ok(length) => match host.table() {
@@ -126,7 +139,8 @@ fn mark_through<F: FileExt + OpenFile + Drop, O: Write>(
     host: &mut EpochDiskHost<FileDisk<F>>,
     out: &mut O,
 ) -> Result<(), CommandFailure>
-    ensures { OnOk result ((number : ℕ) → HasBegun number host.old → WritesEndlessMarks TRIES number (O.contents out.old) (O.contents out.new)) }
+    ensures written { OnOk result ((number : ℕ) → HasBegun number host.old → WritesEndlessMarks TRIES number (O.contents out.old) (O.contents out.new)) }
+    ensures refused { IfErr result (λ failure. (number : ℕ) → HasBegun number host.old → IfRefused failure (IsNotLearned TRIES number)) }
 {
     match host.recover_and_mark(TRIES) {
         Ok(log) => print_marked(log.length, log.marked, out),

@@ -10,8 +10,8 @@ fill_log-requires g c =
     let done = c.look.ensures.looked in
     record { over = (over.0, after_made c.args.config over.0 (looks_on c.args.config over.1 0) done.made, done.leads c.args.config over.0 over.1 over.2) }
 
-pub returns-in-Ok : goal.returns-in-Ok
-returns-in-Ok g c =
+pub returns-in-Ok-clause-written : goal.returns-in-Ok-clause-written
+returns-in-Ok-clause-written g c =
     on_ok_weaker c.print_filled.result
     (λ written number started. record {
       shape = c.args.config;
@@ -24,4 +24,4 @@ returns-in-Ok g c =
       fills = c.in-Ok.ensures.filled;
       written = written;
     })
-    c.print_filled.ensures
+    c.print_filled.ensures.written

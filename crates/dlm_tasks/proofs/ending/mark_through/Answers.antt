@@ -5,8 +5,8 @@ use Rattle.std.specs.Io.KnownBytes.{Appends}
 use Rattle.dlm_tasks.specs.Printed.{marked_text}
 use Rattle.dlm_tasks.proofs.ending.mark_through.Goals as goal
 
-pub returns-in-Ok : goal.returns-in-Ok
-returns-in-Ok g c =
+pub returns-in-Ok-clause-written : goal.returns-in-Ok-clause-written
+returns-in-Ok-clause-written g c =
     let before = g.O.Write.contents c.args.out.now in
     let after = g.O.Write.contents c.print_marked.new.out in
     let marked = c.in-Ok.log.marked in
@@ -23,4 +23,4 @@ returns-in-Ok g c =
           subst (λ (count : ℕ). Appends before after (marked_text count marked)) (c.from.ensures ∙ c.in-Ok.ensures.learned)
           (subst (λ (told : ℕ). Appends before after (marked_text c.from.result told)) c.from-in-Ok.ensures written);
     })
-    c.print_marked.ensures
+    c.print_marked.ensures.written

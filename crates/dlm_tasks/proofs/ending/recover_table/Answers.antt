@@ -5,8 +5,8 @@ use Rattle.std.specs.Io.KnownBytes.{Appends}
 use Rattle.dlm_tasks.specs.Printed.{table_text}
 use Rattle.dlm_tasks.proofs.ending.recover_table.Goals as goal
 
-pub returns-in-Ok : goal.returns-in-Ok
-returns-in-Ok g c =
+pub returns-in-Ok-clause-written : goal.returns-in-Ok-clause-written
+returns-in-Ok-clause-written g c =
     let before = g.O.Write.contents c.args.out.now in
     let after = g.O.Write.contents c.print_table.new.out in
     let shown = c.table.result.now in
@@ -22,4 +22,4 @@ returns-in-Ok g c =
       picture = c.table.ensures;
       written = subst (λ (count : ℕ). Appends before after (table_text count shown)) (c.from.ensures ∙ c.in-Ok.ensures.learned) written;
     })
-    c.print_table.ensures
+    c.print_table.ensures.written
