@@ -35,7 +35,7 @@ def seconds(name, least, most, text, letter=""):
 
 MODES = ["NL", "CR", "CW", "PR", "PW", "EX"]
 HOST = number("host", "N", 0, 15, "the host number; without it mg chooses one")
-JSON = option("json", "FLAG", "for programs: an object a line")
+JSON = option("json", "FLAG", "for programs: one object")
 
 # What a client may ask for, in the words of a script.
 COMMANDS = [
@@ -58,6 +58,7 @@ WORDS = [
         number("cluster", "N", 0, 2**64 - 1, "another number for each folder; without it one at random"),
         number("disks", "N", 1, 7, "how many images; 3 without it"),
         number("slots", "N", 1, 4096, "the log ends after so many commands; without it, it has no end"),
+        JSON,
     ], "make the images of a folder",
         ["Makes FOLDER if it is not there, and in it the images of a new log.", "It never writes over images that are there."],
         ["mg create images", "mg create images --disks 5"]),
@@ -81,7 +82,7 @@ WORDS = [
         ["mg lock images db -- ./backup", "mg lock images db --wait 60 -- ./backup", "mg lock images db -n -E 75 -- ./backup"],
         rest="COMMAND", one_of=(("mode", "shared", "exclusive"), ("wait", "nonblock"))),
     word("status", "FOLDER", [
-        option("json", "FLAG", "for programs: one object"),
+        JSON,
         option("prometheus", "FLAG", "for node_exporter of Prometheus"),
     ], "show slots, disks and locks",
         ["Shows slots, disks, host numbers in use on this machine, and locks.", "It only looks."],
@@ -97,12 +98,12 @@ WORDS = [
     ], "release what killed processes left",
         ["Releases the locks of each `mg lock` that was killed, once its COMMAND has ended, too.", "It prints how many, for each host number that had some."],
         ["mg recover images", "mg recover images --all"]),
-    word("submit", "FOLDER", [HOST, JSON], "put a command into the log",
+    word("submit", "FOLDER", [HOST], "put a command into the log",
          ["Puts COMMAND into the log, and prints its place and the reply of the lock table.", "The client, its request and the lock are numbers that you choose.",
           "A request counts once: each new one needs a greater number than the client's last."],
          ["mg submit images enqueue 1 $(date +%s%N) 1 EX db"], rest="COMMAND", needs=True),
-    word("table", "FOLDER", [HOST, JSON], "show the lock table", ["Learns the whole log, and prints the locks of each name."], ["mg table images"]),
-    word("mark", "FOLDER", [HOST, JSON], "mark what has no mark",
+    word("table", "FOLDER", [HOST], "show the lock table", ["Learns the whole log, and prints the locks of each name."], ["mg table images"]),
+    word("mark", "FOLDER", [HOST], "mark what has no mark",
          ["Learns the whole log, and marks each command that has no mark, so that looks pass it.", "Run it after a crash."], ["mg mark images"]),
     word("check", "FOLDER", [JSON], "look for damage in the images",
          ["Reads all images to their ends, and prints a line for whatever is wrong, or `sound`.", "It writes nothing."], ["mg check images"]),
@@ -291,8 +292,8 @@ def manual(version):
     out += [".Nm", ".Cm help", ".Op Ar word", ".Nm", ".Fl -version"]
     out += [".Sh DESCRIPTION", ".Nm", "keeps locks in a folder of images, which stand for disks.", "No network and no daemon takes part.",
             "Its words for one lock around one command are those that most need:", ".Bd -literal -offset indent", "$ mg create images",
-            "$ mg lock images db \\-\\- ./backup", ".Ed", ".Pp", ".Nm", "reads its words, and becomes", ".Xr mg-lock 1", "for locks and the status, or else", ".Xr dlm 1 ,",
-            "which knows no", ".Fl -json", "and refuses it.", "A program", ".Pa mg-folder", "would be taken in its place; no version has one yet.",
+            "$ mg lock images db \\-\\- ./backup", ".Ed", ".Pp", ".Nm", "reads its words, and becomes", ".Xr mg-lock 1", "for locks and the status, or else", ".Pa mg-folder .",
+            "Where that is not installed it becomes", ".Xr dlm 1 ,", "which knows no", ".Fl -json .",
             "Options stand anywhere after the first word, and before", ".Ar command", "or", ".Ql -- .", "The words are:", ".Bl -tag -width Ds"]
     for it in WORDS:
         out += described(it)
@@ -306,7 +307,7 @@ def manual(version):
             "cannot know their numbers, so there", ".Fl -host", "has to be given."]
     out += [".Sh FILES", ".Bl -tag -width Ds", ".It Pa turn.lock", "in the folder: locked by", ".Cm submit , table", "and", ".Cm mark", "without", ".Fl -host .",
             "It is empty, and may stay.", ".It Pa hostHOST.lock", "in the folder: locked while a host number is in use.", ".It Pa libexec/midgegalena/mg-folder",
-            "beside the folder of", ".Nm", "itself: a program for the words of a folder; no version has one yet.", ".El"]
+            "beside the folder of", ".Nm", "itself: the program for a folder's words and a script's.", ".El"]
     out += [".Sh EXIT STATUS", "That of", ".Xr mg-lock 1", "for", ".Cm lock , status", "and", ".Cm recover .", "Otherwise:", ".Bl -tag -width Ds", ".It 0",
             "done", ".It 1", "refused, or a check found something", ".It 2", "the words are wrong, and nothing was done;", ".Cm lock", "ends with 125 then", ".El"]
     out += [".Sh EXAMPLES", "Each word, as it is typed:", ".Bd -literal -offset indent"]

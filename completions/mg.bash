@@ -9,14 +9,14 @@ _mg() {
     fi
     case $task in
         help) [[ $COMP_CWORD -ne 2 ]] || mapfile -t COMPREPLY < <(compgen -W "create lock status watch recover submit table mark check migrate run sweep" -- "$word"); return ;;
-        create) options="--cluster --disks --slots --help" takes=1 ;;
+        create) options="--cluster --disks --slots --json --help" takes=1 ;;
         lock) options="--host --mode --shared --exclusive --wait --nonblock --conflict-exit-code --check --interval --value --close --verbose --command --help" takes=2 ;;
         status) options="--json --prometheus --help" takes=1 ;;
         watch) options="--every --help" takes=1 ;;
         recover) options="--host --all --help" takes=1 ;;
-        submit) options="--host --json --help" takes=1 ;;
-        table) options="--host --json --help" takes=1 ;;
-        mark) options="--host --json --help" takes=1 ;;
+        submit) options="--host --help" takes=1 ;;
+        table) options="--host --help" takes=1 ;;
+        mark) options="--host --help" takes=1 ;;
         check) options="--json --help" takes=1 ;;
         migrate) options="--json --help" takes=1 ;;
         run) options="--help" takes=1 ;;

@@ -98,11 +98,11 @@ class Kept:
 HANDED = [
     ("submit images enqueue 1 1 1 EX db", "mg-folder: [submit] [images] [--host] [0] [enqueue] [1] [1] [1] [EX] [db]"),
     ("submit images --host 3 enqueue 1 1 1 EX db noqueue", "mg-folder: [submit] [images] [--host] [3] [enqueue] [1] [1] [1] [EX] [db] [noqueue]"),
-    ("submit --json --host=15 images enqueue 1 1 1 EX --json", "mg-folder: [submit] [images] [--host] [15] [--json] [enqueue] [1] [1] [1] [EX] [--json]"),
+    ("submit --host=15 images enqueue 1 1 1 EX --json", "mg-folder: [submit] [images] [--host] [15] [enqueue] [1] [1] [1] [EX] [--json]"),
     ("submit images -- purge 1 2 0", "mg-folder: [submit] [images] [--host] [0] [purge] [1] [2] [0]"),
     ("submit images forget 1", "mg-folder: [submit] [images] [--host] [0] [forget] [1]"),
     ("table images", "mg-folder: [table] [images] [--host] [0]"),
-    ("table images --json --host 0", "mg-folder: [table] [images] [--host] [0] [--json]"),
+    ("table images --host 0", "mg-folder: [table] [images] [--host] [0]"),
     ("table -- images", "mg-folder: [table] [images] [--host] [0]"),
     ("mark --host 7 images", "mg-folder: [mark] [images] [--host] [7]"),
     ("check images", "mg-folder: [check] [images]"),
@@ -115,6 +115,7 @@ HANDED = [
     ("sweep one.dlm", "mg-folder: [sweep] [one.dlm]"),
     ("create images --cluster 7", "mg-folder: [create] [images] [--cluster] [7]"),
     ("create --slots 64 --disks=7 --cluster 18446744073709551615 images", "mg-folder: [create] [images] [--cluster] [18446744073709551615] [--disks] [7] [--slots] [64]"),
+    ("create images --json --cluster 7", "mg-folder: [create] [images] [--cluster] [7] [--json]"),
     ("create ./-odd --cluster 0", "mg-folder: [create] [./-odd] [--cluster] [0]"),
     ("create --cluster 0 -- -odd", "mg-folder: [create] [./-odd] [--cluster] [0]"),
     ("lock images db", "mg-lock: [images] [0] [db]"),
@@ -202,7 +203,7 @@ def by_dlm():
     for words, wanted in BY_DLM:
         told = mg(*words.split())
         expect((told.returncode, told.stdout, told.stderr) == (0, wanted + "\n", ""), f"{words}, by dlm: {told}")
-    told = mg("table", "images", "--json")
+    told = mg("check", "images", "--json")
     expect((told.returncode, told.stderr) == (1, "mg: --json is by mg-folder, which is not installed (see man mg, DIAGNOSTICS)\n"), f"--json, by dlm: {told}")
     os.makedirs("path", exist_ok=True)
     os.rename("usr/bin/dlm", "path/dlm")
@@ -283,12 +284,12 @@ WRONG = [
     (["watch", "images", "--json"], 2, "--json is no option of watch: --every"),
     (["recover", "images", "0"], 2, "0 is a word too many: mg recover FOLDER [--host N] [--all]"),
     (["recover", "images", "--host", "a"], 2, "--host is a: 0 to 15"),
-    (["submit"], 2, "FOLDER is missing: mg submit FOLDER [--host N] [--json] COMMAND.."),
-    (["submit", "images"], 2, "COMMAND is missing: mg submit FOLDER [--host N] [--json] COMMAND.."),
+    (["submit"], 2, "FOLDER is missing: mg submit FOLDER [--host N] COMMAND.."),
+    (["submit", "images"], 2, "COMMAND is missing: mg submit FOLDER [--host N] COMMAND.."),
     (["submit", "images", "--host", "0"], 2, "COMMAND is missing: mg submit FOLDER "),
-    (["submit", "images", "--hots", "0", "enqueue"], 2, "--hots is no option of submit: --host, --json"),
+    (["submit", "images", "--hots", "0", "enqueue"], 2, "--hots is no option of submit: --host"),
     (["submit", "images", "--host", "00", "enqueue"], 2, "--host is 00: 0 to 15"),
-    (["table", "images", "--jsn"], 2, "--jsn is no option of table: --host, --json"),
+    (["table", "images", "--jsn"], 2, "--jsn is no option of table: --host"),
     (["table", "images", "--"], 0, ""),
     (["table", "images", "0"], 2, "0 is a word too many: mg table FOLDER "),
     (["table", "--host", "--json", "images"], 2, "--host is --json: 0 to 15"),

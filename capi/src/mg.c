@@ -1,7 +1,7 @@
 /*
  * mg: the words for people, over mg-lock and dlm. No proof covers this file. It reads its words and says what is wrong with them. Where none is given it adds
- * a cluster number or a host number. Then it becomes one of the two. Where a program mg-folder is installed, which this repository does not have yet, it becomes
- * that in place of dlm. man man/mg.1 says how it is used; capi/mg_pages.py has the words.
+ * a cluster number or a host number. Then it becomes one of the two. Where mg-folder is installed, the proved program of crates/mg, it becomes that in place
+ * of dlm. man man/mg.1 says how it is used; capi/mg_pages.py has the words.
  */
 #ifndef _GNU_SOURCE
 #define _GNU_SOURCE
@@ -399,7 +399,8 @@ static void find_cluster(void) {
         refuse("--cluster is missing, and no number could be chosen: %s", reason(errno, "file"));
     snprintf(text, sizeof text, "%" PRIu64, 1 + number % ((uint64_t)1 << 40));
     snprintf(line, sizeof line, "cluster %s\n", text);
-    print(line);
+    if (!asked.given[O_JSON])
+        print(line);
     asked.given[O_CLUSTER] = text;
 }
 

@@ -76,17 +76,19 @@ static const struct word ALL_WORDS[WORDS] = {
         .options =
             {{"cluster", O_CLUSTER, 0, NUMBER, 0u, 18446744073709551615ull, "0 to 18446744073709551615"},
              {"disks", O_DISKS, 0, NUMBER, 1u, 7u, "1 to 7"},
-             {"slots", O_SLOTS, 0, NUMBER, 1u, 4096u, "1 to 4096"}},
+             {"slots", O_SLOTS, 0, NUMBER, 1u, 4096u, "1 to 4096"},
+             {"json", O_JSON, 0, FLAG, 0u, 0u, ""}},
         .one_of = {{OPTIONS, OPTIONS, OPTIONS}, {OPTIONS, OPTIONS, OPTIONS}},
-        .usage = "mg create FOLDER [--cluster N] [--disks N] [--slots N]",
+        .usage = "mg create FOLDER [OPTION]..",
         .help =
-        "usage: mg create FOLDER [--cluster N] [--disks N] [--slots N]\n"
+        "usage: mg create FOLDER [OPTION]..\n"
         "Makes FOLDER if it is not there, and in it the images of a new log. It never writes over images\n"
         "that are there.\n"
         "\n"
         "  --cluster N  another number for each folder; without it one at random\n"
         "  --disks N    how many images; 3 without it\n"
         "  --slots N    the log ends after so many commands; without it, it has no end\n"
+        "  --json       for programs: one object\n"
         "\n"
         "Examples:\n"
         "  mg create images\n"
@@ -206,18 +208,16 @@ static const struct word ALL_WORDS[WORDS] = {
         .is_followed = true,
         .needs_more = true,
         .options =
-            {{"host", O_HOST, 0, NUMBER, 0u, 15u, "0 to 15"},
-             {"json", O_JSON, 0, FLAG, 0u, 0u, ""}},
+            {{"host", O_HOST, 0, NUMBER, 0u, 15u, "0 to 15"}},
         .one_of = {{OPTIONS, OPTIONS, OPTIONS}, {OPTIONS, OPTIONS, OPTIONS}},
-        .usage = "mg submit FOLDER [--host N] [--json] COMMAND..",
+        .usage = "mg submit FOLDER [--host N] COMMAND..",
         .help =
-        "usage: mg submit FOLDER [--host N] [--json] COMMAND..\n"
+        "usage: mg submit FOLDER [--host N] COMMAND..\n"
         "Puts COMMAND into the log, and prints its place and the reply of the lock table. The client, its\n"
         "request and the lock are numbers that you choose. A request counts once: each new one needs a\n"
         "greater number than the client's last.\n"
         "\n"
         "  --host N  the host number; without it mg chooses one\n"
-        "  --json    for programs: an object a line\n"
         "\n"
         "COMMAND is one of these:\n"
         "  enqueue CLIENT REQUEST LOCK MODE NAME [noqueue]\n"
@@ -237,16 +237,14 @@ static const struct word ALL_WORDS[WORDS] = {
         .is_followed = false,
         .needs_more = false,
         .options =
-            {{"host", O_HOST, 0, NUMBER, 0u, 15u, "0 to 15"},
-             {"json", O_JSON, 0, FLAG, 0u, 0u, ""}},
+            {{"host", O_HOST, 0, NUMBER, 0u, 15u, "0 to 15"}},
         .one_of = {{OPTIONS, OPTIONS, OPTIONS}, {OPTIONS, OPTIONS, OPTIONS}},
-        .usage = "mg table FOLDER [--host N] [--json]",
+        .usage = "mg table FOLDER [--host N]",
         .help =
-        "usage: mg table FOLDER [--host N] [--json]\n"
+        "usage: mg table FOLDER [--host N]\n"
         "Learns the whole log, and prints the locks of each name.\n"
         "\n"
         "  --host N  the host number; without it mg chooses one\n"
-        "  --json    for programs: an object a line\n"
         "\n"
         "Example:\n"
         "  mg table images\n",
@@ -257,17 +255,15 @@ static const struct word ALL_WORDS[WORDS] = {
         .is_followed = false,
         .needs_more = false,
         .options =
-            {{"host", O_HOST, 0, NUMBER, 0u, 15u, "0 to 15"},
-             {"json", O_JSON, 0, FLAG, 0u, 0u, ""}},
+            {{"host", O_HOST, 0, NUMBER, 0u, 15u, "0 to 15"}},
         .one_of = {{OPTIONS, OPTIONS, OPTIONS}, {OPTIONS, OPTIONS, OPTIONS}},
-        .usage = "mg mark FOLDER [--host N] [--json]",
+        .usage = "mg mark FOLDER [--host N]",
         .help =
-        "usage: mg mark FOLDER [--host N] [--json]\n"
+        "usage: mg mark FOLDER [--host N]\n"
         "Learns the whole log, and marks each command that has no mark, so that looks pass it. Run it\n"
         "after a crash.\n"
         "\n"
         "  --host N  the host number; without it mg chooses one\n"
-        "  --json    for programs: an object a line\n"
         "\n"
         "Example:\n"
         "  mg mark images\n",
@@ -286,7 +282,7 @@ static const struct word ALL_WORDS[WORDS] = {
         "Reads all images to their ends, and prints a line for whatever is wrong, or sound. It writes\n"
         "nothing.\n"
         "\n"
-        "  --json  for programs: an object a line\n"
+        "  --json  for programs: one object\n"
         "\n"
         "Example:\n"
         "  mg check images\n",
@@ -305,7 +301,7 @@ static const struct word ALL_WORDS[WORDS] = {
         "Makes the log of FOLDER one without an end, in its own images. Stop every host of the folder\n"
         "before, and copy the images: there is no way back.\n"
         "\n"
-        "  --json  for programs: an object a line\n"
+        "  --json  for programs: one object\n"
         "\n"
         "Example:\n"
         "  mg migrate images\n",

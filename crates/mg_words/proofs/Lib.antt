@@ -1,0 +1,2 @@
+pub mod EachForm
+pub mod Lines

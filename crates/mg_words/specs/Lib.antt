@@ -1,0 +1,4 @@
+pub mod Asking
+pub mod Forms
+pub mod Texts
+pub mod Wrong
