@@ -325,7 +325,7 @@ def takes_at_once():
     given("all", *lines)
     count = os.path.join(work, "count")
     with open(count, "w", encoding="ascii") as file:
-        file.write("0")
+        file.write("0\n")
     line = (f'for i in 1 2 3; do taken=$("$0" take {images} db --wait 300) && read n < {count} && sleep 0.01 && echo $((n + 1)) > {count}'
             f' && "$0" give {images} db "$taken" || exit; done')
     started = [subprocess.Popen(["sh", "-c", line, mg], env=paths) for _ in range(6)]
