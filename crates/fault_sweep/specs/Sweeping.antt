@@ -46,10 +46,6 @@ recovery c h = Start h ∷ Begin h (Recover 255) ∷ replicate (17 * c.disks * (
 abbrev pub stops : List Event
 stops = map Stop (range_with_len 0 HOSTS)
 
--- then the first recovers, and then the last
-abbrev pub ending : Shape → List Event
-ending c = stops ++ recovery c 0 ++ recovery c (HOSTS - 1)
-
 -- THE VARIANTS
 
 -- an event is put before event i
@@ -84,7 +80,7 @@ recovers o events h = list_any is_recovery (answers_from o.shape (run_of o event
 abbrev pub one_if : Bool → ℕ
 one_if answers = if answers then 1 else 0
 
--- how many of the two recoveries behind these events answer
+-- how many of the two recoveries behind these events answer: all hosts stop, then the first recovers, and then the last
 abbrev pub recovered_behind : Opening → List Event → ℕ
 recovered_behind o events =
     let stopped = events ++ stops in

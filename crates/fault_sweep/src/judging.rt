@@ -82,7 +82,7 @@ fn shows(alloc: Global, log: &[Command], count: usize, picture: &Picture) -> Res
     }
     let table = fold(alloc, &log[..count])?;
     match table.picture(alloc) {
-        Ok(other) => Ok(is_same(picture, &other)),
+        Ok(other) => Ok(is_same_picture(picture, &other)),
         Err(_) => Err(NoMemory),
     }
 }
@@ -101,7 +101,7 @@ fn fold(alloc: Global, commands: &[Command]) -> Result<Table, NoMemory>
 }
 
 /// Whether two pictures show the same.
-fn is_same(a: &Picture, b: &Picture) -> bool
+pub fn is_same_picture(a: &Picture, b: &Picture) -> bool
     ensures { IsTrue result ↔ (a.now ≡ b.now) }
 {
     are_same_locks(a.locks(), b.locks())

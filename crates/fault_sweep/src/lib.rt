@@ -8,7 +8,7 @@ mod replay;
 mod sweeping;
 mod tally;
 
-pub use judging::judge;
+pub use judging::{is_same_picture, judge};
 pub use law::what_a_sweep_puts_in;
 pub use sweeping::sweep;
 pub use tally::Sweep;
