@@ -10,7 +10,7 @@ use Rattle.session.specs.Beginnings.{AsksAs, IsAnotherValue, IsNewClaim, OnlyBeg
 use Rattle.session.specs.Bounds.{IsPause, is_leaving, orders_left}
 use Rattle.session.specs.Keeping.{Keeps, KeepsRelease}
 use Rattle.session.specs.Moves.{GoesOn, KeepsGoal, KeepsValue}
-use Rattle.session.specs.Outcomes.{IsUnheard, TellsWhy}
+use Rattle.session.specs.Outcomes.{IsFor, IsUnheard, TellsFailure}
 use Rattle.session.specs.declared.beginning.Asker.{Asker}
 use Rattle.session.specs.declared.beginning.TheConstants.{LAST_TRIES}
 use Rattle.session.specs.declared.claim.Claim.{Claim}
@@ -20,6 +20,7 @@ use Rattle.session.specs.declared.claim.Standing.{Standing}
 use Rattle.session.specs.declared.claim.Standing.TheVariants.{Held, Leaving, Left}
 use Rattle.session.specs.declared.claim.Step.{Step}
 use Rattle.session.specs.declared.claim.Step.TheVariants as step
+use Rattle.session.specs.declared.outcome.Failure.{Failure}
 use Rattle.session.specs.declared.outcome.Outcome.TheVariants.{Failed}
 use Rattle.session.specs.declared.outcome.Why.{Why}
 use Rattle.session.specs.declared.outcome.Why.TheVariants.{Gone, Stopped, TimeOver, Waits}
@@ -126,14 +127,15 @@ abbrev pub why_over : Bool → Why
 why_over told = if told then Stopped else TimeOver
 
 -- The operation is to end soon. It goes on as before, but that a pause ends, and leads to nothing for which something would have to be heard; if the operation
--- ends then, and the pause was for no failure, this is told. What may be in the log stays known.
+-- ends then, this is told, or the failure that the pause was for. What may be in the log stays known.
 pub record Stops (stopped : Bool) (old new : Claim) : Type 0 where
   pub over : new.over ≡ Some (why_over stopped)
   pub soon : orders_left new ≤ 13
   pub no_pause : IsPause new.step → ⊥
   pub goes_on : (IsPause old.step → ⊥) → new ≡ record old { over = new.over; tries = LAST_TRIES }
   pub unheard : IsPause old.step → IsUnheard new
-  pub told : IsPause old.step → old.pace.failure ≡ None → TellsWhy new (why_over stopped)
+  pub told : IsPause old.step → old.pace.failure ≡ None → IsFor old new (why_over stopped)
+  pub failed : (failure : Failure) → IsPause old.step → old.pace.failure ≡ Some failure → TellsFailure (record old { over = Some (why_over stopped) }) failure new
   pub moves : GoesOn (record old { over = new.over }) new
   pub goal : KeepsGoal old new
   pub value : KeepsValue old new

@@ -1,10 +1,10 @@
 -- What changes in a claim by what it hears: a move of the claim for each event.
 use Rattle.std.specs.Prelude.{◌≡◌, ◌≢◌, ◌⊎◌, ℕ, ℤ, Some, None, IfSome}
 use Rattle.lock_command.specs.declared.reply.Reply.{Reply}
-use Rattle.session.specs.Bounds.{ComesNearer, IsOpening, IsPause, IsReading, MayPause}
+use Rattle.session.specs.Bounds.{CannotFail, ComesNearer, IsOpening, IsPause, IsReading, MayPause}
 use Rattle.session.specs.Keeping.{IsOnSame, Keeps, KeepsRelease, KeepsReleaseUntilOut}
-use Rattle.session.specs.Moves.{Asks, AsksOn, BreaksOff, Chooses, GoesOn, KeepsGoal, KeepsValue, MovesOn, TellsSlot}
-use Rattle.session.specs.Outcomes.{EndsIn, IsBorneOut, IsGivenUpFor, IsSlotOf, IsSubmitting, IsUnheard, RefusesFor, TellsWhy}
+use Rattle.session.specs.Moves.{Asks, AsksOn, BreaksOff, Chooses, GoesOn, KeepsGoal, KeepsValue, MovesOn, TellsSlot, reached}
+use Rattle.session.specs.Outcomes.{EndsIn, IsBorneOut, IsFor, IsGivenUpFor, IsSlotOf, IsSubmitting, IsUnheard, RefusesFor, TellsFailure, TellsWhy}
 use Rattle.session.specs.declared.claim.Choice.{Choice}
 use Rattle.session.specs.declared.claim.Claim.{Claim}
 use Rattle.session.specs.declared.claim.Sign.{Sign}
@@ -14,9 +14,9 @@ use Rattle.session.specs.declared.claim.Then.{Then}
 use Rattle.session.specs.declared.claim.Then.TheVariants.{AskAgain, End}
 use Rattle.session.specs.declared.learned.Learned.{Learned}
 use Rattle.session.specs.declared.outcome.Failure.{Failure}
-use Rattle.session.specs.declared.outcome.Failure.TheVariants.{Broken, NoLock, Outrun}
+use Rattle.session.specs.declared.outcome.Failure.TheVariants.{Broken, LogFull, NoLock, Outrun}
 use Rattle.session.specs.declared.outcome.Outcome.{Outcome}
-use Rattle.session.specs.declared.outcome.Outcome.TheVariants.{InDoubt, NotHeld}
+use Rattle.session.specs.declared.outcome.Outcome.TheVariants.{NotHeld}
 use Rattle.session.specs.declared.outcome.Why.{Why}
 use Rattle.session.specs.declared.outcome.Why.TheVariants as why
 use Rattle.c_claims.specs.declared.event.Event.{Event}
@@ -29,6 +29,7 @@ use Rattle.c_claims.specs.Failures.{IsFailureOf}
 pub record Opens (l : Learned) (old new : Claim) : Type 0 where
   pub borne_out : IsBorneOut l new
   pub nearer : ComesNearer old new
+  pub out_of_turn : (IsOpening old.step → ⊥) → BreaksOff (reached old) new
   pub moves : MovesOn l old new
   pub goal : KeepsGoal old new
   pub value : KeepsValue old new
@@ -40,6 +41,7 @@ pub record Learns (l : Learned) (old new : Claim) : Type 0 where
   pub borne_out : IsBorneOut l new
   pub nearer : ComesNearer old new
   pub pauses : IsPause new.step → MayPause l
+  pub out_of_turn : (IsReading old.step → ⊥) → BreaksOff old new
   pub moves : MovesOn l old new ⊎ Chooses l old new
   pub goal : KeepsGoal old new
   pub value : KeepsValue old new
@@ -54,13 +56,15 @@ pub record IsReplied (reply : Reply) (l : Learned) (old new : Claim) : Type 0 wh
   pub pauses : IsPause new.step → MayPause l
   pub refused : (reason : Why) → old.standing ≡ Asked → EndsIn new (NotHeld reason) → RefusesFor reply reason
   pub given_up : (reason : Why) → old.standing ≡ Leaving → EndsIn new (NotHeld reason) → IsGivenUpFor old.goal reason
+  pub out_of_turn : (IsSubmitting old.step → ⊥) → BreaksOff old new
   pub moves : MovesOn l old new ⊎ TellsSlot old new
   pub goal : KeepsGoal old new
   pub value : KeepsValue old new
   pub keeps : Keeps old (record new { slot = old.slot })
   pub release : KeepsReleaseUntilOut l old new
 
--- What was ordered could not be done, for this reason.
+-- What was ordered could not be done, for this reason. If it ends it tells that, or why it was to end soon. But that a log is full which ends tells something of the
+-- command.
 pub record IsRefused (failed : Failure) (l : Learned) (old new : Claim) : Type 0 where
   pub borne_out : IsBorneOut l new
   pub nearer : ComesNearer old new
@@ -69,7 +73,9 @@ pub record IsRefused (failed : Failure) (l : Learned) (old new : Claim) : Type 0
   pub value : KeepsValue old new
   pub keeps : Keeps old new
   pub release : KeepsReleaseUntilOut l old new
-  pub told : IsReading old.step → old.over ≡ None → TellsWhy new (why.Failed failed)
+  pub told : IsReading old.step → TellsFailure old failed new
+  pub told_submitting : IsSubmitting old.step → failed ≢ LogFull → old.over ≡ None → IsFor old new (why.Failed failed)
+  pub out_of_turn : (IsSubmitting old.step → ⊥) → (IsReading old.step → ⊥) → BreaksOff old new
 
 -- The sign of life is this session's. The lock is asked for by the number that was chosen, or the operation ends, since it was to end soon.
 pub record Signs (l : Learned) (old new : Claim) : Type 0 where
@@ -106,7 +112,7 @@ pub record DropsSign (l : Learned) (old new : Claim) : Type 0 where
 -- WHERE NO TABLE CAN BE READ
 
 -- Nothing could be opened, or heard, for this reason. Whatever the step leads to needs nothing heard. What may be in the log stays known, and nothing else
--- changes but how the operation goes on. If it ends since the folder could not be opened, it tells that failure, unless it was to end soon.
+-- changes but how the operation goes on. If it ends since that failed, it tells that failure, or why it was to end soon.
 pub record Closes (failed : Failure) (old new : Claim) : Type 0 where
   pub unheard : IsUnheard new
   pub nearer : ComesNearer old new
@@ -115,7 +121,8 @@ pub record Closes (failed : Failure) (old new : Claim) : Type 0 where
   pub value : KeepsValue old new
   pub keeps : Keeps old new
   pub release : KeepsRelease old new
-  pub told : IsOpening old.step → old.over ≡ None → TellsWhy new (why.Failed failed)
+  pub told : (CannotFail old.step → ⊥) → TellsFailure old failed new
+  pub out_of_turn : CannotFail old.step → BreaksOff old new
 
 -- The folder is open, and its host does not know the table yet. So the log is read next, unless the operation is to end soon. A lock that is to
 -- be released is looked for all the same.
@@ -124,7 +131,7 @@ pub record OpensUnread (old new : Claim) : Type 0 where
   pub reads : IsOpening old.step → old.over ≡ None → IsReading new.step
   pub leaves : old.step ≡ Opening → old.standing ≡ Leaving → new.step ≡ Looking
   pub told : (reason : Why) → IsOpening old.step → old.over ≡ Some reason → old.standing ≢ Leaving → TellsWhy new reason
-  pub out_of_turn : (IsOpening old.step → ⊥) → EndsIn new (InDoubt (why.Failed Broken))
+  pub out_of_turn : (IsOpening old.step → ⊥) → BreaksOff (reached old) new
   pub nearer : ComesNearer old new
   pub moves : GoesOn old new
   pub goal : KeepsGoal old new
@@ -141,7 +148,8 @@ pub record IsRefusedUnread (failed : Failure) (old new : Claim) : Type 0 where
   pub value : KeepsValue old new
   pub keeps : Keeps old new
   pub release : KeepsRelease old new
-  pub told : IsReading old.step → old.over ≡ None → TellsWhy new (why.Failed failed)
+  pub told : IsReading old.step → TellsFailure old failed new
+  pub told_submitting : IsSubmitting old.step → old.over ≡ None → IsFor old new (why.Failed failed)
   pub yields : IsSubmitting old.step → old.over ≡ None → failed ≡ Outrun → new.step ≡ Yielding
   pub out_of_turn : (IsSubmitting old.step → ⊥) → (IsReading old.step → ⊥) → BreaksOff old new
 
@@ -192,7 +200,8 @@ pub record LacksSign (old new : Claim) : Type 0 where
   pub value : KeepsValue old new
   pub keeps : Keeps old new
   pub release : KeepsRelease old new
-  pub told : (choice : Choice) → old.step ≡ Signing choice → old.over ≡ None → TellsWhy new (why.Failed NoLock)
+  pub told : (choice : Choice) → old.step ≡ Signing choice → TellsFailure old NoLock new
+  pub out_of_turn : ((choice : Choice) → old.step ≡ Signing choice → ⊥) → BreaksOff old new
 
 -- A pause is over: the folder is opened next, under the host number where something is to be submitted. Nothing changes but what is done next.
 pub record Rests (old new : Claim) : Type 0 where
@@ -200,6 +209,7 @@ pub record Rests (old new : Claim) : Type 0 where
   pub opens : (milliseconds : ℕ) → old.step ≡ Resting milliseconds → IsOpening new.step
   pub submits : (milliseconds : ℕ) → old.step ≡ Resting milliseconds → (old.standing ≡ Unasked) ⊎ (old.standing ≡ Leaving) → new.step ≡ Opening
   pub rest : new ≡ record old { step = new.step }
+  pub out_of_turn : (IsPause old.step → ⊥) → BreaksOff old new
   pub keeps : Keeps old new
   pub release : KeepsRelease old new
 

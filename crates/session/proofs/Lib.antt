@@ -1,3 +1,4 @@
+pub mod Causes
 pub mod Next
 pub mod Outcomes
 pub mod Places

@@ -2,11 +2,14 @@
 use Rattle.std.specs.Prelude.{◌≡◌, ◌+◌, ◌<◌, ◌⊎◌, ℕ, Bool, true, false, is_some}
 use Rattle.session.specs.Places.{IsFull}
 use Rattle.session.specs.declared.claim.Claim.{Claim}
+use Rattle.session.specs.declared.claim.Sign.{Sign}
 use Rattle.session.specs.declared.claim.Standing.{Standing}
 use Rattle.session.specs.declared.claim.Standing.TheVariants.{Leaving}
 use Rattle.session.specs.declared.claim.Step.{Step}
 use Rattle.session.specs.declared.claim.Step.TheVariants.{Opening, OpeningToLook, Learning, Looking, Tidying, Submitting, Dropping, Resting, Yielding, Ended}
+use Rattle.session.specs.declared.claim.Then.{Then}
 use Rattle.session.specs.declared.learned.Learned.{Learned}
+use Rattle.session.specs.declared.outcome.Outcome.{Outcome}
 
 abbrev pub is_leaving : Standing → Bool
 is_leaving Leaving = true
@@ -45,3 +48,7 @@ MayPause l = (l.left_over ≡ false) × ¬ IsFull l
 -- what it leads to depends on a log that is read
 abbrev pub IsReading : Step → Type 0
 IsReading step = (step ≡ Learning) ⊎ (step ≡ Looking) ⊎ (step ≡ Tidying)
+
+-- nothing is ordered that could fail: it pauses, gives a sign of life up, or has ended
+abbrev pub CannotFail : Step → Type 0
+CannotFail step = IsPause step ⊎ ((sign : Sign) × (then : Then) × (step ≡ Dropping sign then)) ⊎ ((outcome : Outcome) × (step ≡ Ended outcome))

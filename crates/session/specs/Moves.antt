@@ -97,3 +97,7 @@ Asks l choice old new = new ≡ record old {
 -- What was told does not go with what was ordered: the operation ends in doubt, and nothing else changes.
 abbrev pub BreaksOff : Claim → Claim → Type 0
 BreaksOff old new = new ≡ record old { step = Ended (InDoubt (why.Failed Broken)) }
+
+-- the images could be opened: whatever failed there before is over
+abbrev pub reached : Claim → Claim
+reached c = record c { pace = record c.pace { failure = None } }

@@ -1,5 +1,5 @@
 -- What has to be heard before an operation on a claim may end so.
-use Rattle.std.specs.Prelude.{◌≡◌, ◌≤◌, ◌⊎◌, ⊤, ℕ, Option, Some, None, not}
+use Rattle.std.specs.Prelude.{◌≡◌, ◌≢◌, ◌≤◌, ◌⊎◌, ⊤, ℕ, Bool, Option, Some, None, not}
 use Rattle.lock_command.specs.declared.command.Command.{Command}
 use Rattle.lock_command.specs.declared.command.Action.TheVariants.{Release}
 use Rattle.lock_command.specs.declared.reply.Answer.TheVariants as answer
@@ -11,7 +11,7 @@ use Rattle.session.specs.Numbers.{client_of}
 use Rattle.session.specs.Places.{IsFull, command_at}
 use Rattle.session.specs.declared.claim.Claim.{Claim}
 use Rattle.session.specs.declared.claim.Goal.{Goal}
-use Rattle.session.specs.declared.claim.Goal.TheVariants.{Check, Give, GiveUp}
+use Rattle.session.specs.declared.claim.Goal.TheVariants.{Check, Give, GiveUp, Take}
 use Rattle.session.specs.declared.claim.Sign.{Sign}
 use Rattle.session.specs.declared.claim.Standing.TheVariants.{Unasked}
 use Rattle.session.specs.declared.claim.Step.{Step}
@@ -19,6 +19,8 @@ use Rattle.session.specs.declared.claim.Step.TheVariants.{Dropping, Ended, Submi
 use Rattle.session.specs.declared.claim.Then.{Then}
 use Rattle.session.specs.declared.claim.Then.TheVariants.{AskAgain, End}
 use Rattle.session.specs.declared.learned.Learned.{Learned}
+use Rattle.session.specs.declared.outcome.Failure.{Failure}
+use Rattle.session.specs.declared.outcome.Failure.TheVariants.{Outrun}
 use Rattle.session.specs.declared.outcome.Outcome.{Outcome}
 use Rattle.session.specs.declared.outcome.Why.{Why}
 use Rattle.session.specs.declared.outcome.Why.TheVariants as why
@@ -48,6 +50,21 @@ why_of outcome = None
 -- If the operation ends, this is why.
 abbrev pub TellsWhy : Claim → Why → Type 0
 TellsWhy c why = (outcome : Outcome) → EndsIn c outcome → why_of outcome ≡ Some why
+
+-- Why an operation ends where this failed: that failure. But where it was to end soon it is the reason of that, if it was told to stop, or was outrun.
+pub record IsCause (over : Option Why) (failure : Failure) (cause : Why) : Type 0 where
+  pub failed : over ≡ None → cause ≡ why.Failed failure
+  pub late : (reason : Why) → over ≡ Some reason → reason ≢ why.Stopped → failure ≢ Outrun → cause ≡ why.Failed failure
+  pub stopped : over ≡ Some why.Stopped → cause ≡ why.Stopped
+  pub outrun : (reason : Why) → over ≡ Some reason → failure ≡ Outrun → cause ≡ reason
+
+-- If the operation ends, or gives up the lock that it was to take, this is why.
+abbrev pub IsFor : Claim → Claim → Why → Type 0
+IsFor old new why = TellsWhy new why × ((waits : Bool) (reason : Why) → old.goal ≡ Take waits → new.goal ≡ GiveUp reason → reason ≡ why)
+
+-- If so, this failure was the cause.
+abbrev pub TellsFailure : Claim → Failure → Claim → Type 0
+TellsFailure old failure new = (cause : Why) × IsCause old.over failure cause × IsFor old new cause
 
 -- it goes on by another number
 abbrev pub AsksAgain : Claim → Type 0

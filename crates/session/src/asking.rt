@@ -7,7 +7,7 @@ ghost use Rattle.session.specs.Evidence.{Knows};
 ghost use Rattle.session.specs.Keeping.{IsOnSame, Keeps, KeepsRelease, KeepsReleaseUntilOut};
 ghost use Rattle.session.specs.Numbers.{client_of};
 ghost use Rattle.session.specs.declared.claim.Standing.{Standing};
-ghost use Rattle.session.specs.Outcomes.{AsksAt, EndsIn, IsBorneOut, IsGivenUpFor, IsSlotOf, IsSubmitting, IsUnheard, IsWithout, RefusesFor, TellsWhy};
+ghost use Rattle.session.specs.Outcomes.{AsksAt, EndsIn, IsBorneOut, IsFor, IsGivenUpFor, IsSlotOf, IsSubmitting, IsUnheard, IsWithout, RefusesFor, TellsFailure};
 
 use crate::claim::{Choice, Claim, Goal, Sign, Standing, Step, Then};
 use crate::evidence::{Seen, asks_at, find, first_of, is_numbered, is_taken, last_request};
@@ -228,7 +228,8 @@ impl Claim {
     /// The sign of life cannot be made or locked.
     pub fn sign_failed(&mut self)
         ensures unheard { IsUnheard self.new }
-        ensures told { (choice : Choice) → self.old.step ≡ Step.Signing choice → self.old.over ≡ None → TellsWhy self.new (Why.Failed Failure.NoLock) }
+        ensures told { (choice : Choice) → self.old.step ≡ Step.Signing choice → TellsFailure self.old Failure.NoLock self.new }
+        ensures out_of_turn { ((choice : Choice) → self.old.step ≡ Step.Signing choice → ⊥) → BreaksOff self.old self.new }
         ensures nearer { ComesNearer self.old self.new }
         ensures moves { GoesOn self.old self.new }
         ensures goal { KeepsGoal self.old self.new }
@@ -252,6 +253,7 @@ impl Claim {
         ensures refused { (why : Why) → self.old.standing ≡ Standing.Asked → EndsIn self.new (Outcome.NotHeld why) → RefusesFor reply.now why }
         // Why a lock is not held that was released is what the operation was for.
         ensures given_up { (why : Why) → self.old.standing ≡ Standing.Leaving → EndsIn self.new (Outcome.NotHeld why) → IsGivenUpFor self.old.goal why }
+        ensures out_of_turn { (IsSubmitting self.old.step → ⊥) → BreaksOff self.old self.new }
         ensures moves { MovesOn learned.now self.old self.new ⊎ TellsSlot self.old self.new }
         ensures goal { KeepsGoal self.old self.new }
         ensures value { KeepsValue self.old self.new }
@@ -347,6 +349,7 @@ impl Claim {
     /// The command was not acknowledged. That a log without an end is full tells nothing of the command.
     pub(crate) fn submit_failed(&mut self, failure: Failure, learned: &Learned<'_>)
         ensures borne_out { IsBorneOut learned.now self.new }
+        ensures told { failure ≢ Failure.LogFull → self.old.over ≡ None → IsFor self.old self.new (Why.Failed failure) }
         ensures soon { is_some self.old.over ≡ true → is_leaving self.old.standing ≡ false → orders_left self.new ≤ 12 }
         ensures leaves { is_some self.old.over ≡ true → is_leaving self.old.standing ≡ true → orders_left self.new ≤ 1 + self.old.tries }
         ensures moves { MovesOn learned.now self.old self.new }
@@ -364,6 +367,7 @@ impl Claim {
     /// The same, where it is not known what the log and the table show.
     pub(crate) fn submit_failed_unread(&mut self, failure: Failure)
         ensures unheard { IsUnheard self.new }
+        ensures told { self.old.over ≡ None → IsFor self.old self.new (Why.Failed failure) }
         ensures yields { self.old.over ≡ None → failure ≡ Failure.Outrun → self.new.step ≡ Step.Yielding }
         ensures soon { is_some self.old.over ≡ true → is_leaving self.old.standing ≡ false → orders_left self.new ≤ 12 }
         ensures leaves { is_some self.old.over ≡ true → is_leaving self.old.standing ≡ true → orders_left self.new ≤ 1 + self.old.tries }

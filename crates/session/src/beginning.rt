@@ -3,7 +3,8 @@ ghost use Rattle.session.specs.Beginnings.{AsksAs, Begins, IsAnotherValue, IsNew
 ghost use Rattle.session.specs.Bounds.{IsPause, is_leaving, orders_left};
 ghost use Rattle.session.specs.Keeping.{Keeps, KeepsRelease};
 ghost use Rattle.session.specs.Moves.{GoesOn, KeepsGoal, KeepsValue};
-ghost use Rattle.session.specs.Outcomes.{IsUnheard, TellsWhy};
+ghost use Rattle.session.specs.Outcomes.{IsFor, IsUnheard, TellsFailure};
+ghost use Rattle.session.specs.declared.outcome.Failure.{Failure};
 
 use crate::claim::{Claim, Goal, Standing, Step};
 use crate::numbers::lock_of;
@@ -174,7 +175,9 @@ impl Claim {
         ensures no_pause { IsPause self.new.step → ⊥ }
         ensures goes_on { (IsPause self.old.step → ⊥) → self.new ≡ record self.old { over = Some why; tries = LAST_TRIES } }
         ensures unheard { IsPause self.old.step → IsUnheard self.new }
-        ensures told { IsPause self.old.step → self.old.pace.failure ≡ None → TellsWhy self.new why }
+        ensures told { IsPause self.old.step → self.old.pace.failure ≡ None → IsFor self.old self.new why }
+        // A pause for what failed ends for that.
+        ensures failed { (failure : Failure) → IsPause self.old.step → self.old.pace.failure ≡ Some failure → TellsFailure (record self.old { over = Some why }) failure self.new }
         ensures moves { GoesOn (record self.old { over = Some why }) self.new }
         ensures goal { KeepsGoal self.old self.new }
         ensures value { KeepsValue self.old self.new }

@@ -1,8 +1,8 @@
-ghost use Rattle.std.specs.Prelude.{◌≡◌, ◌+◌, ◌≢◌, ◌≤◌, ◌⊎◌, ◌↔◌, ℕ, IsTrue, None, Some, is_some, true};
-ghost use Rattle.session.specs.Bounds.{ComesNearer, IsOpening, IsPause, IsReading, MayPause, is_leaving, orders_left};
+ghost use Rattle.std.specs.Prelude.{◌≡◌, ◌+◌, ◌≢◌, ◌≤◌, ◌⊎◌, ◌↔◌, ℕ, Bool, IsTrue, None, Some, is_some, true};
+ghost use Rattle.session.specs.Bounds.{CannotFail, ComesNearer, IsOpening, IsPause, IsReading, MayPause, is_leaving, orders_left};
 ghost use Rattle.session.specs.Keeping.{IsOnSame, Keeps, KeepsRelease, KeepsReleaseUntilOut};
-ghost use Rattle.session.specs.Moves.{AsksOn, BreaksOff, Chooses, GoesOn, KeepsGoal, KeepsValue, MovesOn};
-ghost use Rattle.session.specs.Outcomes.{EndsIn, IsBorneOut, IsGivenUp, IsOut, IsSubmitting, IsUnheard, TellsWhy, then_of};
+ghost use Rattle.session.specs.Moves.{AsksOn, BreaksOff, Chooses, GoesOn, KeepsGoal, KeepsValue, MovesOn, reached};
+ghost use Rattle.session.specs.Outcomes.{IsBorneOut, IsFor, IsGivenUp, IsOut, IsSubmitting, IsUnheard, TellsFailure, TellsWhy, then_of};
 
 use crate::beginning::LAST_TRIES;
 use crate::claim::{Claim, Goal, Sign, Standing, Step, Then};
@@ -17,6 +17,7 @@ impl Claim {
     pub fn opened(&mut self, learned: &Learned<'_>)
         ensures borne_out { IsBorneOut learned.now self.new }
         ensures nearer { ComesNearer self.old self.new }
+        ensures out_of_turn { (IsOpening self.old.step → ⊥) → BreaksOff (reached self.old) self.new }
         ensures moves { MovesOn learned.now self.old self.new }
         ensures goal { KeepsGoal self.old self.new }
         ensures value { KeepsValue self.old self.new }
@@ -41,7 +42,7 @@ impl Claim {
         ensures reads { IsOpening self.old.step → self.old.over ≡ None → IsReading self.new.step }
         ensures leaves { self.old.step ≡ Step.Opening → self.old.standing ≡ Standing.Leaving → self.new.step ≡ Step.Looking }
         ensures told { (why : Why) → IsOpening self.old.step → self.old.over ≡ Some why → self.old.standing ≢ Standing.Leaving → TellsWhy self.new why }
-        ensures out_of_turn { (IsOpening self.old.step → ⊥) → EndsIn self.new (Outcome.InDoubt (Why.Failed Failure.Broken)) }
+        ensures out_of_turn { (IsOpening self.old.step → ⊥) → BreaksOff (reached self.old) self.new }
         ensures nearer { ComesNearer self.old self.new }
         ensures moves { GoesOn self.old self.new }
         ensures goal { KeepsGoal self.old self.new }
@@ -59,7 +60,7 @@ impl Claim {
 
     /// The images can be opened: whatever failed there before is over.
     fn reach(&mut self)
-        ensures { self.new ≡ record self.old { pace = record self.old.pace { failure = None } } }
+        ensures { self.new ≡ reached self.old }
     {
         self.pace.failure = None;
     }
@@ -115,6 +116,7 @@ impl Claim {
         ensures borne_out { IsBorneOut learned.now self.new }
         ensures nearer { ComesNearer self.old self.new }
         ensures pauses { IsPause self.new.step → MayPause learned.now }
+        ensures out_of_turn { (IsReading self.old.step → ⊥) → BreaksOff self.old self.new }
         ensures moves { MovesOn learned.now self.old self.new ⊎ Chooses learned.now self.old self.new }
         ensures goal { KeepsGoal self.old self.new }
         ensures value { KeepsValue self.old self.new }
@@ -295,6 +297,7 @@ impl Claim {
         ensures submits { (milliseconds : ℕ) → self.old.step ≡ Step.Resting milliseconds →
             (self.old.standing ≡ Standing.Unasked) ⊎ (self.old.standing ≡ Standing.Leaving) → self.new.step ≡ Step.Opening }
         ensures rest { self.new ≡ record self.old { step = self.new.step } }
+        ensures out_of_turn { (IsPause self.old.step → ⊥) → BreaksOff self.old self.new }
         ensures keeps { Keeps self.old self.new }
         ensures release { KeepsRelease self.old self.new }
     {
@@ -397,7 +400,10 @@ impl Claim {
         ensures value { KeepsValue self.old self.new }
         ensures keeps { Keeps self.old self.new }
         ensures release { KeepsReleaseUntilOut learned.now self.old self.new }
-        ensures told { IsReading self.old.step → self.old.over ≡ None → TellsWhy self.new (Why.Failed failure) }
+        ensures told { IsReading self.old.step → TellsFailure self.old failure self.new }
+        // That a log is full which ends tells something of the command.
+        ensures told_submitting { IsSubmitting self.old.step → failure ≢ Failure.LogFull → self.old.over ≡ None → IsFor self.old self.new (Why.Failed failure) }
+        ensures out_of_turn { (IsSubmitting self.old.step → ⊥) → (IsReading self.old.step → ⊥) → BreaksOff self.old self.new }
     {
         match self.step {
             Step::Submitting(_) => self.submit_failed(failure, learned),
@@ -415,7 +421,8 @@ impl Claim {
         ensures value { KeepsValue self.old self.new }
         ensures keeps { Keeps self.old self.new }
         ensures release { KeepsRelease self.old self.new }
-        ensures told { IsReading self.old.step → self.old.over ≡ None → TellsWhy self.new (Why.Failed failure) }
+        ensures told { IsReading self.old.step → TellsFailure self.old failure self.new }
+        ensures told_submitting { IsSubmitting self.old.step → self.old.over ≡ None → IsFor self.old self.new (Why.Failed failure) }
         // A command that was outrun is put into the log once more, after a pause.
         ensures yields { IsSubmitting self.old.step → self.old.over ≡ None → failure ≡ Failure.Outrun → self.new.step ≡ Step.Yielding }
         ensures out_of_turn { (IsSubmitting self.old.step → ⊥) → (IsReading self.old.step → ⊥) → BreaksOff self.old self.new }
@@ -436,7 +443,8 @@ impl Claim {
         ensures value { KeepsValue self.old self.new }
         ensures keeps { Keeps self.old self.new }
         ensures release { KeepsRelease self.old self.new }
-        ensures told { IsOpening self.old.step → self.old.over ≡ None → TellsWhy self.new (Why.Failed failure) }
+        ensures told { (CannotFail self.old.step → ⊥) → TellsFailure self.old failure self.new }
+        ensures out_of_turn { CannotFail self.old.step → BreaksOff self.old self.new }
     {
         match self.step {
             Step::Resting(_) | Step::Yielding | Step::Dropping(..) | Step::Ended(_) =>
@@ -462,7 +470,7 @@ impl Claim {
         ensures value { KeepsValue self.old self.new }
         ensures keeps { Keeps self.old self.new }
         ensures release { KeepsRelease self.old self.new }
-        ensures told { self.old.over ≡ None → TellsWhy self.new (Why.Failed failure) }
+        ensures told { TellsFailure self.old failure self.new }
     {
         if self.over.is_some() {
             return self.give_up(self.cause(failure));
@@ -478,7 +486,12 @@ impl Claim {
     }
 
     /// Why an operation ends that is to end soon, where this failed last. Who was outrun had no luck in its time.
-    pub(crate) fn cause(&self, failure: Failure) -> Why {
+    pub(crate) fn cause(&self, failure: Failure) -> Why
+        ensures failed { self.now.over ≡ None → result ≡ Why.Failed failure }
+        ensures late { (over : Why) → self.now.over ≡ Some over → over ≢ Why.Stopped → failure ≢ Failure.Outrun → result ≡ Why.Failed failure }
+        ensures stopped { self.now.over ≡ Some Why.Stopped → result ≡ Why.Stopped }
+        ensures outrun { (over : Why) → self.now.over ≡ Some over → failure ≡ Failure.Outrun → result ≡ over }
+    {
         match self.over {
             Some(over) if failure == Failure::Outrun || over == Why::Stopped => over,
             _ => Why::Failed(failure),
@@ -513,6 +526,7 @@ impl Claim {
         ensures keeps { Keeps self.old self.new }
         ensures release { KeepsRelease self.old self.new }
         ensures told { TellsWhy self.new why }
+        ensures reason { (waits : Bool) (reason : Why) → self.old.goal ≡ Goal.Take waits → self.new.goal ≡ Goal.GiveUp reason → reason ≡ why }
     {
         match (self.goal, self.standing) {
             (Goal::Check, _) => self.step = Step::Ended(Outcome::Failed(why)),

@@ -8,6 +8,7 @@ returns-in-Opened c =
     let moved : Opens c.args.learned.now c.args.claim.now c.opened.new.self = record {
       borne_out = c.opened.ensures.borne_out;
       nearer = c.opened.ensures.nearer;
+      out_of_turn = c.opened.ensures.out_of_turn;
       moves = c.opened.ensures.moves;
       goal = c.opened.ensures.goal;
       value = c.opened.ensures.value;
@@ -22,6 +23,7 @@ returns-in-Learned c =
       borne_out = c.learned.ensures.borne_out;
       nearer = c.learned.ensures.nearer;
       pauses = c.learned.ensures.pauses;
+      out_of_turn = c.learned.ensures.out_of_turn;
       moves = c.learned.ensures.moves;
       goal = c.learned.ensures.goal;
       value = c.learned.ensures.value;
@@ -39,6 +41,7 @@ returns-in-Replied c =
       pauses = c.replied.ensures.pauses;
       refused = c.replied.ensures.refused;
       given_up = c.replied.ensures.given_up;
+      out_of_turn = c.replied.ensures.out_of_turn;
       moves = c.replied.ensures.moves;
       goal = c.replied.ensures.goal;
       value = c.replied.ensures.value;
@@ -58,6 +61,8 @@ returns-in-Refused c =
       keeps = c.refused.ensures.keeps;
       release = c.refused.ensures.release;
       told = c.refused.ensures.told;
+      told_submitting = c.refused.ensures.told_submitting;
+      out_of_turn = c.refused.ensures.out_of_turn;
     } in
     rw c.in-Refused.is moved
 
@@ -112,5 +117,6 @@ returns-in-Unknown c =
       keeps = c.closed.ensures.keeps;
       release = c.closed.ensures.release;
       told = c.closed.ensures.told;
+      out_of_turn = c.closed.ensures.out_of_turn;
     } in
     rw c.in-Unknown.is moved

@@ -47,6 +47,7 @@ returns-in-Learned c =
       keeps = c.refused_unread.ensures.keeps;
       release = c.refused_unread.ensures.release;
       told = c.refused_unread.ensures.told;
+      told_submitting = c.refused_unread.ensures.told_submitting;
       yields = c.refused_unread.ensures.yields;
       out_of_turn = c.refused_unread.ensures.out_of_turn;
     } in
@@ -63,6 +64,7 @@ returns-in-Refused c =
       keeps = c.refused_unread-in-Refused.ensures.keeps;
       release = c.refused_unread-in-Refused.ensures.release;
       told = c.refused_unread-in-Refused.ensures.told;
+      told_submitting = c.refused_unread-in-Refused.ensures.told_submitting;
       yields = c.refused_unread-in-Refused.ensures.yields;
       out_of_turn = c.refused_unread-in-Refused.ensures.out_of_turn;
     } in
@@ -79,6 +81,7 @@ returns-in-Signed c =
       keeps = c.closed.ensures.keeps;
       release = c.closed.ensures.release;
       told = c.closed.ensures.told;
+      out_of_turn = c.closed.ensures.out_of_turn;
     } in
     closes_so c.args.event c.args.unread c.args.claim.now c.closed.new.self c.in-Signed.is moved
 
@@ -108,5 +111,6 @@ returns-in-Unknown c =
       keeps = c.closed-in-Unknown.ensures.keeps;
       release = c.closed-in-Unknown.ensures.release;
       told = c.closed-in-Unknown.ensures.told;
+      out_of_turn = c.closed-in-Unknown.ensures.out_of_turn;
     } in
     rw c.in-Unknown.is moved
