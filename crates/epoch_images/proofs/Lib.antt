@@ -1,4 +1,4 @@
 mod Anew
 mod Deeds
-mod Doing
+pub mod Doing
 mod Marking

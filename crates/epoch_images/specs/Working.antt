@@ -1,12 +1,14 @@
 -- What a host over all epochs and its disks did for a task: which deeds, with which calls, what the disks gave, and how it ended.
-use Rattle.std.specs.Prelude.{◌≡◌, ◌≤◌, ℕ, List, [], ◌∷◌, ◌++◌, length, slice_get, Option, Some, None, Result, Ok, Err}
-use Rattle.disk.specs.Disk.{Call, Answer}
+use Rattle.std.specs.Prelude.{◌≡◌, ◌⊎◌, ◌<◌, ◌≤◌, ℕ, List, [], ◌∷◌, ◌++◌, length, slice_get, slice_index, Option, Some, None, Result, Ok, Err}
+use Rattle.disk.specs.declared.fault.DiskFault.TheVariants.{Failed}
+use Rattle.disk.specs.Disk.{Call, Answer, Fault}
 use Rattle.torn_block.specs.Layout.{cluster_version}
 use Rattle.paxos_block.specs.Places.{image_length}
 use Rattle.paxos_block.specs.Shape.{Shape}
 use Rattle.standings.specs.Epochs.{whole_length}
 use Rattle.standings.specs.Past as past
-use Rattle.epoch_deeds.specs.Deeds.{Deeds, Calls, CallsIn}
+use Rattle.host.specs.Host.{Memory, Running}
+use Rattle.epoch_deeds.specs.Deeds.{Deed, Deeds, Calls, CallsIn, core_in}
 use Rattle.epoch_deeds.specs.Knowing.{DoesFrom}
 use Rattle.epoch_host.specs.declared.answer.EpochAnswer.{EpochAnswer}
 use Rattle.epoch_host.specs.declared.answer.EpochAnswer.TheVariants as answer
@@ -19,10 +21,11 @@ use Rattle.dlm_images.specs.Operations.{Made, Gave}
 use Rattle.epoch_images.specs.declared.fault.EpochFault.{EpochFault}
 use Rattle.epoch_images.specs.declared.fault.EpochFault.TheVariants as fault
 
--- what a host keeps, and its disks
+-- what a host keeps, its disks, and of each of them the first epoch in which it takes part
 pub record Standing (D : Type 0) : Type 0 where
   pub host : Walk
   pub disks : List D
+  pub firsts : List ℕ
 
 -- CALLS
 
@@ -37,13 +40,35 @@ calls_of (Calls d now ∷ deeds) = made_on d now ∷ calls_of deeds
 calls_of (CallsIn e d now call heard ∷ deeds) = made_on d now ∷ calls_of deeds
 calls_of (other ∷ deeds) = calls_of deeds
 
+-- DISKS THAT TAKE PART LATER
+
+-- After these deeds of a host a core of it runs in an epoch before this one.
+pub record RunsBefore (c : Shape) (h first : ℕ) (deeds : Deeds) : Type 0 where
+  pub epoch : ℕ
+  pub memory : Memory
+  pub runs : core_in c h epoch deeds ≡ Running memory
+  pub before : epoch < first
+
+-- the call is made; or it is not, since its disk takes no part yet, and the host hears that the device failed
+abbrev pub IsMadeOr : (early : Type 0) → (call : Made) → (made : List Made) → (Rest : List Made → Type 0) → Type 0
+IsMadeOr early call made Rest = ((early → ⊥) × ((rest : List Made) × (made ≡ call ∷ rest) × Rest rest)) ⊎ (early × (call.answer ≡ Fault Failed) × Rest made)
+
+-- These are the calls that are made by deeds which come after others: all device calls among them, in their order, but for those of an epoch in which their disk takes no part yet.
+abbrev pub AreMade : Shape → (h : ℕ) → (firsts : List ℕ) → (before deeds : Deeds) → List Made → Type 0
+AreMade c h firsts before [] made = made ≡ []
+AreMade c h firsts before (Calls d now ∷ deeds) made =
+    IsMadeOr (RunsBefore c h (slice_index firsts d) before) (made_on d now) made (λ rest. AreMade c h firsts (before ++ Calls d now ∷ []) deeds rest)
+AreMade c h firsts before (CallsIn e d now call heard ∷ deeds) made =
+    IsMadeOr (RunsBefore c h (slice_index firsts d) before) (made_on d now) made (λ rest. AreMade c h firsts (before ++ CallsIn e d now call heard ∷ []) deeds rest)
+AreMade c h firsts before (other ∷ deeds) made = AreMade c h firsts (before ++ other ∷ []) deeds made
+
 -- DEEDS
 
--- After these deeds a host did more, and each deed was allowed by all before it. The calls among that were these, and then this is so.
-pub record DidMore (c : Shape) (h : ℕ) (deeds : Deeds) (made : List Made) (IsSo : Deeds → Type 0) : Type 0 where
+-- After these deeds a host did more, and each deed was allowed by all before it. These calls were made by that, and then this is so.
+pub record DidMore (c : Shape) (h : ℕ) (firsts : List ℕ) (deeds : Deeds) (made : List Made) (IsSo : Deeds → Type 0) : Type 0 where
   pub more : Deeds
   pub may : DoesFrom c h deeds more
-  pub calls : calls_of more ≡ made
+  pub calls : AreMade c h firsts deeds more made
   pub so : IsSo (deeds ++ more)
 
 -- From old to new the host made calls. Its disks gave the answers, and each disk changed only so. Whatever list of deeds led to the old host goes on with
@@ -51,7 +76,8 @@ pub record DidMore (c : Shape) (h : ℕ) (deeds : Deeds) (made : List Made) (IsS
 pub record HasDoneSince {D : Type 0} (gives : D → Call → Answer → D → Type 0) (old new : Standing D) (IsSo : Shape → (h : ℕ) → (before all : Deeds) → Type 0) : Type 0 where
   pub made : List Made
   pub gave : Gave gives old.disks made new.disks
-  pub leads : (c : Shape) (h : ℕ) (deeds : Deeds) → LeadsTo c h deeds old.host → DidMore c h deeds made (IsSo c h deeds)
+  pub firsts : new.firsts ≡ old.firsts
+  pub leads : (c : Shape) (h : ℕ) (deeds : Deeds) → LeadsTo c h deeds old.host → DidMore c h old.firsts deeds made (IsSo c h deeds)
 
 -- the same, where this is of all that it did
 abbrev pub HasDone : {D : Type 0} → (D → Call → Answer → D → Type 0) → (old new : Standing D) → (Shape → (h : ℕ) → Deeds → Type 0) → Type 0

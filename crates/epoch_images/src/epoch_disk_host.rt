@@ -17,6 +17,7 @@ use lock_table::{Reply, Table};
 use paxos_block::Config;
 use std::alloc::Global;
 use std::marker::Model;
+use torn_block::DISKS;
 
 /// The place of an acknowledged command among all slots of all epochs, and what the lock table replied to it there.
 #[derive(Clone, Copy, Debug, PartialEq, Eq)]
@@ -32,6 +33,7 @@ pub struct Placed {
 pub struct EpochDiskHost<D: Disk> {
     host: EpochHost,
     disks: Vec<D>,
+    firsts: [u64; DISKS as usize],
     alloc: Global,
     config: Config,
 }
@@ -41,25 +43,33 @@ impl<D: Disk> Model for EpochDiskHost<D> {
 
     ghost Value = { Standing D };
 
-    ghost view = { λ h. record { host = h.host; disks = h.disks.items } };
+    ghost view = { λ h. record { host = h.host; disks = h.disks.items; firsts = h.firsts } };
 
-    ghost invariant = { λ h. Rests (λ d. (D.device d).size) h.config (record { host = h.host; disks = h.disks.items }) };
+    ghost invariant = { λ h. Rests (λ d. (D.device d).size) h.config (record { host = h.host; disks = h.disks.items; firsts = h.firsts }) };
 }
 
 impl<D: Disk> EpochDiskHost<D> {
-    /// A host that knows of no epoch yet, over these disks.
-    pub fn start(alloc: Global, host: HostNumber, config: Config, disks: Vec<D>) -> EpochDiskHost<D>
+    /// A host that knows of no epoch yet, over these disks. Each takes part from the epoch on that is told here by its number; before, each call on it fails unmade.
+    pub fn start(
+        alloc: Global,
+        host: HostNumber,
+        config: Config,
+        firsts: [u64; DISKS as usize],
+        disks: Vec<D>,
+    ) -> EpochDiskHost<D>
     where
         D: Drop,
         requires as_many { length disks.items ≡ config.disks }
         requires large { (k : ℕ) (d : D) → slice_get disks.items k ≡ Some d → room_of config ≤ (D.device d).size }
         ensures fresh { LeadsTo config host [] result.host }
         ensures disks { result.disks ≡ disks.items }
+        ensures firsts { result.firsts ≡ firsts }
         ensures of { (result.host.host ≡ host) × (result.host.config ≡ config) }
     {
         EpochDiskHost {
             host: EpochHost::new(alloc, host, config),
             disks,
+            firsts,
             alloc,
             config,
         }
@@ -180,6 +190,7 @@ impl<D: Disk> EpochDiskHost<D> {
         drive(
             &mut self.host,
             &mut self.disks,
+            &self.firsts,
             self.alloc,
             self.config,
             task,

@@ -9,7 +9,7 @@ use Rattle.epoch_host.specs.declared.task.EpochTask.{EpochTask}
 use Rattle.epoch_host.specs.declared.walk.Walk.{Walk}
 use Rattle.epoch_host.specs.Ending.{AreIdleBy, AreSilentBy, EndsSo, IsDone}
 use Rattle.epoch_host.specs.Leading.{LeadsTo}
-use Rattle.epoch_images.specs.Working.{Standing, HasWorked, calls_of}
+use Rattle.epoch_images.specs.Working.{Standing, AreMade, HasWorked}
 use Rattle.epoch_runs.specs.World.{Entry, Does, Breaks, BreaksIn, Ends}
 use Rattle.epochs_at_once.specs.AtOnce.{deeds_since, DoesAlone}
 
@@ -44,7 +44,7 @@ pub record HasGoneOn (c : Shape) (h : ℕ) (task : EpochTask) (said : Option Epo
 
 abbrev pub Works : {D : Type 0} → (D → Call → Answer → D → Type 0) → Type 0
 Works {D = D} gives = (c : Shape) (h : ℕ) (entries : List Entry) (task : EpochTask) (said : Option EpochAnswer) (old new : Standing D) →
-    HasDone c h old.host entries → (worked : HasWorked gives task said old new) → (more : Deeds) × (calls_of more ≡ worked.made) × HasGoneOn c h task said new.host entries more
+    HasDone c h old.host entries → (worked : HasWorked gives task said old new) → (more : Deeds) × AreMade c h old.firsts (deeds_since entries) more worked.made × HasGoneOn c h task said new.host entries more
 
 -- the entry of a host that stopped within the write that a deed is
 abbrev pub broken : ℕ → Deed → Option Entry

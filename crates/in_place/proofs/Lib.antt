@@ -1,3 +1,5 @@
 pub mod InPlaceDisks
 pub mod InPlaceFiles
 pub mod MadeReady
+pub mod Newest
+pub mod Replaced

@@ -1,2 +1,3 @@
 pub mod InPlaceFolders
 pub mod InPlaceImages
+pub mod Replacing

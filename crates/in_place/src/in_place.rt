@@ -81,7 +81,10 @@ where
 }
 
 /// Locks every host's number, if nobody works under one of them.
-fn lock_hosts<R: Files + AllocGlobal>(rt: &R, folder: &str) -> Result<Vec<R::File>, LockFault>
+pub(crate) fn lock_hosts<R: Files + AllocGlobal>(
+    rt: &R,
+    folder: &str,
+) -> Result<Vec<R::File>, LockFault>
 where
     R::File: TryLock + Drop,
     ensures locked { IfOk result (λ locks. HoldsAll R.File.locked locks.items) }

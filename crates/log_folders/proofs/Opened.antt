@@ -38,11 +38,11 @@ same_size (any.Endless a) (any.Endless b) same = ap size_of same.slots
 -- an epoch may have as many slots as a set without an end says
 slots_may_be : (header : AnyHeader) → IsAnyHeader header → Endless ≡ kind_of header → IsSlotCount (slots_in header)
 slots_may_be (any.Ending header) may_be is = absurd (cc)
-slots_may_be (any.Endless header) may_be is = may_be.0.slots
+slots_may_be (any.Endless header) may_be is = may_be.slots
 
 disks_are_few : (header : AnyHeader) → IsAnyHeader header → disks_in header ≤ DISKS
 disks_are_few (any.Ending header) may_be = may_be.disks
-disks_are_few (any.Endless header) may_be = may_be.0.among.few
+disks_are_few (any.Endless header) may_be = may_be.among.few
 
 module _ (found : AnyFound) (images : AreAnyImages found) (config : Shape) (cluster : ℕ) where
   -- THE NUMBERS OF A SET

@@ -18,7 +18,7 @@ use Rattle.endless_image.proofs.HeaderLaws.{older_version, reads_version}
 use Rattle.endless_image.proofs.KindLaws.{any_gate, long_enough, neither, one_kind}
 use Rattle.folders.specs.Folders.{HasToldFirst}
 use Rattle.folders.specs.Headers.{IsOld, HasWrongHeader}
-use Rattle.log_folders.specs.AnyHeaders.{HasNoneUsed, IsAnyHeader, IsCutBy, IsFromFirst, IsUnusedBy, IsUsedBy, ReadsAnyHeader, ReadsNoAnyHeader, disk_in, size_in}
+use Rattle.log_folders.specs.AnyHeaders.{HasNoneUsed, IsAnyHeader, IsCutBy, IsUnusedBy, ReadsAnyHeader, ReadsNoAnyHeader, disk_in, size_in}
 
 module _ (disk long : ℕ) (bytes : List ℕ) where
   -- the number of its layout, or of its kind
@@ -34,21 +34,12 @@ module _ (disk long : ℕ) (bytes : List ℕ) where
       let first = layout_number Version1 old.header old.right in
       omega (arith, endless, first)
 
-  pub one_used : (a b : AnyHeader) → IsUsedBy disk long bytes a → IsUsedBy disk long bytes b → a ≡ b
-  one_used a b is_a is_b = one_kind disk long bytes a b is_a.right is_b.right
+  pub one_used : (a b : AnyHeader) → IsRightBy disk long bytes a → IsRightBy disk long bytes b → a ≡ b
+  one_used a b is_a is_b = one_kind disk long bytes a b is_a is_b
 
-  -- one that takes part from a later epoch on is not used
-  pub late_unused : (header : EndlessHeader) → IsRight disk long bytes header → header.first_epoch ≢ 0 → HasNoneUsed disk long bytes
-  late_unused header right late =
-      record {
-        formatted = any_gate disk long bytes (Endless header) right;
-        none = λ other used. late (subst IsFromFirst (sym (one_kind disk long bytes (Endless header) other right used.right)) used.first);
-        not_old = not_old header right;
-      }
-
-  -- nor one that is right by neither kind
-  pub neither_used : ((header : EndlessHeader) → IsRight disk long bytes header → ⊥) → ((header : Header) → older.IsRight cluster_version disk long bytes header → ⊥) → (header : AnyHeader) → IsUsedBy disk long bytes header → ⊥
-  neither_used endless ending header used = neither disk long bytes endless ending header used.right
+  -- none is used where none is right by either kind
+  pub neither_used : ((header : EndlessHeader) → IsRight disk long bytes header → ⊥) → ((header : Header) → older.IsRight cluster_version disk long bytes header → ⊥) → (header : AnyHeader) → IsRightBy disk long bytes header → ⊥
+  neither_used endless ending header used = neither disk long bytes endless ending header used
 
   pub none_used : ((header : EndlessHeader) → IsRight disk long bytes header → ⊥) → HasWrongHeader cluster_version disk long bytes → HasNoneUsed disk long bytes
   none_used endless wrong =
@@ -67,20 +58,20 @@ module _ (disk long : ℕ) (bytes : List ℕ) where
 
   -- WHAT A HEADER THAT IS USED SAYS
 
-  pub may_be : (header : AnyHeader) → IsUsedBy disk long bytes header → IsAnyHeader header
-  may_be (Ending header) used = used.right.may_be
-  may_be (Endless header) used = (used.right.may_be, used.first)
+  pub may_be : (header : AnyHeader) → IsRightBy disk long bytes header → IsAnyHeader header
+  may_be (Ending header) used = used.may_be
+  may_be (Endless header) used = used.may_be
 
-  pub own_number : (header : AnyHeader) → IsUsedBy disk long bytes header → disk_in header ≡ disk
-  own_number (Ending header) used = used.right.named
-  own_number (Endless header) used = used.right.named
+  pub own_number : (header : AnyHeader) → IsRightBy disk long bytes header → disk_in header ≡ disk
+  own_number (Ending header) used = used.named
+  own_number (Endless header) used = used.named
 
-  pub own_size : (header : AnyHeader) → IsUsedBy disk long bytes header → size_in header ≡ long
-  own_size (Ending header) used = used.right.as_long
-  own_size (Endless header) used = used.right.as_long
+  pub own_size : (header : AnyHeader) → IsRightBy disk long bytes header → size_in header ≡ long
+  own_size (Ending header) used = used.as_long
+  own_size (Endless header) used = used.as_long
 
-  pub has_header : (header : AnyHeader) → IsUsedBy disk long bytes header → 1024 ≤ long
-  has_header header used = long_enough disk long bytes header used.right
+  pub has_header : (header : AnyHeader) → IsRightBy disk long bytes header → 1024 ≤ long
+  has_header header used = long_enough disk long bytes header used
 
   -- HOW LONG IT IS
 
@@ -113,7 +104,7 @@ on_ok P Q (Ok value) more so = more value so
 on_ok P Q (Err fault) more so = tt
 
 module _ {D : Type 0} (gives : D → Call → Answer → D → Type 0) (old new : D) (disk size : ℕ) (bytes : List ℕ) (told : 1024 ≤ size → HasToldFirst gives old bytes new) where
-  pub reads_header : (result : Result AnyHeader ImageFault) → IfOk result (IsUsedBy disk size bytes) → IfOk result (λ header. ReadsAnyHeader gives old disk size header new)
+  pub reads_header : (result : Result AnyHeader ImageFault) → IfOk result (IsRightBy disk size bytes) → IfOk result (λ header. ReadsAnyHeader gives old disk size header new)
   reads_header (Err fault) used = tt
   reads_header (Ok header) used =
       let first = told (has_header disk size bytes header used) in

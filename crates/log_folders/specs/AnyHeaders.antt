@@ -33,31 +33,26 @@ abbrev pub cluster_in : AnyHeader → ℕ
 cluster_in (Ending header) = header.cluster
 cluster_in (Endless header) = header.cluster
 
+-- the first epoch in which it takes part; one of a log that ends has the first one alone
+abbrev pub first_in : AnyHeader → ℕ
+first_in (Ending header) = 0
+first_in (Endless header) = header.first_epoch
+
 -- how many bytes its image has
 abbrev pub size_in : AnyHeader → ℕ
 size_in header = size_by (kind_of header) (slots_in header)
 
 -- WHEN IT IS USED
 
--- One of a log without an end takes part from epoch 0 on.
-abbrev pub IsFromFirst : AnyHeader → Type 0
-IsFromFirst (Ending header) = Unit {0}
-IsFromFirst (Endless header) = header.first_epoch ≡ 0
-
 -- an image that is used may have this header
 abbrev pub IsAnyHeader : AnyHeader → Type 0
 IsAnyHeader (Ending header) = IsHeader header
-IsAnyHeader (Endless header) = IsEndlessHeader header × (header.first_epoch ≡ 0)
+IsAnyHeader (Endless header) = IsEndlessHeader header
 
--- An image of this length, with these first bytes, is right as that of this disk by one of the kinds, and takes part from the first.
-pub record IsUsedBy (disk long : ℕ) (bytes : List ℕ) (header : AnyHeader) : Type 0 where
-  pub right : IsRightBy disk long bytes header
-  pub first : IsFromFirst header
-
--- The gate is open. No header is right by either kind and takes part from the first, and the image is not of the layout that images had before.
+-- The gate is open. No header is right by either kind, and the image is not of the layout that images had before.
 pub record HasNoneUsed (disk long : ℕ) (bytes : List ℕ) : Type 0 where
   pub formatted : IsFormatted bytes
-  pub none : (header : AnyHeader) → ¬ IsUsedBy disk long bytes header
+  pub none : (header : AnyHeader) → ¬ IsRightBy disk long bytes header
   pub not_old : ¬ IsOld cluster_version disk long bytes
 
 -- why it is not used, by its first bytes
@@ -76,7 +71,7 @@ pub record ReadsAnyHeader {D : Type 0} (gives : D → Call → Answer → D → 
   pub bytes : List ℕ
   pub boots : gives old Attach (Booted boot) attached
   pub tells : gives attached (Read boot 0 HEADER_LENGTH) (Told bytes) new
-  pub used : IsUsedBy disk size bytes header
+  pub used : IsRightBy disk size bytes header
 
 -- Why it says none: its first bytes, which it told, say none that is used; or they are fewer than a header has; or it failed to tell those that it has.
 abbrev pub ReadsNoAnyHeader : {D : Type 0} → (D → Call → Answer → D → Type 0) → (old : D) → (disk size : ℕ) → (new : D) → ImageFault → Type 0

@@ -8,7 +8,7 @@ use Rattle.endless_image.specs.Kinds.{AreOneSet, kind_of}
 use Rattle.endless_image.specs.declared.any_header.AnyHeader.{AnyHeader}
 use Rattle.endless_image.specs.declared.kind.Kind.{Kind}
 use Rattle.folders.specs.declared.set.SetFault.{SetFault}
-use Rattle.log_folders.specs.AnyHeaders.{IsAnyHeader, cluster_in, disk_in, disks_in, slots_in}
+use Rattle.log_folders.specs.AnyHeaders.{IsAnyHeader, cluster_in, disk_in, disks_in, first_in, slots_in}
 
 -- what was found of each image: its header, or why it is refused
 abbrev pub AnyFound : Type 0
@@ -27,6 +27,15 @@ pub record AreAnyImages (found : AnyFound) : Type 0 where
   pub all : length found ≡ DISKS
   pub right : AreAnyHeaders found
   pub numbers : (k : ℕ) (header : AnyHeader) → Says found k header → disk_in header ≡ k
+
+-- the first epoch in which an image takes part; of one that is refused it does not matter
+abbrev pub first_of : Result AnyHeader ImageFault → ℕ
+first_of (Ok header) = first_in header
+first_of (Err fault) = 0
+
+-- so it is of each image
+abbrev pub AreFirsts : AnyFound → List ℕ → Type 0
+AreFirsts found firsts = (k : ℕ) (first : ℕ) (image : Result AnyHeader ImageFault) → slice_get firsts k ≡ Some first → slice_get found k ≡ Some image → first ≡ first_of image
 
 -- all headers below this number are of the set of this one
 abbrev pub AreOfSetBelow : AnyFound → AnyHeader → ℕ → Type 0

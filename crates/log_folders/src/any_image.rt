@@ -4,7 +4,7 @@ ghost use Rattle.torn_block.specs.declared.layout.TheConstants.{HEADER_LENGTH};
 ghost use Rattle.paxos_block.specs.Headers.{IsRight};
 ghost use Rattle.endless_image.specs.Kinds.{IsRightBy};
 ghost use Rattle.paxos_block.specs.declared.header.Header.{Header};
-ghost use Rattle.log_folders.specs.AnyHeaders.{IsAnyHeader, IsCutToAnyHeader, IsUnusedBy, IsUsedBy, ReadsAnyHeader, ReadsNoAnyHeader, disk_in, size_in};
+ghost use Rattle.log_folders.specs.AnyHeaders.{IsAnyHeader, IsCutToAnyHeader, IsUnusedBy, ReadsAnyHeader, ReadsNoAnyHeader, disk_in, size_in};
 
 use disk::{Disk, FileDisk, ImageFault};
 use endless_image::{AnyHeader, decode_endless_header, told_any_length};
@@ -111,22 +111,18 @@ pub fn any_header<D: Disk>(device: &mut D, disk: u8) -> Result<AnyHeader, ImageF
 
 /// The header of an image, of either kind of log, by the disk that it is named as, its length in bytes, and its first bytes.
 ///
-/// An image of a log without an end that takes part from a later epoch on is refused. No program makes such images, and a host would have
-/// to leave the disk out of the epochs before.
+/// One of a log without an end may take part only from a later epoch on. Whoever works in an epoch before makes no call on that disk.
 pub fn used_header(
     disk: u8,
     long: u64,
     bytes: &[u8; HEADER_LENGTH],
 ) -> Result<AnyHeader, ImageFault>
     // What is read is used, and what is used is read.
-    ensures right { IfOk result (IsUsedBy disk long bytes.now) }
-    ensures only { (header : AnyHeader) → IsUsedBy disk long bytes.now header → result ≡ Ok header }
+    ensures right { IfOk result (IsRightBy disk long bytes.now) }
+    ensures only { (header : AnyHeader) → IsRightBy disk long bytes.now header → result ≡ Ok header }
     ensures fault { IfErr result (IsUnusedBy disk long bytes.now) }
 {
     if let Ok(header) = decode_endless_header(disk, long, bytes) {
-        if header.first_epoch != 0 {
-            return Err(ImageFault::WrongHeader);
-        }
         return Ok(AnyHeader::Endless(header));
     }
     match image_header::<ClusterLayout>(disk, long, bytes) {

@@ -2,12 +2,13 @@ ghost use Rattle.std.specs.Prelude.{◌≡◌, ◌<◌, ◌≤◌, IfOk, IfErr, 
 ghost use Rattle.torn_block.specs.declared.layout.TheConstants.{DISKS, SLOTS};
 ghost use Rattle.endless_image.specs.Kinds.{kind_of};
 ghost use Rattle.log_folders.specs.AnyHeaders.{IsAnyHeader, cluster_in, disks_in, slots_in};
-ghost use Rattle.log_folders.specs.AnySets.{AreAnyHeaders, HasAnyNumbers, HasAnySetFault, HasNone, IsFirst, IsSetOf};
+ghost use Rattle.log_folders.specs.AnySets.{AreAnyHeaders, AreFirsts, HasAnyNumbers, HasAnySetFault, HasNone, IsFirst, IsSetOf, first_of};
 
 use disk::ImageFault;
 use endless_image::{AnyHeader, Kind, are_one_set};
 use folders::SetFault;
 use paxos_block::Config;
+use torn_block::DISKS;
 
 /// What the images of one set have in common.
 #[derive(Clone, Copy, Debug, PartialEq, Eq)]
@@ -65,6 +66,29 @@ fn first_header(found: &[Result<AnyHeader, ImageFault>]) -> Result<AnyHeader, Se
     match found[0] {
         Err(fault) => Err(SetFault { disk: 0, fault }),
         Ok(_) => unreachable!(),
+    }
+}
+
+/// By the number of each image, the first epoch in which it takes part. It is 0 of an image that is refused, and of one of a log that ends.
+pub fn first_epochs(
+    found: &[Result<AnyHeader, ImageFault>; DISKS as usize],
+) -> [u64; DISKS as usize]
+    ensures { AreFirsts found.now result }
+{
+    let mut firsts = [0; DISKS as usize];
+    for disk in 0..usize::from(DISKS) {
+        firsts[disk] = first_epoch(&found[disk]);
+    }
+    firsts
+}
+
+fn first_epoch(found: &Result<AnyHeader, ImageFault>) -> u64
+    ensures { result ≡ first_of found.now }
+{
+    match found {
+        Ok(AnyHeader::Endless(header)) => header.first_epoch,
+        Ok(AnyHeader::Ending(_)) => 0,
+        Err(_) => 0,
     }
 }
 

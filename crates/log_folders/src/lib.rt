@@ -16,7 +16,7 @@ mod print_area;
 mod unfinished;
 
 pub use any_image::{any_header, open_any_image, open_cut_to_any_header, used_header};
-pub use any_set::{AnySet, set_of_any};
+pub use any_set::{AnySet, first_epochs, set_of_any};
 pub use area::{Area, Part};
 pub use check::{check_endless, print_endless_damage};
 pub use endless_folder::EndlessFolder;

@@ -8,7 +8,7 @@ use Rattle.epoch_images.proofs.operation.drive.Given as goal
 
 abbrev pub invariant-loop-made : goal.invariant-loop-made
 invariant-loop-made g l = record {
-  done : HasDoneSince g.D.Disk.gives (record { host = l.fn.host; disks = l.fn.disks }) (record { host = l.host; disks = l.disks }) (IsOnWay l.host l.host.said);
+  done : HasDoneSince g.D.Disk.gives (record { host = l.fn.host; disks = l.fn.disks; firsts = l.fn.firsts }) (record { host = l.host; disks = l.disks; firsts = l.fn.firsts }) (IsOnWay l.host l.host.said);
   same : IsSame l.fn.host l.host;
   keeps : (l.host.task ≡ None) ⊎ (l.host.task ≡ Some l.fn.task);
   told : l.host.task ≡ None → IsSome l.host.said;

@@ -1,23 +1,16 @@
-use Rattle.std.proofs.Common.{Ok, Err, ap, inr, refl}
+use Rattle.std.proofs.Common.{Ok, Err, ap, refl}
 use Rattle.endless_image.specs.declared.any_header.AnyHeader.{AnyHeader}
 use Rattle.endless_image.specs.declared.any_header.AnyHeader.TheVariants.{Ending, Endless}
-use Rattle.log_folders.proofs.UsedHeaders.{late_unused, neither_used, one_used, unused_by}
+use Rattle.log_folders.proofs.UsedHeaders.{neither_used, one_used, unused_by}
 use Rattle.log_folders.proofs.any_image.used_header.Goals as goal
-
-pub returns-then-header-ne0-clause-fault : goal.returns-then-header-ne0-clause-fault
-returns-then-header-ne0-clause-fault c = inr (late_unused c.args.disk c.args.long c.args.bytes.now c.in-Ok.header c.in-Ok.ensures.right c.if-header-ne0.true)
-
-pub returns-then-header-ne0-clause-only : goal.returns-then-header-ne0-clause-only
-returns-then-header-ne0-clause-only c = λ header used.
-    absurd ((late_unused c.args.disk c.args.long c.args.bytes.now c.in-Ok.header c.in-Ok.ensures.right c.if-header-ne0.true).none header used)
 
 pub returns-in-Ok-clause-only : goal.returns-in-Ok-clause-only
 returns-in-Ok-clause-only c = λ header used.
-    ap (λ (h : AnyHeader). Ok h) (one_used c.args.disk c.args.long c.args.bytes.now (Endless c.in-Ok.header) header (record { right = c.in-Ok.ensures.right; first = c.if-header-ne0.false }) used)
+    ap (λ (h : AnyHeader). Ok h) (one_used c.args.disk c.args.long c.args.bytes.now (Endless c.in-Ok.header) header c.in-Ok.ensures.right used)
 
 pub returns-in-Ok-image_header-clause-only : goal.returns-in-Ok-image_header-clause-only
 returns-in-Ok-image_header-clause-only c = λ header used.
-    ap (λ (h : AnyHeader). Ok h) (one_used c.args.disk c.args.long c.args.bytes.now (Ending c.in-Ok-image_header.header) header (record { right = c.in-Ok-image_header.ensures.right; first = tt }) used)
+    ap (λ (h : AnyHeader). Ok h) (one_used c.args.disk c.args.long c.args.bytes.now (Ending c.in-Ok-image_header.header) header c.in-Ok-image_header.ensures.right used)
 
 pub returns-in-Err-clause-only : goal.returns-in-Err-clause-only
 returns-in-Err-clause-only c = λ header used.
