@@ -1,80 +1,48 @@
 -- Calls that were heard one after another, as those of a task of a host over disks.
-use Rattle.std.specs.Prelude.{IsSome}
-use Rattle.std.proofs.Common.{ℕ, ◌≡◌, ◌⊎◌, List, [], ◌∷◌, ◌++◌, Option, Some, None, true≢false, inl, inr, refl, sym, ◌∙◌, ap, subst}
-use Rattle.std.proofs.lemmas.List.{append_assoc, append-nil}
-use Rattle.disk.specs.Disk.{Call, Answer}
+use Rattle.std.specs.Prelude.{IsSome, slice_index}
+use Rattle.std.proofs.Common.{ℕ, ◌≡◌, ◌⊎◌, Bool, true, false, List, [], ◌∷◌, Option, Some, None, true≢false, inl, inr, refl, sym, ◌∙◌, ap, subst}
+use Rattle.std.proofs.lemmas.Bool.{ltb-true, ltb-false}
+use Rattle.disk.specs.declared.fault.DiskFault.TheVariants.{Failed}
+use Rattle.disk.specs.Disk.{Call, Answer, Fault}
 use Rattle.paxos_block.specs.Shape.{Shape}
-use Rattle.standings.specs.Past as past
-use Rattle.epoch_deeds.specs.Deeds.{Deed, Deeds, Calls, CallsIn, Starts, Begins as Given, Stops}
-use Rattle.epoch_deeds.proofs.Lists.{does_both}
+use Rattle.epoch_deeds.specs.Deeds.{Deeds}
 use Rattle.epoch_host.specs.declared.answer.EpochAnswer.{EpochAnswer}
 use Rattle.epoch_host.specs.declared.task.EpochTask.{EpochTask}
 use Rattle.epoch_host.specs.declared.walk.Walk.{Walk}
-use Rattle.epoch_host.specs.Ending.{AreSilent, AreSilentBy, Ends, EndsSo, IsDone}
-use Rattle.epoch_host.specs.Leading.{GoesOn, LeadsTo, MakesAndGoesOn, MakesCall, MakeNone}
+use Rattle.epoch_host.specs.Ending.{AreSilent, Ends, EndsSo, IsDone, IsWhereItIs}
+use Rattle.epoch_host.specs.Knowing.{where_is}
+use Rattle.epoch_host.specs.Leading.{LeadsTo}
 use Rattle.epoch_host.specs.Walking.{call_due}
-use Rattle.dlm_images.specs.Operations.{Made}
-use Rattle.epoch_images.specs.Working.{DidMore, WasSilent, calls_of, made_on}
-use Rattle.c_epochs.specs.Steps.{AreHeard, CallsWork, Stands}
+use Rattle.epoch_host.proofs.Knowing.{where_by}
+use Rattle.dlm_images.specs.Operations.{Gave, GaveOne, Made}
+use Rattle.epoch_images.specs.Working.{HasDoneSince, RunsBefore, Standing}
+use Rattle.epoch_images.proofs.Doing.{IsOnWay, begun, has_worked, heard_one, runs_before, runs_not_before, runs_nowhere}
+use Rattle.c_epochs.specs.Calls.{is_away, is_before}
+use Rattle.c_epochs.specs.Steps.{AreHeard, CallsWork, IsHeard, Stands}
 
--- THE CALLS AMONG DEEDS
+-- DISKS THAT TAKE NO PART YET
 
-calls_both : (one more : Deeds) → calls_of (one ++ more) ≡ calls_of one ++ calls_of more
-calls_both [] more = refl
-calls_both (Calls d now ∷ one) more = ap (λ (l : List Made). made_on d now ∷ l) (calls_both one more)
-calls_both (CallsIn e d now call heard ∷ one) more = ap (λ (l : List Made). made_on d now ∷ l) (calls_both one more)
-calls_both (Starts e ∷ one) more = calls_both one more
-calls_both (Given e task ∷ one) more = calls_both one more
-calls_both (Stops e ∷ one) more = calls_both one more
+module _ (c : Shape) (h : ℕ) (deeds : Deeds) (first : ℕ) where
+  -- in an epoch before the first one of a disk a core runs
+  before_runs : (at : Option ℕ) → IsWhereItIs c h deeds at → is_before at first ≡ true → RunsBefore c h first deeds
+  before_runs None is early = absurd (true≢false (sym early))
+  before_runs (Some epoch) is early = runs_before c h first epoch deeds is (ltb-true epoch first early)
 
-calls_none : (more : Deeds) → MakeNone more → calls_of more ≡ []
-calls_none [] none = refl
-calls_none (Calls d now ∷ more) none = absurd none
-calls_none (CallsIn e d now call heard ∷ more) none = absurd none
-calls_none (Starts e ∷ more) none = calls_none more none
-calls_none (Given e task ∷ more) none = calls_none more none
-calls_none (Stops e ∷ more) none = calls_none more none
+  -- in another one none does
+  before_none : (at : Option ℕ) → IsWhereItIs c h deeds at → is_before at first ≡ false → RunsBefore c h first deeds → ⊥
+  before_none None is late runs = runs_nowhere c h first deeds is runs
+  before_none (Some epoch) is late runs = runs_not_before c h first epoch deeds is (ltb-false epoch first late) runs
 
--- a deed that makes a call is that call
-call_by : (d : ℕ) (now : past.Made) (deed : Deed) → MakesCall d now deed → calls_of (deed ∷ []) ≡ made_on d now ∷ []
-call_by d now (Calls disk made) makes = ap (λ (k : ℕ). made_on k made ∷ []) makes.0 ∙ ap (λ (m : past.Made). made_on d m ∷ []) makes.1
-call_by d now (CallsIn e disk made call heard) makes = ap (λ (k : ℕ). made_on k made ∷ []) makes.0 ∙ ap (λ (m : past.Made). made_on d m ∷ []) makes.1
-call_by d now (Starts e) makes = absurd makes
-call_by d now (Given e task) makes = absurd makes
-call_by d now (Stops e) makes = absurd makes
+module _ (firsts : List ℕ) (w : Walk) where
+  away_runs : is_away firsts w ≡ true → (c : Shape) (h : ℕ) (deeds : Deeds) → LeadsTo c h deeds w → RunsBefore c h (slice_index firsts (call_due w).0) deeds
+  away_runs away c h deeds leads = before_runs c h deeds (slice_index firsts (call_due w).0) (where_is w) (where_by w c h deeds leads) away
 
--- MORE DEEDS
+  here_none : is_away firsts w ≡ false → (c : Shape) (h : ℕ) (deeds : Deeds) → LeadsTo c h deeds w → RunsBefore c h (slice_index firsts (call_due w).0) deeds → ⊥
+  here_none here c h deeds leads = before_none c h deeds (slice_index firsts (call_due w).0) (where_is w) (where_by w c h deeds leads) here
 
-module _ (c : Shape) (h : ℕ) (deeds : Deeds) (IsSo IsThen : Deeds → Type 0) (made now : List Made) where
-  -- some, and then more
-  did_then : DidMore c h deeds made IsSo → ((more : Deeds) → IsSo (deeds ++ more) → DidMore c h (deeds ++ more) now IsThen) → DidMore c h deeds (made ++ now) IsThen
-  did_then first then =
-      let next : DidMore c h (deeds ++ first.more) now IsThen = then first.more first.so in
-      record {
-        more = first.more ++ next.more;
-        may = does_both c h deeds first.more next.more first.may next.may;
-        calls = calls_both first.more next.more ∙ ap (λ (l : List Made). l ++ calls_of next.more) first.calls ∙ ap (λ (l : List Made). made ++ l) next.calls;
-        so = subst IsThen (append_assoc deeds first.more next.more) next.so;
-      }
-
-module _ (c : Shape) (h : ℕ) (deeds : Deeds) (IsSo : Deeds → Type 0) where
-  -- some that make no call
-  did_goes : GoesOn c h deeds IsSo → DidMore c h deeds [] IsSo
-  did_goes on = record { more = on.more; may = on.may; calls = calls_none on.more on.none; so = on.so }
-
-  -- one that makes a call, and then some that make none
-  did_makes : (d : ℕ) (now : past.Made) → MakesAndGoesOn c h deeds d now IsSo → DidMore c h deeds (made_on d now ∷ []) IsSo
-  did_makes d now by =
-      record {
-        more = by.deed ∷ by.on.more;
-        may = (by.may, by.on.may);
-        calls = calls_both (by.deed ∷ []) by.on.more ∙ ap (λ (l : List Made). l ++ calls_of by.on.more) (call_by d now by.deed by.makes) ∙ ap (λ (l : List Made). made_on d now ∷ l) (calls_none by.on.more by.on.none);
-        so = subst IsSo (append_assoc deeds (by.deed ∷ []) by.on.more) by.on.so;
-      }
-
-  -- nothing more
-  did_nothing : IsSo deeds → DidMore c h deeds [] IsSo
-  did_nothing is = record { more = []; may = tt; calls = refl; so = subst IsSo (sym (append-nil deeds)) is }
+not_true : (b : Bool) → (b ≡ true → ⊥) → b ≡ false
+not_true true never = absurd (never refl)
+not_true false never = refl
 
 -- CALLS THAT WERE HEARD
 
@@ -82,51 +50,48 @@ module _ (c : Shape) (h : ℕ) (deeds : Deeds) (IsSo : Deeds → Type 0) where
 made_by : ℕ → Call → Answer → Made
 made_by d call answer = record { disk = d; call = call; answer = answer }
 
-x_is : (w : Walk) (x : Made) → (x.disk ≡ (call_due w).0) × (x.call ≡ (call_due w).1) → made_on (call_due w).0 (past.made (call_due w).1 x.answer) ≡ x
+x_is : (w : Walk) (x : Made) → (x.disk ≡ (call_due w).0) × (x.call ≡ (call_due w).1) → x ≡ record { disk = (call_due w).0; call = (call_due w).1; answer = x.answer }
 unfolding made_by
-x_is w x due = sym (ap (λ (d : ℕ). made_by d x.call x.answer) due.0 ∙ ap (λ (c : Call). made_by (call_due w).0 c x.answer) due.1)
+x_is w x due = ap (λ (d : ℕ). made_by d x.call x.answer) due.0 ∙ ap (λ (c : Call). made_by (call_due w).0 c x.answer) due.1
 
 -- where a task stands as done, so it was
 done_where : (WhereDone : Type 0) (task : Option EpochTask) (w : Walk) → Stands WhereDone task w → IsDone w.said → WhereDone
 done_where WhereDone task w stands done = elim stands [ inl goes ↦ goes.done done | inr given_up ↦ absurd (subst IsDone given_up.1 done) ]
 
--- These deeds lead to the host; and where a task was done, a core said so since.
-abbrev IsOnWay : Shape → (h : ℕ) → Deeds → Walk → Deeds → Type 0
-IsOnWay c h before w all = LeadsTo c h all w × (IsDone w.said → WasSilent c h before all)
+fresh : (now between : Walk) (x : Made) → IsHeard now x between → IsDone between.said → AreSilent now
+fresh now between x is done = done_where (AreSilent now) now.task between is.stands done
 
--- one call more
-heard_way : (c : Shape) (h : ℕ) (before early : Deeds) (d : ℕ) (now : past.Made) (w : Walk) → (IsDone w.said → AreSilentBy c h (before ++ early)) → MakesAndGoesOn c h (before ++ early) d now (λ all. LeadsTo c h all w)
-    → MakesAndGoesOn c h (before ++ early) d now (IsOnWay c h before w)
-heard_way c h before early d now w silent by =
-    record {
-      deed = by.deed;
-      makes = by.makes;
-      may = by.may;
-      on = record {
-        more = by.on.more;
-        none = by.on.none;
-        may = by.on.may;
-        so = (
-          by.on.so,
-          λ done. record { early = early; later = by.deed ∷ by.on.more; is = append_assoc (before ++ early) (by.deed ∷ []) by.on.more; silent = silent done },
-        );
-      };
-    }
+module _ {D : Type 0} (gives : D → Call → Answer → D → Type 0) (firsts : List ℕ) where
+  -- the host stands so, with these disks
+  abbrev at : Walk → List D → Standing D
+  at w disks = record { host = w; disks = disks; firsts = firsts }
 
-module _ (c : Shape) (h : ℕ) (before : Deeds) where
-  -- what led to the old host leads on, with these calls, to the new one
-  all_lead : (old new : Walk) (made : List Made) (early : Deeds) → AreHeard old made new → IsOnWay c h before old (before ++ early) → DidMore c h (before ++ early) made (IsOnWay c h before new)
-  all_lead old new [] early heard way = did_nothing c h (before ++ early) (IsOnWay c h before new) (subst (λ (w : Walk). IsOnWay c h before w (before ++ early)) (sym heard) way)
-  all_lead old new (x ∷ xs) early heard way =
-      let first = heard.1.leads c h (before ++ early) way.0 in
-      let silent : IsDone heard.0.said → AreSilentBy c h (before ++ early) = (λ done. done_where (AreSilent old) old.task heard.0 heard.1.stands done c h (before ++ early) way.0) in
-      did_then c h (before ++ early) (IsOnWay c h before heard.0) (IsOnWay c h before new) (x ∷ []) xs
-      (subst (λ (y : Made). DidMore c h (before ++ early) (y ∷ []) (IsOnWay c h before heard.0)) (x_is old x heard.1.due)
-      (did_makes c h (before ++ early) (IsOnWay c h before heard.0) (call_due old).0 (past.made (call_due old).1 x.answer)
-      (heard_way c h before early (call_due old).0 (past.made (call_due old).1 x.answer) heard.0 silent first)))
-      (λ more is.
-      subst (λ (l : Deeds). DidMore c h l xs (IsOnWay c h before new)) (sym (append_assoc before early more))
-      (all_lead heard.0 new xs (early ++ more) heard.2 (subst (IsOnWay c h before heard.0) (append_assoc before early more) is)))
+  module _ (host now between : Walk) (disks given : List D) (before : HasDoneSince gives (at host disks) (at now given) (IsOnWay now now.said)) (x : Made) (is : IsHeard now x between) where
+    -- it heard the answer to a call that was made
+    heard_made : is_away firsts now ≡ false → (left : List D) → GaveOne gives given x left → HasDoneSince gives (at host disks) (at between left) (IsOnWay between between.said)
+    heard_made here left gave =
+        heard_one gives (at host disks) (at now given) (at between left) (call_due now) x.answer false refl before refl (λ not. subst (λ (y : Made). GaveOne gives given y left) (x_is now x is.due) gave)
+        (λ no. absurd (true≢false (sym no))) (λ not. here_none firsts now here) (λ no. absurd (true≢false (sym no))) is.leads (fresh now between x is)
+
+    -- or that a disk which takes no part yet is lost
+    heard_lost : is_away firsts now ≡ true → x.answer ≡ Fault Failed → HasDoneSince gives (at host disks) (at between given) (IsOnWay between between.said)
+    heard_lost away gone =
+        heard_one gives (at host disks) (at now given) (at between given) (call_due now) x.answer true refl before refl (λ no. absurd (true≢false no)) (λ so. (refl, gone))
+        (λ no. absurd (true≢false no)) (λ so. away_runs firsts now away) is.leads (fresh now between x is)
+
+  -- what led to the host before leads on, by all that was heard
+  all_done : (host now new : Walk) (disks given left : List D) (heard made : List Made) → HasDoneSince gives (at host disks) (at now given) (IsOnWay now now.said) → AreHeard firsts now heard made new
+      → Gave gives given made left → HasDoneSince gives (at host disks) (at new left) (IsOnWay new new.said)
+  all_done host now new disks given left [] made before are gave =
+      subst (λ (w : Walk). HasDoneSince gives (at host disks) (at w left) (IsOnWay w w.said)) (sym are.1)
+      (subst (λ (ds : List D). HasDoneSince gives (at host disks) (at now ds) (IsOnWay now now.said)) (sym (subst (λ (l : List Made). Gave gives given l left) are.0 gave)) before)
+  all_done host now new disks given left (x ∷ xs) made before are gave =
+      elim are.2 [
+        | inl is ↦
+            let gave_x : Gave gives given (x ∷ is.1.0) left = subst (λ (l : List Made). Gave gives given l left) is.1.1 gave in
+            all_done host are.0 new disks gave_x.0 left xs is.1.0 (heard_made host now are.0 disks given before x are.1 (not_true (is_away firsts now) is.0) gave_x.0 gave_x.1) is.1.2 gave_x.2
+        | inr lost ↦ all_done host are.0 new disks given left xs made (heard_lost host now are.0 disks given before x are.1 lost.0 lost.1) lost.2 gave
+      ]
 
 -- HOW THE TASK ENDED
 
@@ -149,33 +114,19 @@ had_task : (task : EpochTask) (o : Option EpochTask) → IsSome o → (o ≡ Non
 had_task task None busy either = absurd (true≢false (sym busy))
 had_task task (Some other) busy either = elim either [ inl none ↦ absurd cc | inr same ↦ same ]
 
-all_end : (task : EpochTask) (old new : Walk) (made : List Made) → (old.task ≡ None) ⊎ (old.task ≡ Some task) → Ends (Some task) old → AreHeard old made new → Ends (Some task) new
-all_end task old new [] keeps ends heard = subst (λ (w : Walk). Ends (Some task) w) (sym heard) ends
-all_end task old new (x ∷ xs) keeps ends heard =
-    let had : old.task ≡ Some task = had_task task old.task heard.1.busy keeps in
-    let stands : Stands (AreSilent old) (Some task) heard.0 = subst (λ (o : Option EpochTask). Stands (AreSilent old) o heard.0) had heard.1.stands in
-    all_end task heard.0 new xs (keeps_so (AreSilent old) (Some task) heard.0 stands) (ends_stand (AreSilent old) (Some task) heard.0 stands) heard.2
+all_end : (firsts : List ℕ) (task : EpochTask) (old new : Walk) (heard made : List Made) → (old.task ≡ None) ⊎ (old.task ≡ Some task) → Ends (Some task) old → AreHeard firsts old heard made new
+    → Ends (Some task) new
+all_end firsts task old new [] made keeps ends are = subst (λ (w : Walk). Ends (Some task) w) (sym are.1) ends
+all_end firsts task old new (x ∷ xs) made keeps ends are =
+    let had : old.task ≡ Some task = had_task task old.task are.1.busy keeps in
+    let stands : Stands (AreSilent old) (Some task) are.0 = subst (λ (o : Option EpochTask). Stands (AreSilent old) o are.0) had are.1.stands in
+    let keeps_on = keeps_so (AreSilent old) (Some task) are.0 stands in
+    let ends_on = ends_stand (AreSilent old) (Some task) are.0 stands in
+    elim are.2 [ inl is ↦ all_end firsts task are.0 new xs is.1.0 keeps_on ends_on is.1.2 | inr lost ↦ all_end firsts task are.0 new xs made keeps_on ends_on lost.2 ]
 
 -- A task that began, whose calls were heard until it had ended.
 pub calls_work : {D : Type 0} (gives : D → Call → Answer → D → Type 0) → CallsWork gives
-calls_work gives task old begun new made disks left begins heard gave ended = record {
-  made = made;
-  gave = gave;
-  leads = λ c h deeds leads.
-      let on : GoesOn c h deeds (λ after. LeadsTo c h after begun) = begins.leads c h deeds leads in
-      let way : GoesOn c h deeds (IsOnWay c h deeds begun) =
-      record { more = on.more; none = on.none; may = on.may; so = (on.so, λ done. absurd (done_where ⊥ (Some task) begun begins.stands done)) } in
-      let did : DidMore c h deeds made (IsOnWay c h deeds new) =
-      did_then c h deeds (IsOnWay c h deeds begun) (IsOnWay c h deeds new) [] made (did_goes c h deeds (IsOnWay c h deeds begun) way) (λ more is. all_lead c h deeds begun new made more heard is) in
-      record {
-        more = did.more;
-        may = did.may;
-        calls = did.calls;
-        so = record {
-          leads = did.so.0;
-          ended = all_end task begun new made (keeps_so ⊥ (Some task) begun begins.stands) (ends_stand ⊥ (Some task) begun begins.stands) heard c h (deeds ++ did.more) did.so.0;
-          idle = begins.rests c h deeds leads;
-          silent = did.so.1;
-        };
-      };
-}
+calls_work gives task old first new heard made firsts disks left begins are gave ended =
+    let since = begun gives (at gives firsts old disks) (at gives firsts first disks) refl refl begins.leads (done_where ⊥ (Some task) first begins.stands) in
+    has_worked gives task new.said new.said (at gives firsts old disks) (at gives firsts new left) (all_done gives firsts old first new disks disks left heard made since are gave) begins.rests (λ done. done)
+    (all_end firsts task first new heard made (keeps_so ⊥ (Some task) first begins.stands) (ends_stand ⊥ (Some task) first begins.stands) are)

@@ -28,6 +28,7 @@ pub ends_told : {D : Type 0} (gives : D → Call → Answer → D → Type 0) �
 ends_told gives task said old new worked = record {
   made = worked.made;
   gave = worked.gave;
+  firsts = worked.firsts;
   leads = λ c h deeds leads.
       let did = worked.leads c h deeds leads in
       record { more = did.more; may = did.may; calls = did.calls; so = (did.so.leads, tells_so c h _ task said did.so.ended) };

@@ -5,6 +5,7 @@ use Rattle.disk.specs.declared.fault.ImageFault.TheVariants.{Unreadable}
 use Rattle.paxos_block.specs.Headers.{short_at}
 use Rattle.paxos_block.specs.Shape.{Shape}
 use Rattle.lock_command.specs.declared.number.TheConstants.{HOSTS}
+use Rattle.endless_image.specs.Kinds.{IsRightBy}
 use Rattle.endless_image.specs.Sizes.{size_of}
 use Rattle.endless_image.specs.declared.any_header.AnyHeader.{AnyHeader}
 use Rattle.endless_image.specs.declared.header.TheConstants.{ENDLESS_VERSION}
@@ -12,8 +13,8 @@ use Rattle.endless_image.specs.declared.kind.Kind.{Kind}
 use Rattle.endless_image.specs.declared.kind.Kind.TheVariants.{Ending, Endless}
 use Rattle.folders.specs.Headers.{told_length}
 use Rattle.folders.specs.declared.set.SetFault.{SetFault}
-use Rattle.log_folders.specs.AnyHeaders.{IsAnyHeader, IsUnusedBy, IsUsedBy, disk_in}
-use Rattle.log_folders.specs.AnySets.{AnyFound, AreAnyImages, HasAnyNumbers, HasAnySetFault}
+use Rattle.log_folders.specs.AnyHeaders.{IsAnyHeader, IsUnusedBy, disk_in}
+use Rattle.log_folders.specs.AnySets.{AnyFound, AreAnyImages, AreFirsts, HasAnyNumbers, HasAnySetFault}
 use Rattle.epoch_host.specs.Leading.{LeadsTo}
 use Rattle.c_host.specs.declared.fault.Fault.{Fault}
 use Rattle.c_host.specs.declared.fault.Fault.TheVariants as cause
@@ -39,7 +40,7 @@ long_of image = if image.is_device == 1 then min (length_told image.bytes) image
 
 -- it was read, and as those of the image of this number its first bytes are used: they say this header, of either kind of log
 abbrev pub IsRead : ℕ → Image → AnyHeader → Type 0
-IsRead disk image header = (image.is_read ≡ 1) × IsUsedBy disk (long_of image) image.bytes header
+IsRead disk image header = (image.is_read ≡ 1) × IsRightBy disk (long_of image) image.bytes header
 
 -- what is wrong with an image: it was not read; or it was, and its first bytes have this fault
 abbrev pub HasFault : ℕ → Image → ImageFault → Type 0
@@ -81,10 +82,11 @@ pub record TellsImages (found : AnyFound) (config : Shape) (told : Opened) : Typ
 
 -- WHAT IS OPENED
 
--- The host has this number, did nothing yet, has no task, and only looks if it is opened for that. The folder has the numbers of the set that was found; C is told of its images.
+-- The host has this number, did nothing yet, has no task, and only looks if it is opened for that. The folder has the numbers of the set that was found, and its disks the first epochs; C is told of its images.
 pub record IsOpened (images : Images) (number : ℕ) (only_looks : Bool) (host : OpenEpochs) (told : Opened) : Type 0 where
   pub found : AnyFound
   pub set : AreSet images found Endless host.config host.cluster
+  pub firsts : AreFirsts found host.firsts
   pub tells : TellsImages found host.config told
   pub fresh : LeadsTo host.config number [] host.host
   pub idle : host.host.task ≡ None

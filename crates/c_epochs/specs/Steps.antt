@@ -1,5 +1,5 @@
 -- What a call does with a host over all epochs, and what C is told of that.
-use Rattle.std.specs.Prelude.{◌≡◌, ◌⊎◌, ℕ, ℤ, List, [], ◌∷◌, Option, Some, None, IsSome}
+use Rattle.std.specs.Prelude.{◌≡◌, ◌⊎◌, ℕ, ℤ, true, false, List, [], ◌∷◌, Option, Some, None, IsSome}
 use Rattle.disk.specs.Disk.{Call, Answer, Attach, Booted}
 use Rattle.lock_command.specs.Command.{Fits}
 use Rattle.epoch_host.specs.declared.task.EpochTask.{EpochTask}
@@ -9,21 +9,21 @@ use Rattle.epoch_host.specs.Ending.{AreIdle, AreSilent, IsGivenUp, TaskGoesOn}
 use Rattle.epoch_host.specs.Leading.{WalksBy, WalksOn}
 use Rattle.epoch_host.specs.Walking.{IsSame, call_due}
 use Rattle.dlm_images.specs.Operations.{Gave, Made}
-use Rattle.epoch_images.specs.Working.{HasWorked}
+use Rattle.epoch_images.specs.Working.{HasWorked, IsMadeOr}
 use Rattle.c_host.specs.declared.call.DueCall.{DueCall}
 use Rattle.c_host.specs.declared.call.ToldAnswer.{ToldAnswer}
 use Rattle.c_host.specs.declared.request.Request.{Request}
-use Rattle.c_host.specs.Calls.{answer_in}
 use Rattle.c_host.specs.Numbers.{bad_argument, busy, done, no_memory, nothing_due}
 use Rattle.c_host.specs.Requests.{IsAsked}
 use Rattle.c_host.specs.Steps.{AreTries, TellsNoCall}
-use Rattle.c_epochs.specs.Calls.{TellsCallDue}
+use Rattle.c_epochs.specs.Calls.{TellsDueOn, answer_on, is_away}
 use Rattle.c_epochs.specs.declared.open_epochs.OpenEpochs.{OpenEpochs}
 
 -- the folder is the same, and the host, and whether it only looks
 pub record IsSameFolder (old new : OpenEpochs) : Type 0 where
   pub config : new.config ≡ old.config
   pub cluster : new.cluster ≡ old.cluster
+  pub firsts : new.firsts ≡ old.firsts
   pub host : IsSame old.host new.host
   pub looks : new.host.only_looks ≡ old.host.only_looks
 
@@ -106,25 +106,25 @@ pub record IsHeard (old : Walk) (x : Made) (new : Walk) : Type 0 where
   pub leads : WalksBy old new (call_due old) x.answer
   pub stands : Stands (AreSilent old) old.task new
 
--- an attach is due
-abbrev pub IsAttachDue : Walk → Type 0
-IsAttachDue w = IsSome w.task × ((call_due w).1 ≡ Attach)
+-- an attach is due, of a disk that takes part in the epoch
+abbrev pub IsAttachDue : OpenEpochs → Type 0
+IsAttachDue kept = IsSome kept.host.task × ((call_due kept.host).1 ≡ Attach) × (is_away kept.firsts kept.host ≡ false)
 
 -- The host heard that the disk to be attached answered with this boot number, and nothing else.
 pub record HasAttached (boot : ℕ) (old new : OpenEpochs) (status : ℤ) : Type 0 where
-  pub due : IsAttachDue old.host
+  pub due : IsAttachDue old
   pub heard : IsHeard old.host (made_of old.host (Booted boot)) new.host
   pub told : TellsStand new.host status
   pub same : IsSameFolder old new
 
 -- so it is where an attach is due; else the host is as it was
 abbrev pub Attaches : ℕ → OpenEpochs → OpenEpochs → Type 0
-Attaches boot old new = HasAttached boot old new done ⊎ ((IsAttachDue old.host → ⊥) × (new ≡ old))
+Attaches boot old new = HasAttached boot old new done ⊎ ((IsAttachDue old → ⊥) × (new ≡ old))
 
 -- C is told the call that is due, or that none is.
 abbrev pub TellsNext : OpenEpochs → DueCall → (before after : List ℕ) → ℤ → Type 0
 TellsNext kept call before after status =
-    (IsSome kept.host.task × TellsCallDue (call_due kept.host) call before after status)
+    (IsSome kept.host.task × TellsDueOn kept.firsts kept.host call before after status)
     ⊎ ((kept.host.task ≡ None) × (status ≡ nothing_due) × TellsNoCall call before after)
 
 -- The same, after an attach that was due.
@@ -144,7 +144,7 @@ CallsNext boot old new call before after status = CallsOn boot old new call befo
 -- The host heard the answer that C told, and nothing else.
 pub record HasHeardTold (told : ToldAnswer) (row : List ℕ) (old new : OpenEpochs) (status : ℤ) : Type 0 where
   pub answer : Answer
-  pub is : answer_in (call_due old.host).1 told row ≡ Some answer
+  pub is : answer_on old.firsts old.host told row ≡ Some answer
   pub heard : IsHeard old.host (made_of old.host answer) new.host
   pub stands : TellsStand new.host status
   pub same : IsSameFolder old new
@@ -154,7 +154,7 @@ pub record HearsNothing (told : ToldAnswer) (row : List ℕ) (old new : OpenEpoc
   pub same : new ≡ old
   pub why :
       ((status ≡ nothing_due) × (old.host.task ≡ None))
-      ⊎ ((status ≡ bad_argument) × IsSome old.host.task × (answer_in (call_due old.host).1 told row ≡ None))
+      ⊎ ((status ≡ bad_argument) × IsSome old.host.task × (answer_on old.firsts old.host told row ≡ None))
 
 abbrev pub Hears : ToldAnswer → List ℕ → OpenEpochs → OpenEpochs → ℤ → Type 0
 Hears told row old new status = HasHeardTold told row old new status ⊎ HearsNothing told row old new status
@@ -177,13 +177,14 @@ GoesOn told row old new call before after status =
 
 -- ALL OF THEM
 
--- from old to new the host heard these calls, one after another
-abbrev pub AreHeard : Walk → List Made → Walk → Type 0
-AreHeard old [] new = new ≡ old
-AreHeard old (x ∷ xs) new = (between : Walk) × IsHeard old x between × AreHeard between xs new
+-- From old to new the host heard these answers, one after another, and these are the calls that were made for that: all of them, but for those of an epoch in which their disk takes no part yet.
+abbrev pub AreHeard : (firsts : List ℕ) → Walk → (heard made : List Made) → Walk → Type 0
+AreHeard firsts old [] made new = (made ≡ []) × (new ≡ old)
+AreHeard firsts old (x ∷ heard) made new = (between : Walk) × IsHeard old x between × IsMadeOr (is_away firsts old ≡ true) x made (λ rest. AreHeard firsts between heard rest new)
 
 -- A task that began, whose calls were heard until it had ended, and whose disks gave what was heard, is what a host over disks works.
 abbrev pub CallsWork : {D : Type 0} → (D → Call → Answer → D → Type 0) → Type 0
 CallsWork {D = D} gives =
-    (task : EpochTask) (old begun new : Walk) (made : List Made) (disks left : List D) → Begins task old begun → AreHeard begun made new → Gave gives disks made left → new.task ≡ None
-    → HasWorked gives task new.said (record { host = old; disks = disks }) (record { host = new; disks = left })
+    (task : EpochTask) (old begun new : Walk) (heard made : List Made) (firsts : List ℕ) (disks left : List D) → Begins task old begun → AreHeard firsts begun heard made new → Gave gives disks made left
+    → new.task ≡ None
+    → HasWorked gives task new.said (record { host = old; disks = disks; firsts = firsts }) (record { host = new; disks = left; firsts = firsts })

@@ -1,13 +1,15 @@
 -- What C is shown of a host over all epochs and of its lock table, by whatever the host did.
-use Rattle.std.specs.Prelude.{◌≡◌, ℕ, Bool, List, length, Option, None, IfSome, IsSome, is_some, unwrap_or, if◌then◌else◌}
+use Rattle.std.specs.Prelude.{◌≡◌, ℕ, Bool, List, length, slice_get, Option, Some, None, IfSome, IsSome, is_some, unwrap_or, if◌then◌else◌}
 use Rattle.paxos_block.specs.Shape.{Shape}
 use Rattle.lock_command.specs.declared.command.Command.{Command}
 use Rattle.host.specs.Host.{Memory, Running}
 use Rattle.epoch_deeds.specs.Deeds.{Deeds, core_in}
 use Rattle.epoch_host.specs.declared.walk.Walk.{Walk}
 use Rattle.epoch_host.specs.Ending.{HasLearnedUpto, IsThere, IsWhereItIs}
+use Rattle.epoch_host.specs.Knowing.{where_is}
 use Rattle.epoch_host.specs.Leading.{LeadsTo}
 use Rattle.c_host.specs.Views.{LacksLock}
+use Rattle.c_epochs.specs.Calls.{is_before}
 use Rattle.c_epochs.specs.declared.fault.ShowFault.{ShowFault}
 use Rattle.c_epochs.specs.declared.fault.ShowFault.TheVariants.{NoTable, NoSuchLock, NoMemory}
 use Rattle.c_epochs.specs.declared.open_epochs.OpenEpochs.{OpenEpochs}
@@ -35,13 +37,17 @@ pub record ShowsLength (view : EpochsView) (w : Walk) : Type 0 where
   pub known : view.has_table ≡ flag (is_some upto)
   pub learned : view.learned ≡ unwrap_or upto 0
 
+-- It is shown of each disk whether it takes no part yet in this epoch, by its first one.
+abbrev pub AreAway : Option ℕ → (firsts away : List ℕ) → Type 0
+AreAway epoch firsts away = (k first shown : ℕ) → slice_get firsts k ≡ Some first → slice_get away k ≡ Some shown → shown ≡ flag (is_before epoch first)
+
 -- The view shows this host.
 pub record ShowsHost (view : EpochsView) (kept : OpenEpochs) : Type 0 where
   pub number : view.host ≡ kept.host.host
   pub disks : view.disks ≡ kept.config.disks
   pub slots : view.slots ≡ kept.config.slots
   pub cluster : view.cluster ≡ kept.cluster
-  pub unused : view.unused ≡ 0
+  pub away : AreAway (where_is kept.host) kept.firsts view.away
   pub epoch : ShowsEpoch view kept.host
   pub length : ShowsLength view kept.host
 

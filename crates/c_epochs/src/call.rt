@@ -6,7 +6,7 @@ ghost use Rattle.attempt.specs.DeviceCalls.{IsWithin, call_of_need};
 ghost use Rattle.attempt.specs.Looking.{OnlyReads};
 ghost use Rattle.c_host.specs.Calls.{TellsDue, plain_call};
 ghost use Rattle.c_host.specs.Numbers.{done};
-ghost use Rattle.c_epochs.specs.Calls.{IsTooLong, ReadsOnly, TellsCallDue};
+ghost use Rattle.c_epochs.specs.Calls.{IsTooLong, ReadsOnly, TellsCallDue, call_away, is_before};
 
 use attempt::{DeviceCall, Need};
 use c_host::{DueCall, NO_ROOM};
@@ -37,6 +37,23 @@ pub fn tell(need: &Need<'_>, call: &mut DueCall, written: &mut WrittenBlock) -> 
             NO_ROOM
         }
     }
+}
+
+/// Whether a disk with this first epoch takes no part yet in the epoch where a host is. One that is in none asks each disk.
+pub fn is_before(epoch: Option<u64>, first: u64) -> bool
+    ensures { result ≡ is_before epoch first }
+{
+    match epoch {
+        Some(epoch) => epoch < first,
+        None => false,
+    }
+}
+
+/// No call is to be made, since this disk takes no part yet. Whatever C answers, the host hears that a call failed.
+pub fn away(disk: u8) -> DueCall
+    ensures { result ≡ call_away disk }
+{
+    plain(5, u32::from(disk), 0)
 }
 
 fn due_of(need: &Need<'_>, written: &mut WrittenBlock) -> Option<DueCall>

@@ -1,28 +1,31 @@
-ghost use Rattle.std.specs.Prelude.{◌≡◌, ◌≤◌, ◌<◌, ◌^◌, ◌↔◌, None, IfOk, IfErr, IfSome, IsSome, IsTrue, OnOk, true};
-ghost use Rattle.std.specs.Option.{SomeIff};
-ghost use Rattle.disk.specs.Disk.{Attach};
+ghost use Rattle.std.specs.Prelude.{◌≡◌, ◌≤◌, ◌<◌, ◌^◌, ◌↔◌, None, IfOk, IfErr, IfSome, IsSome, IsTrue, OnOk, slice_index, true};
+ghost use Rattle.std.specs.Option.{SomeIff, option_map};
+ghost use Rattle.torn_block.specs.Layout.{cluster_version};
+ghost use Rattle.attempt.specs.DeviceCalls.{device_answer, heard_of};
+ghost use Rattle.attempt.specs.Heard.{Fits};
 ghost use Rattle.lock_command.specs.declared.number.TheConstants.{HOSTS};
 ghost use Rattle.epoch_host.specs.Walking.{MayBegin, call_due};
 ghost use Rattle.c_host.specs.Numbers.{done, no_memory};
-ghost use Rattle.c_epochs.specs.Calls.{LiesWithin, ReadsOnly};
+ghost use Rattle.c_epochs.specs.Calls.{LiesWithin, ReadsOnly, answer_on, is_away};
 ghost use Rattle.c_epochs.specs.Images.{IsOfEndingLog, IsOpened, MayRefuse};
 ghost use Rattle.c_epochs.specs.Steps.{Begins, CallsNext, GoesOn, HasAttached, Hears, IsAttachDue, IsSameFolder, Looks, Marks, Recovers, Submits, TellsNext, TellsStand};
 ghost use Rattle.c_epochs.specs.Told.{answer_told, status_told};
 
 use crate::answer::{PlacedAnswer, status_told};
-use crate::call::{WrittenBlock, tell};
+use crate::call::{WrittenBlock, away, is_before, tell};
 use crate::images::{found_in, told_of};
 use attempt::{DeviceCall, Heard};
 use c_host::{
     BAD_ARGUMENT, BUSY, DueCall, Fault, Images, NOTHING_DUE, Opened, Request, Row, ToldAnswer,
     host_of,
 };
-use disk::{Boot, NoMemory};
+use disk::{Boot, DiskFault, NoMemory};
 use endless_image::Kind;
 use epoch_host::{EpochHost, EpochTask};
-use log_folders::set_of_any;
+use log_folders::{first_epochs, set_of_any};
 use paxos_block::Config;
 use std::alloc::Global;
+use torn_block::DISKS;
 
 /// A host over all epochs and the numbers of its folder, as C keeps them between calls.
 #[derive(Drop)]
@@ -31,6 +34,8 @@ pub struct OpenEpochs {
     /// Its slots are those of an epoch.
     pub config: Config,
     pub cluster: u64,
+    /// Of each disk the first epoch in which it takes part, 0 where its image is not used.
+    pub firsts: [u64; DISKS as usize],
 }
 
 impl OpenEpochs {
@@ -64,6 +69,7 @@ impl OpenEpochs {
                     host,
                     config: set.config,
                     cluster: set.cluster,
+                    firsts: first_epochs(&found),
                 };
                 Ok(Some((host, told_of(&found, set.config))))
             }
@@ -132,7 +138,7 @@ impl OpenEpochs {
     }
 
     /// Gives the device call that is due. An attach never reaches C: it is answered here, with this boot number, and the call after
-    /// it is given.
+    /// it is given. Of a disk that takes no part yet in the epoch no call is made, and C is told so.
     pub fn call(&mut self, boot: u64, call: &mut DueCall, written: &mut WrittenBlock) -> i32
         ensures next { CallsNext boot self.old self.new call.new written.old.bytes written.new.bytes result }
         ensures within { result ≡ done → LiesWithin self.new.host.config call.new }
@@ -148,9 +154,8 @@ impl OpenEpochs {
                 *call = DueCall::none();
                 return status;
             }
-            return self.due(call, written);
         }
-        tell(&self.host.call(), call, written)
+        self.due(call, written)
     }
 
     /// Hears what the device call that is due was answered, and tells the next.
@@ -179,25 +184,57 @@ impl OpenEpochs {
         if self.host.idle() {
             return NOTHING_DUE;
         }
-        let Some(heard) = told.heard(&self.host.call().call, row) else {
+        let Some(heard) = self.heard(told, row) else {
             return BAD_ARGUMENT;
         };
         number_of(self.host.hear(&heard))
     }
 
+    /// The answer to the call that is due. A disk that takes no part yet fails, whatever C says.
+    fn heard<'a>(&self, told: &ToldAnswer, row: &'a Row) -> Option<Heard<'a>>
+        requires { IsSome self.now.host.task }
+        ensures told { option_map device_answer result ≡ answer_on self.now.firsts self.now.host told.now row.now.bytes }
+        ensures fits { IfSome result (λ heard. Fits (call_due self.now.host).1 (heard_of cluster_version heard)) }
+    {
+        if self.is_away() {
+            Some(Heard::Fault(DiskFault::Failed))
+        } else {
+            told.heard(&self.host.call().call, row)
+        }
+    }
+
     fn is_attach_due(&self) -> bool
         requires { IsSome self.now.host.task }
-        ensures { IsTrue result ↔ ((call_due self.now.host).1 ≡ Attach) }
+        ensures { IsTrue result ↔ IsAttachDue self.now }
     {
         match self.host.call().call {
-            DeviceCall::Attach => true,
+            DeviceCall::Attach => !self.is_away(),
             _ => false,
+        }
+    }
+
+    /// Whether the disk of the call that is due takes no part yet in the epoch where the host is.
+    fn is_away(&self) -> bool
+        requires { IsSome self.now.host.task }
+        ensures { result ≡ is_away self.now.firsts self.now.host }
+    {
+        let disk = self.host.call().disk;
+        is_before(self.host.epoch(), self.first_of(disk))
+    }
+
+    /// The first epoch in which a disk takes part.
+    fn first_of(&self, disk: u8) -> u64
+        ensures { result ≡ slice_index self.now.firsts disk }
+    {
+        match self.firsts.get(usize::from(disk)) {
+            Some(first) => *first,
+            None => 0,
         }
     }
 
     /// Hears that the disk which is to be attached answered with this boot number.
     fn attach(&mut self, boot: u64) -> i32
-        requires { IsAttachDue self.old.host }
+        requires { IsAttachDue self.old }
         ensures { HasAttached boot self.old self.new result }
     {
         let booted = Heard::Booted(Boot { number: boot });
@@ -213,7 +250,12 @@ impl OpenEpochs {
             *call = DueCall::none();
             return NOTHING_DUE;
         }
-        tell(&self.host.call(), call, written)
+        let need = self.host.call();
+        if self.is_away() {
+            *call = away(need.disk);
+            return 0;
+        }
+        tell(&need, call, written)
     }
 
     /// Tells how the last task ended.

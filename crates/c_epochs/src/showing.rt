@@ -2,9 +2,11 @@ ghost use Rattle.std.specs.Prelude.{◌≡◌, ℕ, IfOk, IfErr, MatchOption, dr
 ghost use Rattle.lock_command.specs.declared.record.LockRecord.{LockRecord};
 ghost use Rattle.lock_table.specs.Apply.{table_after};
 ghost use Rattle.lock_table.specs.Picture.{IsPictureOf};
+ghost use Rattle.epoch_host.specs.Knowing.{where_is};
 ghost use Rattle.c_host.specs.Views.{FindsLock, FindsValue, IsAt, ShowBelow, ShowsClient, ShowsClients, ShowsLock, ShowsLocks, ShowsText};
-ghost use Rattle.c_epochs.specs.Views.{KnowsTable, LacksTable, MayLack, ShowsHost};
+ghost use Rattle.c_epochs.specs.Views.{AreAway, KnowsTable, LacksTable, MayLack, ShowsHost};
 
+use crate::call::is_before;
 use crate::fault::ShowFault;
 use crate::open_epochs::OpenEpochs;
 use crate::view::EpochsView;
@@ -12,6 +14,7 @@ use c_host::{ClientView, LockView, ValueView};
 use inspect::queues;
 use lock_table::{KnownClient, LockRecord, Picture};
 use std::alloc::Global;
+use torn_block::DISKS;
 
 impl OpenEpochs {
     /// What does not change, where the host is, and how much is learned.
@@ -33,8 +36,15 @@ impl OpenEpochs {
             slots: u32::from(self.config.slots()),
             is_in_epoch: u32::from(epoch.is_some()),
             has_table: u32::from(length.is_some()),
-            unused: 0,
+            away: self.away(),
         }
+    }
+
+    /// Which disks take no part yet in the epoch where the host is.
+    fn away(&self) -> [u32; DISKS as usize]
+        ensures { AreAway (where_is self.now.host) self.now.firsts result }
+    {
+        away_at(self.host.epoch(), &self.firsts)
     }
 
     /// Shows the lock of this number.
@@ -131,6 +141,17 @@ impl OpenEpochs {
             None => Err(ShowFault::NoTable),
         }
     }
+}
+
+/// Which disks take no part yet in the epoch where a host is, by their first epochs.
+fn away_at(epoch: Option<u64>, firsts: &[u64; DISKS as usize]) -> [u32; DISKS as usize]
+    ensures { AreAway epoch firsts.now result }
+{
+    let mut away = [0; DISKS as usize];
+    for disk in 0..usize::from(DISKS) {
+        away[disk] = u32::from(is_before(epoch, firsts[disk]));
+    }
+    away
 }
 
 /// Where the first lock of this number stands.

@@ -1,3 +1,5 @@
+use torn_block::DISKS;
+
 /// A host over all epochs, as C is shown it. Places are slots of all epochs, counted through.
 #[repr(C)]
 #[derive(Clone, Copy, Drop)]
@@ -17,5 +19,6 @@ pub struct EpochsView {
     pub is_in_epoch: u32,
     /// 1 where the lock table is known, else 0.
     pub has_table: u32,
-    pub unused: u32,
+    /// 1 of each disk that takes no part yet in the epoch where the host is, else 0.
+    pub away: [u32; DISKS as usize],
 }

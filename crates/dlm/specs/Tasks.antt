@@ -2,12 +2,13 @@
 use Rattle.std.specs.Prelude.{◌+◌, ℕ, List, Option, None}
 use Rattle.std.specs.Io.KnownBytes.{Appends}
 use Rattle.dlm_words.specs.declared.words.Subcommand.{Subcommand}
-use Rattle.dlm_words.specs.declared.words.Subcommand.TheVariants.{Run, Sweep, Format, Submit, Table, Mark, Check, Migrate, MakeEndless, Fill, Renew, Race}
+use Rattle.dlm_words.specs.declared.words.Subcommand.TheVariants.{Run, Sweep, Format, Submit, Table, Mark, Check, Migrate, MakeEndless, Replace, Fill, Renew, Race}
 use Rattle.dlm_tasks.specs.Checking.{EndsIn, IsFound}
 use Rattle.dlm_tasks.specs.Folders.{WritesAck, WritesLog, WritesMarked}
-use Rattle.dlm_tasks.specs.InPlace.{WritesMaking}
+use Rattle.dlm_tasks.specs.InPlace.{WritesMaking, WritesReplacing}
 use Rattle.dlm_tasks.specs.AnyRun.{WritesRun}
-use Rattle.dlm_tasks.specs.Printed.{WritesFilling, WritesMove, WritesRenewal, WritesSweep, formatted_text, sound_text}
+use Rattle.dlm_tasks.specs.AnySweep.{WritesSweep}
+use Rattle.dlm_tasks.specs.Printed.{WritesFilling, WritesMove, WritesRenewal, formatted_text, sound_text}
 use Rattle.dlm_tasks.specs.declared.images.TheConstants.{TRIES}
 use Rattle.dlm.specs.RaceText.{WritesRace}
 
@@ -22,6 +23,7 @@ HasPrinted (Mark folder host) before after = WritesMarked TRIES host before afte
 HasPrinted (Check folder) before after = IsFound None × EndsIn sound_text after
 HasPrinted (Migrate old new slots) before after = WritesMove slots before after
 HasPrinted (MakeEndless folder) before after = WritesMaking before after
+HasPrinted (Replace folder disk) before after = WritesReplacing disk before after
 HasPrinted (Fill folder host) before after = WritesFilling host before after
 HasPrinted (Renew old host new config cluster leave) before after = WritesRenewal host config cluster leave.items before after
 HasPrinted (Race last) before after = WritesRace (last + 1) before after

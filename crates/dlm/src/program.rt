@@ -2,16 +2,17 @@ ghost use Rattle.std.specs.Prelude.{◌≡◌, ◌≢◌, ◌≤◌, ◌↔◌, 
 ghost use Rattle.std.specs.Io.KnownBytes.{Keeps};
 ghost use Rattle.dlm_words.specs.Asked.{MayBeAsked};
 ghost use Rattle.dlm_tasks.specs.AnyRun.{WritesRun};
-ghost use Rattle.dlm_tasks.specs.Printed.{WritesSweep};
+ghost use Rattle.dlm_tasks.specs.AnySweep.{WritesSweep};
 ghost use Rattle.dlm.specs.Tasks.{HasPrinted};
 
 use crate::racing;
 use crate::refusal_line::refusal_line;
-use dlm_tasks::{CommandFailure, Fault, images, made_endless, print_sweep, run_any_script};
+use dlm_tasks::{
+    CommandFailure, Fault, images, made_endless, replaced, run_any_script, sweep_any_script,
+};
 use dlm_words::{Subcommand, WordsFault, task_of};
 use epoch_script::read_any_script;
 use folders::TryLock;
-use simulator::read_script;
 use std::alloc::Global;
 use std::fs::OpenFile;
 use std::io::{Read, Write};
@@ -64,6 +65,7 @@ where
         Subcommand::Check { folder } => images::check(rt, folder, out),
         Subcommand::Migrate { old, new, slots } => images::migrate(rt, old, new, slots, out),
         Subcommand::MakeEndless { folder } => made_endless::make_endless(rt, folder, out),
+        Subcommand::Replace { folder, disk } => replaced::replace(rt, folder, disk, out),
         Subcommand::Fill { folder, host } => images::fill(rt, folder, host, out),
         Subcommand::Renew {
             old,
@@ -152,8 +154,8 @@ fn sweep_file<R: Files + Input + AllocGlobal, O: Write>(
 fn sweep_bytes<O: Write>(alloc: Global, bytes: &[u8], out: &mut O) -> Result<(), CommandFailure>
     ensures { OnOk result (WritesSweep bytes.now (O.contents out.old) (O.contents out.new)) }
 {
-    let script = read_script(alloc, bytes).map_err(Fault::from)?;
-    print_sweep(alloc, &script, out)
+    let script = read_any_script(alloc, bytes).map_err(Fault::from)?;
+    sweep_any_script(alloc, &script, out)
 }
 
 /// The bytes of the file, or of the standard input.

@@ -174,7 +174,7 @@ pub extern "C" fn dlm_c_epochs_mark(alloc: Global, handle: &mut EpochHandle, pla
 }
 
 /// Gives the device call that is due, at its place in the whole image. An attach never reaches C: it is answered here, with this boot number for every
-/// disk.
+/// disk. Of a disk that takes no part yet in the epoch where the host is, the kind is 5: no call is to be made, and any answer will do.
 #[unsafe(no_mangle)]
 pub extern "C" fn dlm_c_epochs_call(
     alloc: Global,

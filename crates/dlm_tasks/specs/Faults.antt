@@ -1,7 +1,9 @@
 -- Which fault a task makes of a refusal of its parts.
+use Rattle.std.specs.Prelude.{◌≡◌}
 use Rattle.lock_script.specs.declared.script.ScriptFault.{ScriptFault}
 use Rattle.lock_script.specs.declared.script.ScriptFault.TheVariants as script
 use Rattle.attempt.specs.declared.refusal.Refusal.{Refusal}
+use Rattle.attempt.specs.declared.refusal.Refusal.TheVariants as refusal
 use Rattle.epoch_images.specs.declared.fault.EpochFault.{EpochFault}
 use Rattle.epoch_images.specs.declared.fault.EpochFault.TheVariants as epoch
 use Rattle.folders.specs.declared.fault.FolderFault.{FolderFault}
@@ -12,6 +14,8 @@ use Rattle.folders.specs.declared.host_lock.LockFault.{LockFault}
 use Rattle.folders.specs.declared.host_lock.LockFault.TheVariants as lock
 use Rattle.in_place.specs.declared.in_place_fault.InPlaceFault.{InPlaceFault}
 use Rattle.in_place.specs.declared.in_place_fault.InPlaceFault.TheVariants as in_place
+use Rattle.in_place.specs.declared.replace_fault.ReplaceFault.{ReplaceFault}
+use Rattle.in_place.specs.declared.replace_fault.ReplaceFault.TheVariants as replace
 use Rattle.folder_migration.specs.declared.fault.MoveFault.{MoveFault}
 use Rattle.folder_migration.specs.declared.fault.MoveFault.TheVariants as move
 use Rattle.folder_migration.specs.declared.fill.FillFault.{FillFault}
@@ -72,6 +76,12 @@ of_in_place (in_place.Lock fault) = of_lock fault
 of_in_place in_place.TooFewSlots = TooFewSlots
 of_in_place in_place.Renewed = RenewedElsewhere
 
+-- a lost image was not replaced
+abbrev pub of_replacing : ReplaceFault → Fault
+of_replacing (replace.Folder fault) = of_folder fault
+of_replacing (replace.Lock fault) = of_lock fault
+of_replacing replace.NoMajority = of_refusal refusal.NoMajority
+
 -- a log was not filled
 abbrev pub of_filling : FillFault → Fault
 of_filling fill.NoMemory = NoMemory
@@ -100,6 +110,10 @@ of_renewal renew.RenewalFailed = MigrationFailed
 abbrev pub IfRefused : CommandFailure → (Fault → Type 0) → Type 0
 IfRefused (Refused fault) P = P fault
 IfRefused (Output error) P = Unit {0}
+
+-- a part may refuse so, and the fault is that refusal's
+abbrev pub IsOf : {Cause : Type 0} → (Cause → Type 0) → (Cause → Fault) → Fault → Type 0
+IsOf {Cause} May told fault = (cause : Cause) × May cause × (fault ≡ told cause)
 
 -- a script over a log without an end was not run to its end
 abbrev pub of_play : PlayFailure → CommandFailure

@@ -1,7 +1,8 @@
--- What is printed of a folder whose log is made one without an end in place.
+-- What is printed of a folder that is changed in place: its log is made one without an end, or a lost image is replaced.
 use Rattle.std.specs.Prelude.{ℕ, List, [], ◌∷◌, ◌++◌, codes, decimal, Option}
 use Rattle.std.specs.Io.KnownBytes.{Appends}
 use Rattle.in_place.specs.InPlaceFolders.{CameTo}
+use Rattle.in_place.specs.Replacing.{WasReplaced}
 use Rattle.in_place.specs.declared.in_place.MadeEndless.{MadeEndless}
 use Rattle.in_place.specs.declared.in_place.MadeEndless.TheVariants.{Made, Already}
 
@@ -15,3 +16,13 @@ pub record WritesMaking (before after : Option (List ℕ)) : Type 0 where
   pub made : MadeEndless
   pub came_to : CameTo made
   pub written : Appends before after (made_text made)
+
+-- from which epoch on the new image takes part
+abbrev pub replaced_text : (disk first : ℕ) → List ℕ
+replaced_text disk first = codes "replaced disk" ++ (decimal disk ++ (codes ": it takes part from epoch " ++ (decimal first ++ (codes " on" ++ 10 ∷ []))))
+
+-- The image was replaced, and that was written.
+pub record WritesReplacing (disk : ℕ) (before after : Option (List ℕ)) : Type 0 where
+  pub first : ℕ
+  pub replaced : WasReplaced disk first
+  pub written : Appends before after (replaced_text disk first)

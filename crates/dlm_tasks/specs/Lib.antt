@@ -1,4 +1,5 @@
 pub mod AnyRun
+pub mod AnySweep
 pub mod Checking
 pub mod Endless
 pub mod Faults

@@ -20,8 +20,6 @@ use Rattle.host.specs.declared.answer.HostAnswer.TheVariants.{Ack, Recovered}
 use Rattle.endless_image.specs.declared.kind.Kind.{Kind}
 use Rattle.endless_image.specs.declared.kind.Kind.TheVariants.{Ending, Endless}
 use Rattle.paxos_block.specs.Shape.{Shape}
-use Rattle.lock_script.specs.Lines.{lines_of}
-use Rattle.lock_script.specs.Script.{IsScript, content_of}
 use Rattle.lock_script.specs.declared.event.Event.{Event}
 use Rattle.lock_script.specs.declared.script.Script.{Script}
 use Rattle.lock_script.specs.declared.show.Show.{Show}
@@ -260,9 +258,3 @@ sweep_text script =
     let opening = opening_of script in
     let runs = variants opening (events_of script.events) in
     counts_text (length runs) (sum_by (recovered_behind opening) runs) 0
-
--- The bytes are a script, which was swept.
-pub record WritesSweep (bytes : List ℕ) (before after : Option (List ℕ)) : Type 0 where
-  pub script : Script
-  pub is_script : IsScript (lines_of bytes) (content_of script)
-  pub written : Appends before after (sweep_text script)

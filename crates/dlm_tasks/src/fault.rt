@@ -1,6 +1,6 @@
 ghost use Rattle.std.specs.Prelude.{◌≡◌, ◌↔◌, ◌⊎◌};
 ghost use Rattle.std.specs.IoError.{error_kind};
-ghost use Rattle.dlm_tasks.specs.Faults.{of_epoch, of_script, of_refusal, of_folder, of_filling, of_finding, of_in_place, of_lock, of_move, of_new, of_renewal};
+ghost use Rattle.dlm_tasks.specs.Faults.{of_epoch, of_script, of_refusal, of_folder, of_filling, of_finding, of_in_place, of_lock, of_move, of_new, of_renewal, of_replacing};
 ghost use Rattle.dlm_tasks.specs.declared.fault.Fault.TheVariants.{NoMemory, Unreadable};
 
 use disk::ImageFault;
@@ -9,7 +9,7 @@ use epoch_images::EpochFault;
 use folder_migration::{FillFault, MoveFault, NewFault, RenewFault};
 use folders::{Finding, FolderFault, LockFault, image_fault_name, image_fault_number};
 use host::Refusal;
-use in_place::InPlaceFault;
+use in_place::{InPlaceFault, ReplaceFault};
 use simulator::ScriptFault;
 use std::io;
 use std::io::ErrorKind;
@@ -178,6 +178,18 @@ impl From<InPlaceFault> for Fault {
             InPlaceFault::Lock(fault) => Fault::from(fault),
             InPlaceFault::TooFewSlots => Fault::TooFewSlots,
             InPlaceFault::Renewed => Fault::RenewedElsewhere,
+        }
+    }
+}
+
+impl From<ReplaceFault> for Fault {
+    ghost from_gives = { λ of fault. fault ≡ of_replacing of };
+
+    fn from(fault: ReplaceFault) -> Self {
+        match fault {
+            ReplaceFault::Folder(fault) => Fault::from(fault),
+            ReplaceFault::Lock(fault) => Fault::from(fault),
+            ReplaceFault::NoMajority => Fault::from(Refusal::NoMajority),
         }
     }
 }

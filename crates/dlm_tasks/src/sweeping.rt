@@ -4,7 +4,7 @@ ghost use Rattle.dlm_tasks.specs.Printed.{counts_text, sweep_text};
 
 use crate::command_failure::CommandFailure;
 use crate::fault::Fault;
-use fault_sweep::{Sweep, sweep};
+use fault_sweep::sweep;
 use simulator::Script;
 use std::alloc::Global;
 use std::io;
@@ -21,19 +21,21 @@ pub fn print_sweep<O: Write>(
     ensures { OnOk result (Appends (O.contents out.old) (O.contents out.new) (sweep_text script.now)) }
 {
     let swept = sweep(alloc, script).map_err(Fault::from)?;
-    print_counts(&swept, out)?;
+    print_counts(swept.runs, swept.recovered, swept.wrong, out)?;
     match swept.first {
         None => Ok(()),
         Some(run) => Err(CommandFailure::from(Fault::WrongRun(run))),
     }
 }
 
-fn print_counts<O: Write>(swept: &Sweep, out: &mut O) -> io::Result<()>
-    ensures { OnOk result (Appends (O.contents out.old) (O.contents out.new) (counts_text swept.now.runs swept.now.recovered swept.now.wrong)) }
+pub fn print_counts<O: Write>(
+    runs: usize,
+    recovered: usize,
+    wrong: usize,
+    out: &mut O,
+) -> io::Result<()>
+    ensures { OnOk result (Appends (O.contents out.old) (O.contents out.new) (counts_text runs recovered wrong)) }
 {
-    let runs = swept.runs;
-    let recovered = swept.recovered;
-    let wrong = swept.wrong;
     writeln!(out, "{runs} runs, {recovered} recovered, {wrong} wrong")?;
     out.flush()
 }

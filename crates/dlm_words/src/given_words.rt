@@ -52,6 +52,11 @@ pub fn slots_of(word: &str) -> Result<SlotCount, WordsFault> {
     }
 }
 
+/// The number of a disk that a set may have.
+pub fn disk_of(word: &str) -> Result<u8, WordsFault> {
+    Ok(number(word, 0, u64::from(DISKS) - 1)? as u8)
+}
+
 /// Any number that 64 bits hold.
 pub fn cluster_of(word: &str) -> Result<u64, WordsFault> {
     number(word, 0, u64::MAX)

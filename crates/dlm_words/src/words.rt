@@ -3,7 +3,8 @@ ghost use Rattle.dlm_words.specs.Asked.{MayBeAsked};
 ghost use Rattle.dlm_words.specs.declared.words.WordsFault.TheVariants.{NoMemory};
 
 use crate::given_words::{
-    clients_of, cluster_of, command_of, config_of, host_of, last_host_of, new_log_of, slots_of,
+    clients_of, cluster_of, command_of, config_of, disk_of, host_of, last_host_of, new_log_of,
+    slots_of,
 };
 use clap::error::ErrorKind;
 use clap::{Arg, ArgAction, ArgMatches, Error};
@@ -60,6 +61,11 @@ pub enum Subcommand<'a> {
     /// Make the log in this folder one without an end, in its own images.
     MakeEndless {
         folder: &'a str,
+    },
+    /// Put a new image in the place of a lost one of the log without an end in this folder.
+    Replace {
+        folder: &'a str,
+        disk: u8,
     },
     /// Fill the log in this folder up, through this host, with requests that change nothing.
     Fill {
@@ -132,6 +138,7 @@ pub fn task_of<'a>(alloc: Global, words: &'a [&'a str]) -> Result<Subcommand<'a>
         Some(("mark", mark)) => mark_task(mark),
         Some(("check", check)) => check_task(check),
         Some(("migrate", migrate)) => migrate_task(migrate),
+        Some(("replace", replace)) => replace_task(replace),
         Some(("fill", fill)) => fill_task(fill),
         Some(("renew", renew)) => renew_task(alloc, renew),
         Some(("race", race)) => race_task(race),
@@ -162,6 +169,7 @@ fn program<'a>(alloc: Global) -> Result<clap::Command<'a>, AllocError> {
     let program = with(program, mark_command(alloc))?;
     let program = with(program, check_command(alloc))?;
     let program = with(program, migrate_command(alloc))?;
+    let program = with(program, replace_command(alloc))?;
     let program = with(program, fill_command(alloc))?;
     let program = with(program, renew_command(alloc))?;
     let program = with(program, race_command(alloc))?;
@@ -241,6 +249,13 @@ fn migrate_command<'a>(alloc: Global) -> Result<clap::Command<'a>, AllocError> {
         .arg(word(alloc, "old"))?
         .arg(further_word(alloc, "new"))?
         .arg(further_word(alloc, "slots"))
+}
+
+fn replace_command<'a>(alloc: Global) -> Result<clap::Command<'a>, AllocError> {
+    clap::Command::new(alloc, "replace")
+        .disable_help_flag(true)
+        .arg(word(alloc, "folder"))?
+        .arg(word(alloc, "disk"))
 }
 
 fn fill_command<'a>(alloc: Global) -> Result<clap::Command<'a>, AllocError> {
@@ -356,6 +371,14 @@ fn migrate_task<'a>(migrate: &ArgMatches<'a>) -> Result<Subcommand<'a>, WordsFau
         }),
         None => Ok(Subcommand::MakeEndless { folder: old }),
     }
+}
+
+fn replace_task<'a>(replace: &ArgMatches<'a>) -> Result<Subcommand<'a>, WordsFault>
+    ensures { IfOk result MayBeAsked }
+{
+    let folder = given(replace, "folder")?;
+    let disk = disk_of(given(replace, "disk")?)?;
+    Ok(Subcommand::Replace { folder, disk })
 }
 
 fn fill_task<'a>(fill: &ArgMatches<'a>) -> Result<Subcommand<'a>, WordsFault>

@@ -8,4 +8,5 @@ mod playing;
 mod showing;
 
 pub use failure::PlayFailure;
+pub use happening::{Said, happen};
 pub use playing::play;

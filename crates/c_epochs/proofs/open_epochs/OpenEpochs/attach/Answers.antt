@@ -17,5 +17,5 @@ returns c =
         stands = stands_so c.hear.new.self (AreSilent old) old.task c.hear.result c.hear.ensures.keeps c.hear.ensures.told c.hear.ensures.given_up c.hear.ensures.ends c.hear.ensures.there c.hear.ensures.fresh;
       };
       told = subst (λ (n : ℤ). TellsStand c.hear.new.self n) (sym (to_z-of_z w32 c.number_of.result (search rules))) (tells_so c.hear.new.self c.hear.result c.number_of.result c.hear.ensures.told c.hear.ensures.given_up c.number_of.ensures.ok c.number_of.ensures.err);
-      same = record { config = refl; cluster = refl; host = c.hear.ensures.same; looks = c.hear.ensures.looks };
+      same = record { config = refl; cluster = refl; firsts = refl; host = c.hear.ensures.same; looks = c.hear.ensures.looks };
     }

@@ -17,4 +17,4 @@ returns-clause-told c =
     (tells_so c.begin.new.self c.begin.result c.number_of.result c.begin.ensures.told c.begin.ensures.given_up c.number_of.ensures.ok c.number_of.ensures.err)
 
 pub returns-clause-same : goal.returns-clause-same
-returns-clause-same c = record { config = refl; cluster = refl; host = c.begin.ensures.same; looks = c.begin.ensures.looks }
+returns-clause-same c = record { config = refl; cluster = refl; firsts = refl; host = c.begin.ensures.same; looks = c.begin.ensures.looks }
