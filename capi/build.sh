@@ -48,7 +48,7 @@ is_made() {
 prove() {
     local crate=$top/crates/dlm_c made_of
     ! is_newest_file "$crate/out/libdlm_c.a" dlm_c || ! is_proved dlm_c libdlm_c.a || return 0
-    echo "capi/build.sh: proving and building crates/dlm_c, which takes a quarter of an hour or more where nothing was proved before" >&2
+    echo "capi/build.sh: proving and building crates/dlm_c, which takes half an hour or more where nothing was proved before" >&2
     touch -- "$out/began"
     made_of=$(sum_of_sources dlm_c)
     : > "$out/build.log"

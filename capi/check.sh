@@ -102,6 +102,11 @@ memory=$(mktemp -d -p /dev/shm 2> /dev/null) && trap 'rm -rf -- "$work" "$memory
 tried "endless" "$work/endless" "$memory" "$dlm"
 says_endless() { { "$@" 2>&1 || true; } | grep -q ' 25 WrongHeader disk0 (an image for the processes of one machine alone: '; }
 tried "refused: dlm-shared" says_endless "$PREFIX/bin/dlm-shared" table "$memory/epochs" 0
+# A lost image is replaced there: by the test, and by dlm.
+tried "replaced, built" cc -std=c99 $common "$here/tests/replaced.c" $flags -o "$work/replaced"
+mkdir -- "$memory/replaced" "$memory/replaced_by_dlm"
+tried "replaced" "$work/replaced" "$memory/replaced"
+[[ ! -x $dlm ]] || tried "replaced by dlm" "$work/replaced" "$memory/replaced_by_dlm" "$dlm"
 rm -rf -- "$memory"
 endless_test() { # PROGRAM [WORD..]: builds it so that the logs of its folders have no end
     local source=$here/tests/$1.c
@@ -209,10 +214,40 @@ $ format images 3 12 7 4 512
 dlm: 26 Unreadable disk0 (disk0.img is not there: a link to a block device is wanted, unless files are asked for)
 status 1
 $ format images 0 12 7 4 512 files
-dlm: usage
+dlm-shared: DISKS is 0: 1 to 7
 status 2
 $ format images 18446744073709551619 12 7 4 512 files
-dlm: usage
+dlm-shared: DISKS is 18446744073709551619: 1 to 7
+status 2
+$ format images 3 4097 7 4 512
+dlm-shared: SLOTS is 4097: 1 to 4096, or - for a log without an end
+status 2
+$ format images 3 12 -1
+dlm-shared: CLUSTER is -1: 0 to 18446744073709551615
+status 2
+$ format images 3 nodsync
+dlm-shared: CLUSTER is missing: 0 to 18446744073709551615
+status 2
+$ format images 3 12 7 0
+dlm-shared: HOSTS is 0: 1 to 16
+status 2
+$ format images 3 12 7 4 1536 files
+dlm-shared: SECTOR is 1536: 512, 1024, 2048 or 4096
+status 2
+$ format images 3 12 7 4 512 file
+dlm-shared: file is a word too many: see dlm-shared --help
+status 2
+$ make images
+dlm-shared: WORD is make: format, submit, table, mark, check, export or take
+status 2
+$ take
+dlm-shared: FOLDER is missing: a folder with links disk0.img to disk6.img
+status 2
+$ take images
+dlm-shared: HOST is missing: 0 to 15
+status 2
+$ export images
+dlm-shared: INTO is missing: a folder that has no images
 status 2
 $ format images 3 12 7 4 512 files
 formatted 3 disks, 12 slots
@@ -248,20 +283,47 @@ ack 8 Released
 $ mark images 1
 recovered 9
 marked 0 slots
+$ submit images 0
+dlm-shared: COMMAND is missing: enqueue, convert, release, cancel, status, purge or forget
+status 2
+$ submit images 0 take 1 4 1
+dlm-shared: COMMAND is take: enqueue, convert, release, cancel, status, purge or forget
+status 2
+$ submit images 0 release 256 4 1
+dlm-shared: CLIENT is 256: 0 to 255
+status 2
+$ submit images 0 release 1 0 1
+dlm-shared: REQUEST is 0: 1 to 4611686018427387904
+status 2
+$ submit images 0 release 1 4 0
+dlm-shared: LOCK is 0: 1 to 65535
+status 2
+$ submit images 0 purge 1 4 16
+dlm-shared: HOST is 16: 0 to 15
+status 2
+$ submit images 0 forget 1 4
+dlm-shared: FORGOTTEN is missing: 0 to 255
+status 2
+$ submit images 0 convert 1 4 1 ex
+dlm-shared: MODE is ex: NL, CR, CW, PR, PW or EX
+status 2
+$ submit images 0 enqueue 1 4 9 EX sixteen-bytes-ab
+dlm-shared: NAME is sixteen-bytes-ab: 1 to 15 bytes from 0x21 to 0x7E
+status 2
 $ submit images 0 convert 1 4 1 EX noqueue value
-dlm: bad command
+dlm-shared: VALUE is missing: 32 digits of 0 to 9 and a to f
 status 2
 $ submit images 0 release 1 4 1 noqueue
-dlm: bad command
+dlm-shared: noqueue is a word too many: see dlm-shared --help
 status 2
 $ submit images 4 release 1 4 1
 dlm-shared: disk0.img has host numbers from 0 to 3, and 4 was given
 status 2
 $ submit images 16 release 1 4 1
-dlm: usage
+dlm-shared: HOST is 16: 0 to 15
 status 2
 $ table images 00
-dlm: usage
+dlm-shared: HOST is 00: 0 to 15
 status 2
 $ export images images/copy
 exported 3 images
@@ -271,8 +333,11 @@ status 1
 $ renew images 0 images/copy 3 12 8
 dlm-shared: renew: a log on shared devices is not renewed: nothing puts a table onto such devices. One without an end needs no renewal
 status 2
+$ replace images 0
+dlm-shared: replace: the header of a shared device has no first epoch: a lost one stays lost
+status 2
 $ format images/endless 3 - 7 17 512 files
-dlm: usage
+dlm-shared: HOSTS is 17: 1 to 16
 status 2
 $ format images/endless 3 - 7 4 512 files
 formatted 3 disks, 1024 slots an epoch

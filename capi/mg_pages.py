@@ -33,9 +33,10 @@ def seconds(name, least, most, text, letter=""):
     return option(name, "SECONDS", text, "SECONDS", least, most, f"a number of seconds, {least / 1000:g} to {most // 1000}", letter)
 
 
+DISKS = [str(disk) for disk in range(7)]
 MODES = ["NL", "CR", "CW", "PR", "PW", "EX"]
 HOST = number("host", "N", 0, 15, "the host number; without it mg chooses one")
-JSON = option("json", "FLAG", "for programs: an object a line")
+JSON = option("json", "FLAG", "for programs: one object")
 MODE = option("mode", "MODE", "the mode; EX without it", "MODE", bounds=", ".join(MODES), letter="m")
 WAIT = seconds("wait", 0, 86400000, "wait no longer, as 2.5", "w")
 
@@ -60,6 +61,7 @@ WORDS = [
         number("cluster", "N", 0, 2**64 - 1, "another number for each folder; without it one at random"),
         number("disks", "N", 1, 7, "how many images; 3 without it"),
         number("slots", "N", 1, 4096, "the log ends after so many commands; without it, it has no end"),
+        JSON,
     ], "make the images of a folder",
         ["Makes FOLDER if it is not there, and in it the images of a new log.", "It never writes over images that are there."],
         ["mg create images", "mg create images --disks 5"]),
@@ -96,7 +98,7 @@ WORDS = [
          "The status is 1 where there is nothing to give, as the second time: so it may be run again after a kill."],
         ["mg give images db 1541"], rest="LOCK", needs=True),
     word("status", "FOLDER", [
-        option("json", "FLAG", "for programs: one object"),
+        JSON,
         option("prometheus", "FLAG", "for node_exporter of Prometheus"),
     ], "show slots, disks and locks",
         ["Shows slots, disks, host numbers in use on this machine, and locks.", "It only looks."],
@@ -112,18 +114,22 @@ WORDS = [
     ], "release what killed processes left",
         ["Releases the locks of each `mg lock` that was killed, once its COMMAND has ended, too.", "It prints how many, for each host number that had some."],
         ["mg recover images", "mg recover images --all"]),
-    word("submit", "FOLDER", [HOST, JSON], "put a command into the log",
+    word("submit", "FOLDER", [HOST], "put a command into the log",
          ["Puts COMMAND into the log, and prints its place and the reply of the lock table.", "The client, its request and the lock are numbers that you choose.",
           "A request counts once: each new one needs a greater number than the client's last."],
          ["mg submit images enqueue 1 $(date +%s%N) 1 EX db"], rest="COMMAND", needs=True),
-    word("table", "FOLDER", [HOST, JSON], "show the lock table", ["Learns the whole log, and prints the locks of each name."], ["mg table images"]),
-    word("mark", "FOLDER", [HOST, JSON], "mark what has no mark",
+    word("table", "FOLDER", [HOST], "show the lock table", ["Learns the whole log, and prints the locks of each name."], ["mg table images"]),
+    word("mark", "FOLDER", [HOST], "mark what has no mark",
          ["Learns the whole log, and marks each command that has no mark, so that looks pass it.", "Run it after a crash."], ["mg mark images"]),
     word("check", "FOLDER", [JSON], "look for damage in the images",
          ["Reads all images to their ends, and prints a line for whatever is wrong, or `sound`.", "It writes nothing."], ["mg check images"]),
     word("migrate", "FOLDER", [JSON], "make a log that ends endless",
          ["Makes the log of FOLDER one without an end, in its own images.", "Stop every host of the folder before, and copy the images: there is no way back."],
          ["mg migrate images"]),
+    word("replace", "FOLDER DISK", [JSON], "make a new image in the place of a lost one",
+         ["Makes a new image of number DISK, 0 to 6, in the place of a lost one, in a log without an end.",
+          "End every process that has FOLDER open before, and move away what has the name of the image.", "Until the epoch that it prints the new image counts as lost."],
+         ["mg replace images 1"]),
     word("run", "SCRIPT", [], "run a script over disks in memory", ["Runs SCRIPT over disks in memory, with hosts, faults and crashes where it says so.", "A SCRIPT `-` is the standard input."],
          ["mg run examples/first_reply.dlm"]),
     word("sweep", "SCRIPT", [], "run a script with each single fault", ["Runs SCRIPT once for each fault before each of its steps, and says how many runs were wrong.", "A SCRIPT `-` is the standard input."],
@@ -281,7 +287,7 @@ def synopsis(it):
 
 def in_page(text):
     """FOLDER, NAME and so on are arguments of the page, and small letters there."""
-    return re.sub(r"\b(FOLDER|NAME|COMMAND|SCRIPT|LINE|LOCK)\b", lambda it: it.group(0).lower(), text)
+    return re.sub(r"\b(FOLDER|NAME|DISK|COMMAND|SCRIPT|LINE|LOCK)\b", lambda it: it.group(0).lower(), text)
 
 
 def described(it):
@@ -306,8 +312,8 @@ def manual(version):
     out += [".Nm", ".Cm help", ".Op Ar word", ".Nm", ".Fl -version"]
     out += [".Sh DESCRIPTION", ".Nm", "keeps locks in a folder of images, which stand for disks.", "No network and no daemon takes part.",
             "Its words for one lock around one command are those that most need:", ".Bd -literal -offset indent", "$ mg create images",
-            "$ mg lock images db \\-\\- ./backup", ".Ed", ".Pp", ".Nm", "reads its words, and becomes", ".Xr mg-lock 1", "for locks and the status, or else", ".Xr dlm 1 ,",
-            "which knows no", ".Fl -json", "and refuses it.", "A program", ".Pa mg-folder", "would be taken in its place; no version has one yet.",
+            "$ mg lock images db \\-\\- ./backup", ".Ed", ".Pp", ".Nm", "reads its words, and becomes", ".Xr mg-lock 1", "for locks and the status, or else", ".Pa mg-folder .",
+            "Where that is not installed it becomes", ".Xr dlm 1 ,", "which knows no", ".Fl -json .",
             "Options stand anywhere after the first word, and before", ".Ar command", "or", ".Ql -- .", "The words are:", ".Bl -tag -width Ds"]
     for it in WORDS:
         out += described(it)
@@ -321,7 +327,7 @@ def manual(version):
             "cannot know their numbers, so there", ".Fl -host", "has to be given."]
     out += [".Sh FILES", ".Bl -tag -width Ds", ".It Pa turn.lock", "in the folder: locked by", ".Cm submit , table", "and", ".Cm mark", "without", ".Fl -host .",
             "It is empty, and may stay.", ".It Pa hostHOST.lock", "in the folder: locked while a host number is in use.", ".It Pa libexec/midgegalena/mg-folder",
-            "beside the folder of", ".Nm", "itself: a program for the words of a folder; no version has one yet.", ".El"]
+            "beside the folder of", ".Nm", "itself: a program for a folder's words and a script's; no version has one yet.", ".El"]
     out += [".Sh EXIT STATUS", "That of", ".Xr mg-lock 1", "for", ".Cm lock , take , give , status", "and", ".Cm recover .", "Otherwise:", ".Bl -tag -width Ds", ".It 0",
             "done", ".It 1", "refused, or a check found something", ".It 2", "the words are wrong, and nothing was done;", ".Cm lock , take", "and", ".Cm give", "end with 125 then", ".El"]
     out += [".Sh EXAMPLES", "Each word, as it is typed:", ".Bd -literal -offset indent"]
@@ -391,6 +397,7 @@ _mg() {{
         0:run | 0:sweep) compopt -o filenames; mapfile -t COMPREPLY < <(compgen -f -- "$word") ;;
         0:*) compopt -o filenames; mapfile -t COMPREPLY < <(compgen -d -- "$word") ;;
         1:submit) mapfile -t COMPREPLY < <(compgen -W "{' '.join(name for name, _ in COMMANDS)}" -- "$word") ;;
+        1:replace) mapfile -t COMPREPLY < <(compgen -W "{' '.join(DISKS)}" -- "$word") ;;
         5:submit) mapfile -t COMPREPLY < <(compgen -W "{' '.join(MODES)}" -- "$word") ;;
         1:lock) ;;
         *:lock) compopt -o filenames; mapfile -t COMPREPLY < <(compgen -c -- "$word"; compgen -f -- "$word") ;;
@@ -427,7 +434,8 @@ def zsh():
     for it in WORDS:
         words = [zsh_option(one) for one in it.options] + ["'(- *)'{-h,--help}'[show the options and an example]'"]
         for at, one in enumerate(it.takes, 1):
-            words.append({"FOLDER": f"'{at}:folder:_directories'", "SCRIPT": f"'{at}:script:_files'", "NAME": f"'{at}:name, 1 to 15 bytes:'"}[one])
+            words.append({"FOLDER": f"'{at}:folder:_directories'", "SCRIPT": f"'{at}:script:_files'", "NAME": f"'{at}:name, 1 to 15 bytes:'",
+                          "DISK": f"'{at}:disk:({' '.join(DISKS)})'"}[one])
         if it.name == "submit":
             words += [f"'2:command:({' '.join(name for name, _ in COMMANDS)})'", "'*:words of the command:'"]
         elif it.rest:
@@ -493,6 +501,7 @@ def fish():
             letter = f" -s {one.letter}" if one.letter else ""
             lines.append(f"complete -c mg -n '__mg_word {it.name}'{letter} -l {one.name}{value} -d {in_fish(one.text)}")
     lines.append(f"complete -c mg -n '__mg_at submit 1' -a '{' '.join(name for name, _ in COMMANDS)}'")
+    lines.append(f"complete -c mg -n '__mg_at replace 1' -a '{' '.join(DISKS)}'")
     lines.append(f"complete -c mg -n '__mg_at submit 5' -a '{' '.join(MODES)}'")
     lines.append("complete -c mg -n '__mg_word lock; and test (__mg_given) -ge 2' -F")
     return "\n".join(lines) + "\n"

@@ -60,6 +60,7 @@ enum mg_outcome {
     MG_IN_DOUBT = -6,     /* mg_take, mg_give: it is not known whether the lock is, or stays, in the table (mg_session.h) */
     MG_BUSY = -7,         /* a call of the session is under way: this one came from what mg_set_rest has it call. Nothing was done */
     MG_NO_TABLE = -8,     /* the host does not know the lock table now: see "a log without an end". A look learns it */
+    MG_NOT_YET = -9,      /* mg_disks: the disk takes part from a later epoch on, and counts as lost until then */
 
     /* The host refused the operation. The command is not acknowledged, and may be in the log all the same: ask again with the
      * same request number */
@@ -285,6 +286,9 @@ int mg_wait(struct mg_host *host, unsigned lock, int interval, int timeout, int 
  * - A host knows the table once it has looked, learned or had a command acknowledged. A call that fails as an epoch begins may leave it without one. Then what
  *   shows the table is refused, MG_NO_TABLE, and mg_log and mg_host_facts tell 0 commands, until a call learns it.
  * - Where memory is refused the operation is given up, MG_NO_MEMORY. Its command may be in the log: ask again with the same request number.
+ * - A new image may stand in the place of a lost one, and takes part from a later epoch on. While the host is in one before that, no call is made on the disk, and
+ *   mg_disks says MG_NOT_YET. The image is made while no host number is in use, so while mg_open has none open. A session finds it with its next call. A handle of
+ *   mg_open_to_look does not: close it, and open another one.
  */
 
 /* The epoch where the host is, how many slots each has, and how many of its own hold commands that the host has learned. A log that ends is one epoch, 0.
@@ -360,7 +364,7 @@ struct mg_disk_view {
 /* Each disk, by number. When the images were opened MG_UNREADABLE could not be opened or read, MG_NOT_FORMATTED has no header that was
  * made to its end, and MG_WRONG_HEADER has one that is not this image's, or another length or layout. MG_UNREADABLE is also a disk on
  * which a call of this host has failed since. A call on other disks tells nothing of it: a look, for one, reads a majority. Of the
- * blocks it says nothing: `dlm check` reads these. All goes on while more than half are MG_OK. Fills up to `room`; `*count` is how
+ * blocks it says nothing: `dlm check` reads these. MG_NOT_YET is a disk that takes no part yet in the epoch where the host is. All goes on while more than half are MG_OK. Fills up to `room`; `*count` is how
  * many there are. `into` may be NULL where `room` is 0. */
 int mg_disks(struct mg_host *host, struct mg_disk_view *into, size_t room, size_t *count);
 

@@ -1,5 +1,6 @@
 /*
- * dlm-shared: words of dlm over devices that several machines use at once, by the library. It prints what dlm prints, and ends with the same statuses.
+ * dlm-shared: words of dlm over devices that several machines use at once, by the library. It prints what dlm prints, and ends with the same statuses; of wrong words
+ * it says which, and what is wanted.
  * man man/dlm-shared.1 says how it is used. No proof covers this file.
  */
 #ifndef _GNU_SOURCE
@@ -19,7 +20,9 @@
 #include <sys/wait.h>
 #include <unistd.h>
 
-enum { REFUSED = 1, WRONG = 2, NO_PROGRAM = 127, PATH_LENGTH = 4096 };
+enum { REFUSED = 1, WRONG = 2, NO_PROGRAM = 127, PATH_LENGTH = 4096, LONGEST_WORD = 100 };
+
+static const uint64_t LAST_REQUEST = (uint64_t)1 << 62;
 
 static const char *const MODES[] = {"NL", "CR", "CW", "PR", "PW", "EX"};
 
@@ -31,8 +34,21 @@ static void stop(int number) { stopped = number; }
 
 /* ---- saying ---- */
 
-static int usage(void) {
-    fputs("dlm: usage\n", stderr);
+/* A word as it may stand in a line. */
+static const char *shown(const char *word) {
+    size_t length = strlen(word);
+    for (const char *at = word; *at; at++)
+        if (*at < 0x21 || *at > 0x7E)
+            return "..";
+    return length >= 1 && length <= LONGEST_WORD ? word : "..";
+}
+
+/* Says which word is wrong, or is missing, and what is wanted in its place. */
+static int wrong(const char *name, const char *word, const char *wanted) {
+    if (word)
+        fprintf(stderr, "dlm-shared: %s is %s: %s\n", name, shown(word), wanted);
+    else
+        fprintf(stderr, "dlm-shared: %s is missing: %s\n", name, wanted);
     return WRONG;
 }
 
@@ -97,75 +113,136 @@ static bool number(const char *word, uint64_t most, uint64_t *into) {
     return *into <= most;
 }
 
-static int mode_of(const char *word) {
-    for (int mode = MG_NL; mode <= MG_EX; mode++)
-        if (strcmp(word, MODES[mode]) == 0)
-            return mode;
-    return MG_NONE;
+/* The same with a range. Where the word is none of it, that is said. */
+static bool number_of(const char *name, const char *word, uint64_t least, uint64_t most, uint64_t *into) {
+    char range[48];
+    if (word && number(word, most, into) && *into >= least)
+        return true;
+    snprintf(range, sizeof range, "%llu to %llu", (unsigned long long)least, (unsigned long long)most);
+    wrong(name, word, range);
+    return false;
 }
 
-/* 32 digits, in small letters. */
+static bool mode_of(const char *word, int *into) {
+    for (*into = MG_NL; word && *into <= MG_EX; ++*into)
+        if (strcmp(word, MODES[*into]) == 0)
+            return true;
+    wrong("MODE", word, "NL, CR, CW, PR, PW or EX");
+    return false;
+}
+
+/* The library judges the name's bytes again. */
+static bool name_of(const char *word, const char **into) {
+    *into = word;
+    if (word && word[0] != '\0' && strlen(word) <= MG_NAME_LENGTH && strcmp(shown(word), word) == 0)
+        return true;
+    wrong("NAME", word, "1 to 15 bytes from 0x21 to 0x7E");
+    return false;
+}
+
 static bool value_of(const char *word, uint8_t *into) {
     static const char digits[] = "0123456789abcdef";
-    if (strlen(word) != 2 * MG_VALUE_LENGTH || strspn(word, digits) != 2 * MG_VALUE_LENGTH)
-        return false;
-    for (int i = 0; i < 2 * MG_VALUE_LENGTH; i++)
+    bool is_value = word && strlen(word) == 2 * MG_VALUE_LENGTH && strspn(word, digits) == 2 * MG_VALUE_LENGTH;
+    for (int i = 0; i < 2 * MG_VALUE_LENGTH && is_value; i++)
         into[i / 2] = (uint8_t)(into[i / 2] << 4 | (strchr(digits, word[i]) - digits));
-    return true;
+    if (!is_value)
+        wrong("VALUE", word, "32 digits of 0 to 9 and a to f");
+    return is_value;
+}
+
+static bool no_more(char **words) {
+    if (*words)
+        fprintf(stderr, "dlm-shared: %s is a word too many: see dlm-shared --help\n", shown(*words));
+    return !*words;
+}
+
+/* Takes the word, if it comes next. */
+static bool takes_next(char ***words, const char *word) {
+    bool is_there = **words && strcmp(**words, word) == 0;
+    *words += is_there;
+    return is_there;
 }
 
 /* ---- commands ---- */
 
-/* Makes the command that the words after the host spell; MG_BAD_ARGUMENT where they spell none. */
-static int command(struct mg_host *host, int count, char **words, struct mg_answer *answer) {
-    uint8_t value[MG_VALUE_LENGTH] = {0};
-    uint64_t client, request, lock;
-    unsigned flags = 0, c, l;
-    bool gives = false;
-    int mode = count > 4 ? mode_of(words[4]) : MG_NONE;
-    const char *kind = words[0];
-    if (count < 4 || !number(words[1], 255, &client) || !number(words[2], UINT64_MAX, &request) || !number(words[3], 65535, &lock))
-        return MG_BAD_ARGUMENT;
-    c = (unsigned)client;
-    l = (unsigned)lock;
-    if (count > 5 && strcmp(words[count - 2], "value") == 0 && strcmp(kind, "enqueue") != 0) {
-        gives = value_of(words[count - 1], value);
-        if (!gives)
-            return MG_BAD_ARGUMENT;
-        count -= 2;
+enum kind { ENQUEUE, CONVERT, RELEASE, CANCEL, STATUS, PURGE, FORGET, KINDS };
+
+/* What comes in each after the client and the request: a number of this range, and more. */
+static const struct {
+    const char *word, *number;
+    uint64_t least, most;
+    bool has_mode, has_name, may_give;
+} WORDS_OF[KINDS] = {
+    {"enqueue", "LOCK", 1, 65535, true, true, false},    {"convert", "LOCK", 1, 65535, true, false, true},
+    {"release", "LOCK", 1, 65535, false, false, true},   {"cancel", "LOCK", 1, 65535, false, false, false},
+    {"status", "LOCK", 1, 65535, false, false, false},   {"purge", "HOST", 0, MG_HOSTS - 1, false, false, false},
+    {"forget", "FORGOTTEN", 0, 255, false, false, false},
+};
+
+struct command {
+    enum kind kind;
+    unsigned client, number, flags;
+    uint64_t request;
+    int mode;
+    const char *name;
+    bool gives;
+    uint8_t value[MG_VALUE_LENGTH];
+};
+
+/* Reads the words after the host, up to NULL. If they spell no command, it is said which is wrong. */
+static bool read_command(char **words, struct command *into) {
+    uint64_t client, number;
+    memset(into, 0, sizeof *into);
+    while (into->kind < KINDS && *words && strcmp(*words, WORDS_OF[into->kind].word) != 0)
+        into->kind++;
+    if (!*words || into->kind == KINDS) {
+        wrong("COMMAND", *words, "enqueue, convert, release, cancel, status, purge or forget");
+        return false;
     }
-    if (count > 5 && strcmp(words[count - 1], "noqueue") == 0 && !(strcmp(kind, "enqueue") == 0 && count == 6)) {
-        flags = MG_NO_QUEUE;
-        count--;
+    if (!number_of("CLIENT", *++words, 0, 255, &client) || !number_of("REQUEST", *++words, 1, LAST_REQUEST, &into->request) ||
+        !number_of(WORDS_OF[into->kind].number, *++words, WORDS_OF[into->kind].least, WORDS_OF[into->kind].most, &number))
+        return false;
+    into->client = (unsigned)client;
+    into->number = (unsigned)number;
+    if (WORDS_OF[into->kind].has_mode && !mode_of(*++words, &into->mode))
+        return false;
+    if (WORDS_OF[into->kind].has_name && !name_of(*++words, &into->name))
+        return false;
+    words++;
+    if (WORDS_OF[into->kind].has_mode && takes_next(&words, "noqueue"))
+        into->flags = MG_NO_QUEUE;
+    into->gives = WORDS_OF[into->kind].may_give && takes_next(&words, "value");
+    if (into->gives && !value_of(*words++, into->value))
+        return false;
+    return no_more(words);
+}
+
+static int submit_it(struct mg_host *host, const struct command *it, struct mg_answer *answer) {
+    switch (it->kind) {
+    case ENQUEUE: return mg_enqueue(host, it->client, it->request, it->number, it->mode, it->name, it->flags, answer);
+    case CONVERT:
+        if (it->gives)
+            return mg_convert_value(host, it->client, it->request, it->number, it->mode, it->flags, it->value, answer);
+        return mg_convert(host, it->client, it->request, it->number, it->mode, it->flags, answer);
+    case RELEASE:
+        if (it->gives)
+            return mg_release_value(host, it->client, it->request, it->number, it->value, answer);
+        return mg_release(host, it->client, it->request, it->number, answer);
+    case CANCEL: return mg_cancel(host, it->client, it->request, it->number, answer);
+    case STATUS: return mg_status(host, it->client, it->request, it->number, answer);
+    case PURGE: return mg_purge(host, it->client, it->request, it->number, answer);
+    default: return mg_forget(host, it->client, it->request, it->number, answer);
     }
-    if (strcmp(kind, "enqueue") == 0 && count == 6)
-        return mg_enqueue(host, c, request, l, mode, words[5], flags, answer);
-    if (strcmp(kind, "convert") == 0 && count == 5)
-        return gives ? mg_convert_value(host, c, request, l, mode, flags, value, answer) : mg_convert(host, c, request, l, mode, flags, answer);
-    if (count != 4 || flags != 0)
-        return MG_BAD_ARGUMENT;
-    if (strcmp(kind, "release") == 0)
-        return gives ? mg_release_value(host, c, request, l, value, answer) : mg_release(host, c, request, l, answer);
-    if (gives)
-        return MG_BAD_ARGUMENT;
-    if (strcmp(kind, "cancel") == 0)
-        return mg_cancel(host, c, request, l, answer);
-    if (strcmp(kind, "status") == 0)
-        return mg_status(host, c, request, l, answer);
-    if (strcmp(kind, "purge") == 0)
-        return mg_purge(host, c, request, l, answer);
-    return strcmp(kind, "forget") == 0 ? mg_forget(host, c, request, l, answer) : MG_BAD_ARGUMENT;
 }
 
 static const char *mode_text(int mode) { return mode >= MG_NL && mode <= MG_EX ? MODES[mode] : "-"; }
 
 /* The value of the lock's name as it is printed; "" where that is not shown. */
-static void show_value(struct mg_host *host, const char *word, char text[48]) {
+static void show_value(struct mg_host *host, unsigned lock, char text[48]) {
     static const uint8_t zeros[MG_VALUE_LENGTH];
     struct mg_value value;
-    uint64_t lock;
     text[0] = '\0';
-    if (!number(word, 65535, &lock) || mg_value(host, (unsigned)lock, &value) != MG_OK)
+    if (mg_value(host, lock, &value) != MG_OK)
         return;
     if ((value.flags & MG_VALID) && memcmp(value.bytes, zeros, sizeof zeros) == 0)
         return;
@@ -192,18 +269,14 @@ static int refuse_operation(int status, struct mg_host *host, const char *folder
 }
 
 /* One line, by one write. */
-static int submit(struct mg_host *host, const char *folder, unsigned number_of_host, int count, char **words) {
+static int submit(struct mg_host *host, const char *folder, unsigned number_of_host, const struct command *it) {
     static const char *const replies[] = {"", "", "Queued", "Released", "Cancelled"};
     struct mg_answer answer = {-1, MG_NO_REPLY, 0, MG_NONE, MG_NONE};
     char value[48], reply[128], line[160];
-    int length, status = command(host, count, words, &answer);
-    if (status == MG_BAD_ARGUMENT) {
-        fputs("dlm: bad command\n", stderr);
-        return WRONG;
-    }
+    int length, status = submit_it(host, it, &answer);
     if (answer.slot < 0)
         return refuse_operation(status, host, folder, number_of_host);
-    show_value(host, words[3], value);
+    show_value(host, it->number, value);
     if (answer.reply == MG_PURGED)
         snprintf(reply, sizeof reply, "Purged(%u)", (unsigned)answer.purged);
     else if (answer.reply == MG_STATE)
@@ -269,32 +342,34 @@ static int refuse_others(const char *folder) {
     return 0;
 }
 
-static int over_host(const char *task, const char *folder, const char *word, int count, char **words) {
+/* HOST, and the words of a command, or none. */
+static int over_host(const char *task, const char *folder, char **words) {
     struct mg_host *host;
+    struct command it;
     uint64_t n;
     int disk, result, status;
     bool submits = strcmp(task, "submit") == 0;
-    if (!number(word, MG_HOSTS - 1, &n) || (submits ? count < 1 : count != 0))
-        return usage();
+    if (!number_of("HOST", words[0], 0, MG_HOSTS - 1, &n) || !(submits ? read_command(words + 1, &it) : no_more(words + 1)))
+        return WRONG;
     if (refuse_others(folder) != 0)
         return REFUSED;
     status = mg_open(folder, (unsigned)n, &host, &disk);
     if (status != MG_OK)
         return refuse(status, folder, (unsigned)n, disk);
     if (submits)
-        result = submit(host, folder, (unsigned)n, count, words);
+        result = submit(host, folder, (unsigned)n, &it);
     else
         result = strcmp(task, "table") == 0 ? table(host, folder, (unsigned)n) : mark(host, folder, (unsigned)n);
     mg_close(host);
     return result;
 }
 
-static int take(const char *folder, const char *word) {
+static int take(const char *folder, char **words) {
     char machine[33];
     uint64_t n;
     int disk, status;
-    if (!number(word, MG_HOSTS - 1, &n))
-        return usage();
+    if (!number_of("HOST", words[0], 0, MG_HOSTS - 1, &n) || !no_more(words + 1))
+        return WRONG;
     if (refuse_others(folder) != 0)
         return REFUSED;
     status = mg_take_number(folder, (unsigned)n, &disk);
@@ -306,35 +381,75 @@ static int take(const char *folder, const char *word) {
     return ended();
 }
 
+/* What a set of devices is to be. */
+struct set {
+    uint64_t disks, slots, cluster, hosts, sector;
+    unsigned flags;
+};
+
 /* Takes a word off the end, if it stands there. */
-static bool takes(int *count, char **words, const char *word) {
+static bool takes_last(size_t *count, char **words, const char *word) {
     bool is_there = *count > 0 && strcmp(words[*count - 1], word) == 0;
     *count -= is_there;
+    if (is_there)
+        words[*count] = NULL;
     return is_there;
 }
 
-/* FOLDER DISKS [SLOTS] CLUSTER [HOSTS [SECTOR]]. Where more words follow, - stands for no slots. */
-static int format(int count, char **words) {
-    uint64_t disks, slots = 0, cluster, hosts = MG_HOSTS, sector = 0;
-    unsigned flags = 0;
-    int disk = -1, status, at;
-    flags |= takes(&count, words, "files") ? MG_FILES : 0;
-    flags |= takes(&count, words, "nodsync") ? MG_NO_DSYNC : 0;
-    at = count == 3 ? 2 : 3;
-    flags |= count == 3 || (count > 3 && strcmp(words[2], "-") == 0) ? MG_ENDLESS : 0;
-    if (count < 3 || count > 6 || !number(words[1], MG_DISKS, &disks) || (!(flags & MG_ENDLESS) && !number(words[2], MG_SLOTS, &slots)) ||
-        !number(words[at], UINT64_MAX, &cluster) || (count > 4 && !number(words[4], MG_HOSTS, &hosts)) ||
-        (count > 5 && !number(words[5], DEVICE_LONGEST_SECTOR, &sector)) || disks == 0)
-        return usage();
-    status = mg_format_shared(words[0], (unsigned)disks, (unsigned)slots, cluster, (unsigned)hosts, (unsigned)sector, flags, &disk);
-    if (status == MG_BAD_ARGUMENT)
-        return disk >= 0 ? decline("format", mg_cause()) : usage();
+static bool sector_of(const char *word, uint64_t *into) {
+    if (number(word, DEVICE_LONGEST_SECTOR, into) && *into >= DEVICE_LONGEST_SECTOR / 8 && (*into & (*into - 1)) == 0)
+        return true;
+    wrong("SECTOR", word, "512, 1024, 2048 or 4096");
+    return false;
+}
+
+/* The slots of a log that ends, and - for one without an end. */
+static bool slots_of(const char *word, struct set *into) {
+    if (strcmp(word, "-") == 0)
+        into->flags |= MG_ENDLESS;
+    else if (!number(word, MG_SLOTS, &into->slots) || into->slots == 0) {
+        wrong("SLOTS", word, "1 to 4096, or - for a log without an end");
+        return false;
+    }
+    return true;
+}
+
+/* Reads DISKS [SLOTS] CLUSTER [HOSTS [SECTOR]] [nodsync] [files], up to NULL. Where one word follows DISKS it is CLUSTER. */
+static bool read_set(char **words, struct set *into) {
+    size_t count = 0;
+    memset(into, 0, sizeof *into);
+    into->hosts = MG_HOSTS;
+    while (words[count])
+        count++;
+    into->flags |= takes_last(&count, words, "files") ? MG_FILES : 0;
+    into->flags |= takes_last(&count, words, "nodsync") ? MG_NO_DSYNC : 0;
+    into->flags |= count < 3 ? MG_ENDLESS : 0;
+    if (!number_of("DISKS", words[0], 1, MG_DISKS, &into->disks) || (count > 2 && !slots_of(words[1], into)))
+        return false;
+    words += count > 2 ? 2 : 1;
+    if (!number_of("CLUSTER", *words++, 0, UINT64_MAX, &into->cluster))
+        return false;
+    if (*words && !number_of("HOSTS", *words++, 1, MG_HOSTS, &into->hosts))
+        return false;
+    if (*words && !sector_of(*words++, &into->sector))
+        return false;
+    return no_more(words);
+}
+
+static int format(const char *folder, char **words) {
+    struct set set;
+    int disk = -1, status;
+    if (!read_set(words, &set))
+        return WRONG;
+    status = mg_format_shared(folder, (unsigned)set.disks, (unsigned)set.slots, set.cluster, (unsigned)set.hosts, (unsigned)set.sector, set.flags, &disk);
+    if (status == MG_BAD_ARGUMENT && disk >= 0)
+        return decline("format", mg_cause());
     if (status != MG_OK)
-        return refuse(status, words[0], 0, disk);
-    if (flags & MG_ENDLESS)
-        printf("formatted %u disks, %u slots an epoch\n", (unsigned)disks, MG_EPOCH_SLOTS);
+        return refuse(status, folder, 0, disk);
+    if (set.flags & MG_ENDLESS)
+        printf("formatted %u disks, %u slots an epoch\n", (unsigned)set.disks, MG_EPOCH_SLOTS);
     else
-        printf("formatted %u disks, %u slots\n", (unsigned)disks, (unsigned)slots);
+        printf("formatted %u disks, %u slots\n", (unsigned)set.disks, (unsigned)set.slots);
     return ended();
 }
 
@@ -462,22 +577,21 @@ static int check(const char *folder) {
     return result;
 }
 
-int main(int count, char **words) {
-    const char *task = count > 1 ? words[1] : "";
-    if (strcmp(task, "format") == 0)
-        return format(count - 2, words + 2);
-    if ((strcmp(task, "submit") == 0 || strcmp(task, "table") == 0 || strcmp(task, "mark") == 0) && count > 3)
-        return over_host(task, words[2], words[3], count - 4, words + 4);
-    if (strcmp(task, "check") == 0 && count == 3)
-        return check(words[2]);
-    if (strcmp(task, "export") == 0 && count == 4)
-        return export_images(words[2], words[3]);
-    if (strcmp(task, "take") == 0 && count == 4)
-        return take(words[2], words[3]);
+/* What dlm does, and nothing does over such devices: why. NULL: it is another word. */
+static const char *why_declined(const char *task) {
     if (strcmp(task, "fill") == 0 || strcmp(task, "renew") == 0)
-        return decline(task, "a log on shared devices is not renewed: nothing puts a table onto such devices. One without an end needs no renewal");
+        return "a log on shared devices is not renewed: nothing puts a table onto such devices. One without an end needs no renewal";
     if (strcmp(task, "migrate") == 0)
-        return decline(task, "dlm moves images to images for the processes of one machine, and to no shared devices");
+        return "dlm moves images to images for the processes of one machine, and to no shared devices";
+    if (strcmp(task, "replace") == 0)
+        return "the header of a shared device has no first epoch: a lost one stays lost";
+    return NULL;
+}
+
+int main(int count, char **words) {
+    static const char *const TASKS = "format, submit, table, mark, check, export or take";
+    const char *task = count > 1 ? words[1] : NULL, *folder = count > 2 ? words[2] : NULL;
+    bool is_over_host, is_task;
     if (count == 2 && (strcmp(task, "-h") == 0 || strcmp(task, "--help") == 0)) {
         help();
         return ended();
@@ -486,5 +600,25 @@ int main(int count, char **words) {
         printf("dlm-shared of midgegalena %s\n", mg_version());
         return ended();
     }
-    return usage();
+    if (!task)
+        return wrong("WORD", task, TASKS);
+    if (why_declined(task))
+        return decline(task, why_declined(task));
+    is_over_host = strcmp(task, "submit") == 0 || strcmp(task, "table") == 0 || strcmp(task, "mark") == 0;
+    is_task = is_over_host || strcmp(task, "format") == 0 || strcmp(task, "check") == 0 || strcmp(task, "export") == 0 || strcmp(task, "take") == 0;
+    if (!is_task)
+        return wrong("WORD", task, TASKS);
+    if (!folder)
+        return wrong("FOLDER", folder, "a folder with links disk0.img to disk6.img");
+    if (is_over_host)
+        return over_host(task, folder, words + 3);
+    if (strcmp(task, "format") == 0)
+        return format(folder, words + 3);
+    if (strcmp(task, "take") == 0)
+        return take(folder, words + 3);
+    if (strcmp(task, "check") == 0)
+        return no_more(words + 3) ? check(folder) : WRONG;
+    if (!words[3])
+        return wrong("INTO", words[3], "a folder that has no images");
+    return no_more(words + 4) ? export_images(folder, words[3]) : WRONG;
 }

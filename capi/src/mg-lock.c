@@ -414,6 +414,7 @@ static void help_for_dlm(void) {
           "  dlm check FOLDER\n"
           "  dlm migrate FOLDER\n"
           "  dlm migrate OLD NEW SLOTS\n"
+          "  dlm replace FOLDER DISK\n"
           "  dlm fill FOLDER HOST\n"
           "  dlm renew OLD HOST NEW DISKS SLOTS CLUSTER [CLIENT]...\n"
           "  dlm run SCRIPT\n"
@@ -428,6 +429,13 @@ static void help_for_dlm(void) {
 static int refuse(const char *what, const char *given) {
     say("%s%s%s", what, given ? ": " : "", given ? given : "");
     return FAILED;
+}
+
+/* By the disk that is at fault, if the cause does not name it. */
+static int refuse_folder(int status, int disk) {
+    char image[16];
+    snprintf(image, sizeof image, "disk%d", disk);
+    return refuse(told(status), disk < 0 || mg_cause()[0] ? NULL : image);
 }
 
 static bool number(const char *text, long least, long most, int *into) {
@@ -604,7 +612,7 @@ static bool print(const char *text, size_t length) {
 
 /* Prints nothing before all of it is there. */
 static int show(void) {
-    char image[16], *text = NULL;
+    char *text = NULL;
     size_t length = 0;
     FILE *out = open_memstream(&text, &length);
     int disk, status;
@@ -612,9 +620,8 @@ static int show(void) {
     if (!out)
         return refuse("it could not be printed", strerror(errno));
     status = show_status(asked.folder, asked.form, out, &disk);
-    snprintf(image, sizeof image, "disk%d", disk);
     if (status != MG_OK)
-        (void)refuse(told(status), disk < 0 ? NULL : image);
+        (void)refuse_folder(status, disk);
     is_whole = !ferror(out);
     is_whole &= fclose(out) == 0;
     if (!is_whole || !print(text, length))
@@ -803,13 +810,13 @@ static int release_it(struct mg_session *session) {
 
 static int give(const char *text) {
     struct mg_session *session;
-    int status;
+    int disk, status;
     if (!read_lock(text))
         return refuse("no lock that --take printed", text);
-    status = mg_begin(asked.folder, asked.host, MG_SHARE, &session, NULL);
+    status = mg_begin(asked.folder, asked.host, MG_SHARE, &session, &disk);
     cause = errno;
     if (status != MG_OK)
-        return refuse(told(status), NULL);
+        return refuse_folder(status, disk);
     status = release_it(session);
     mg_end(session);
     return status;
@@ -860,7 +867,7 @@ static int take_and_run(struct mg_session *session, const sigset_t *before) {
 int main(int argc, char **argv) {
     struct mg_session *session;
     sigset_t before;
-    int status = read_arguments(argc, argv);
+    int disk, status = read_arguments(argc, argv);
     asked.words = argv;
     if (status != 0)
         return status < 0 ? 0 : status;
@@ -870,10 +877,10 @@ int main(int argc, char **argv) {
     block_signals(&before);
     if (asked.gives)
         return give_all();
-    status = mg_begin(asked.folder, asked.host, MG_SHARE, &session, NULL);
+    status = mg_begin(asked.folder, asked.host, MG_SHARE, &session, &disk);
     cause = errno;
     if (status != MG_OK)
-        return refuse(told(status), NULL);
+        return refuse_folder(status, disk);
     (void)mg_set_interval(session, asked.interval);
     (void)mg_set_rest(session, rest, session);
     status = asked.recovers ? recover(session) : take_and_run(session, &before);

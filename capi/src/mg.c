@@ -31,7 +31,7 @@ enum { LONGEST = 100, ROOM = OPTIONS + 16 }; /* bytes of a word that is shown; w
 /* What is asked for. */
 static struct {
     const struct word *word;
-    const char *taken[2]; /* FOLDER and NAME, or SCRIPT */
+    const char *taken[2]; /* FOLDER, and NAME or DISK; or SCRIPT */
     size_t count;
     const char *given[OPTIONS]; /* the value of each option, "" of a flag; NULL: not given */
     char **rest;                /* COMMAND, or NULL */
@@ -253,6 +253,13 @@ static void see_name(const char *name) {
         wrong("NAME is %s: 1 to 15 bytes from 0x21 to 0x7E, no blank", shown(name));
 }
 
+static void see_disk(const char *disk) {
+    uint64_t number;
+    const char *end = digits(disk, MG_DISKS - 1, &number);
+    if (!end || *end != '\0')
+        wrong("DISK is %s: 0 to %d", shown(disk), MG_DISKS - 1);
+}
+
 /* Sees whether all is there. */
 static void see_whole(bool is_parted) {
     const struct word *word = asked.word;
@@ -267,6 +274,8 @@ static void see_whole(bool is_parted) {
     see_one_of(word->one_of[1]);
     if (is_of_lock())
         see_name(asked.taken[1]);
+    if (word == &ALL_WORDS[W_REPLACE])
+        see_disk(asked.taken[1]);
 }
 
 /* Shows the help of one word, or of all. */
@@ -321,6 +330,13 @@ static void add_folder(const char *folder) {
         refuse("FOLDER is %s: no memory", shown(folder));
     sprintf(safe, "./%s", folder);
     add(safe);
+}
+
+/* FOLDER or SCRIPT, and DISK. */
+static void add_taken(void) {
+    add_folder(asked.taken[0]);
+    if (asked.taken[1])
+        add(asked.taken[1]);
 }
 
 static void add_given(const struct option_of *option) {
@@ -396,15 +412,10 @@ static void find_host(void) {
 /* A cluster number of 1 to 2^40, so that there are greater ones for renewals. */
 static void find_cluster(void) {
     static char text[24];
-    char line[48];
     uint64_t number;
-    if (asked.given[O_CLUSTER])
-        return;
     if (getrandom(&number, sizeof number, 0) != (ssize_t)sizeof number)
         refuse("--cluster is missing, and no number could be chosen: %s", reason(errno, "file"));
     snprintf(text, sizeof text, "%" PRIu64, 1 + number % ((uint64_t)1 << 40));
-    snprintf(line, sizeof line, "cluster %s\n", text);
-    print(line);
     asked.given[O_CLUSTER] = text;
 }
 
@@ -452,7 +463,7 @@ static void see_room(void) {
 }
 
 /* dlm has no --json, and the same tasks by words of its own. It is beside this program, or on the path. */
-__attribute__((noreturn)) static void become_dlm(void) {
+static void begin_dlm(void) {
     bool creates = asked.word == &ALL_WORDS[W_CREATE];
     if (asked.given[O_JSON])
         refuse("--json is by mg-folder, which is not installed");
@@ -460,7 +471,7 @@ __attribute__((noreturn)) static void become_dlm(void) {
     if (access(words[0], F_OK) != 0)
         words[0] = strrchr(words[0], '/') + 1;
     add(creates ? "format" : asked.word->name);
-    add_folder(asked.taken[0]);
+    add_taken();
     if (creates) {
         add(asked.given[O_DISKS] ? asked.given[O_DISKS] : "3");
         if (asked.given[O_SLOTS])
@@ -470,18 +481,23 @@ __attribute__((noreturn)) static void become_dlm(void) {
     if (asked.given[O_HOST])
         add(asked.given[O_HOST]);
     add_rest();
-    become_it();
 }
 
-__attribute__((noreturn)) static void become_folder(void) {
+static void begin_folder(void) {
     begin_words("mg-folder", true);
-    if (access(words[0], F_OK) != 0)
-        become_dlm();
+    if (access(words[0], F_OK) != 0) {
+        begin_dlm();
+        return;
+    }
     add(asked.word->name);
-    add_folder(asked.taken[0]);
+    add_taken();
     for (const struct option_of *option = asked.word->options; option->name; option++)
         add_given(option);
     add_rest();
+}
+
+__attribute__((noreturn)) static void become_folder(void) {
+    begin_folder();
     become_it();
 }
 
@@ -573,6 +589,22 @@ static int run_and_read(char *text, size_t room, bool with_errors) {
     return WIFEXITED(status) ? WEXITSTATUS(status) : LOCK_FAILED;
 }
 
+/* Makes images of a cluster whose number was chosen here, and then says the number: where they are not made nothing is printed. */
+static int create_numbered(void) {
+    static char made[256], text[256 + 48];
+    int status;
+    find_cluster();
+    begin_folder();
+    if (asked.given[O_JSON]) /* the number is in the object */
+        become_it();
+    status = run_and_read(made, sizeof made, false);
+    if (status != 0)
+        return status;
+    snprintf(text, sizeof text, "cluster %s\n%s", asked.given[O_CLUSTER], made);
+    print(text);
+    return 0;
+}
+
 /* How many locks of a host were released; a line says so if it is some. Ends where mg-lock fails. */
 static unsigned recover_host(unsigned host) {
     char text[64], line[64];
@@ -650,7 +682,10 @@ static int carry_out(void) {
             return recover_all();
         begin_recovery(asked.given[O_HOST]);
         become_it();
-    case W_CREATE: find_cluster(); become_folder();
+    case W_CREATE:
+        if (!asked.given[O_CLUSTER])
+            return create_numbered();
+        become_folder();
     case W_SUBMIT:
     case W_TABLE:
     case W_MARK:

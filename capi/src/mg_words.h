@@ -43,6 +43,7 @@ enum word_name {
     W_MARK,
     W_CHECK,
     W_MIGRATE,
+    W_REPLACE,
     W_RUN,
     W_SWEEP,
     WORDS
@@ -78,17 +79,19 @@ static const struct word ALL_WORDS[WORDS] = {
         .options =
             {{"cluster", O_CLUSTER, 0, NUMBER, 0u, 18446744073709551615ull, "0 to 18446744073709551615"},
              {"disks", O_DISKS, 0, NUMBER, 1u, 7u, "1 to 7"},
-             {"slots", O_SLOTS, 0, NUMBER, 1u, 4096u, "1 to 4096"}},
+             {"slots", O_SLOTS, 0, NUMBER, 1u, 4096u, "1 to 4096"},
+             {"json", O_JSON, 0, FLAG, 0u, 0u, ""}},
         .one_of = {{OPTIONS, OPTIONS, OPTIONS}, {OPTIONS, OPTIONS, OPTIONS}},
-        .usage = "mg create FOLDER [--cluster N] [--disks N] [--slots N]",
+        .usage = "mg create FOLDER [OPTION]..",
         .help =
-        "usage: mg create FOLDER [--cluster N] [--disks N] [--slots N]\n"
+        "usage: mg create FOLDER [OPTION]..\n"
         "Makes FOLDER if it is not there, and in it the images of a new log. It never writes over images\n"
         "that are there.\n"
         "\n"
         "  --cluster N  another number for each folder; without it one at random\n"
         "  --disks N    how many images; 3 without it\n"
         "  --slots N    the log ends after so many commands; without it, it has no end\n"
+        "  --json       for programs: one object\n"
         "\n"
         "Examples:\n"
         "  mg create images\n"
@@ -252,18 +255,16 @@ static const struct word ALL_WORDS[WORDS] = {
         .is_followed = true,
         .needs_more = true,
         .options =
-            {{"host", O_HOST, 0, NUMBER, 0u, 15u, "0 to 15"},
-             {"json", O_JSON, 0, FLAG, 0u, 0u, ""}},
+            {{"host", O_HOST, 0, NUMBER, 0u, 15u, "0 to 15"}},
         .one_of = {{OPTIONS, OPTIONS, OPTIONS}, {OPTIONS, OPTIONS, OPTIONS}},
-        .usage = "mg submit FOLDER [--host N] [--json] COMMAND..",
+        .usage = "mg submit FOLDER [--host N] COMMAND..",
         .help =
-        "usage: mg submit FOLDER [--host N] [--json] COMMAND..\n"
+        "usage: mg submit FOLDER [--host N] COMMAND..\n"
         "Puts COMMAND into the log, and prints its place and the reply of the lock table. The client, its\n"
         "request and the lock are numbers that you choose. A request counts once: each new one needs a\n"
         "greater number than the client's last.\n"
         "\n"
         "  --host N  the host number; without it mg chooses one\n"
-        "  --json    for programs: an object a line\n"
         "\n"
         "COMMAND is one of these:\n"
         "  enqueue CLIENT REQUEST LOCK MODE NAME [noqueue]\n"
@@ -283,16 +284,14 @@ static const struct word ALL_WORDS[WORDS] = {
         .is_followed = false,
         .needs_more = false,
         .options =
-            {{"host", O_HOST, 0, NUMBER, 0u, 15u, "0 to 15"},
-             {"json", O_JSON, 0, FLAG, 0u, 0u, ""}},
+            {{"host", O_HOST, 0, NUMBER, 0u, 15u, "0 to 15"}},
         .one_of = {{OPTIONS, OPTIONS, OPTIONS}, {OPTIONS, OPTIONS, OPTIONS}},
-        .usage = "mg table FOLDER [--host N] [--json]",
+        .usage = "mg table FOLDER [--host N]",
         .help =
-        "usage: mg table FOLDER [--host N] [--json]\n"
+        "usage: mg table FOLDER [--host N]\n"
         "Learns the whole log, and prints the locks of each name.\n"
         "\n"
         "  --host N  the host number; without it mg chooses one\n"
-        "  --json    for programs: an object a line\n"
         "\n"
         "Example:\n"
         "  mg table images\n",
@@ -303,17 +302,15 @@ static const struct word ALL_WORDS[WORDS] = {
         .is_followed = false,
         .needs_more = false,
         .options =
-            {{"host", O_HOST, 0, NUMBER, 0u, 15u, "0 to 15"},
-             {"json", O_JSON, 0, FLAG, 0u, 0u, ""}},
+            {{"host", O_HOST, 0, NUMBER, 0u, 15u, "0 to 15"}},
         .one_of = {{OPTIONS, OPTIONS, OPTIONS}, {OPTIONS, OPTIONS, OPTIONS}},
-        .usage = "mg mark FOLDER [--host N] [--json]",
+        .usage = "mg mark FOLDER [--host N]",
         .help =
-        "usage: mg mark FOLDER [--host N] [--json]\n"
+        "usage: mg mark FOLDER [--host N]\n"
         "Learns the whole log, and marks each command that has no mark, so that looks pass it. Run it\n"
         "after a crash.\n"
         "\n"
         "  --host N  the host number; without it mg chooses one\n"
-        "  --json    for programs: an object a line\n"
         "\n"
         "Example:\n"
         "  mg mark images\n",
@@ -332,7 +329,7 @@ static const struct word ALL_WORDS[WORDS] = {
         "Reads all images to their ends, and prints a line for whatever is wrong, or sound. It writes\n"
         "nothing.\n"
         "\n"
-        "  --json  for programs: an object a line\n"
+        "  --json  for programs: one object\n"
         "\n"
         "Example:\n"
         "  mg check images\n",
@@ -351,10 +348,30 @@ static const struct word ALL_WORDS[WORDS] = {
         "Makes the log of FOLDER one without an end, in its own images. Stop every host of the folder\n"
         "before, and copy the images: there is no way back.\n"
         "\n"
-        "  --json  for programs: an object a line\n"
+        "  --json  for programs: one object\n"
         "\n"
         "Example:\n"
         "  mg migrate images\n",
+    },
+    [W_REPLACE] = {
+        .name = "replace",
+        .takes = {"FOLDER", "DISK"},
+        .is_followed = false,
+        .needs_more = false,
+        .options =
+            {{"json", O_JSON, 0, FLAG, 0u, 0u, ""}},
+        .one_of = {{OPTIONS, OPTIONS, OPTIONS}, {OPTIONS, OPTIONS, OPTIONS}},
+        .usage = "mg replace FOLDER DISK [--json]",
+        .help =
+        "usage: mg replace FOLDER DISK [--json]\n"
+        "Makes a new image of number DISK, 0 to 6, in the place of a lost one, in a log without an end.\n"
+        "End every process that has FOLDER open before, and move away what has the name of the image.\n"
+        "Until the epoch that it prints the new image counts as lost.\n"
+        "\n"
+        "  --json  for programs: one object\n"
+        "\n"
+        "Example:\n"
+        "  mg replace images 1\n",
     },
     [W_RUN] = {
         .name = "run",
@@ -392,20 +409,21 @@ static const char SHORT_HELP[] =
         "usage: mg WORD ..\n"
         "Locks for programs that share disks: a folder of images, no network, no daemon.\n"
         "\n"
-        "  mg create FOLDER     make the images of a folder\n"
-        "  mg lock FOLDER NAME  run a command under a lock\n"
-        "  mg take FOLDER NAME  take a lock that stays when mg ends\n"
-        "  mg give FOLDER NAME  give back what mg take took\n"
-        "  mg status FOLDER     show slots, disks and locks\n"
-        "  mg watch FOLDER      show the status again and again\n"
-        "  mg recover FOLDER    release what killed processes left\n"
-        "  mg submit FOLDER     put a command into the log\n"
-        "  mg table FOLDER      show the lock table\n"
-        "  mg mark FOLDER       mark what has no mark\n"
-        "  mg check FOLDER      look for damage in the images\n"
-        "  mg migrate FOLDER    make a log that ends endless\n"
-        "  mg run SCRIPT        run a script over disks in memory\n"
-        "  mg sweep SCRIPT      run a script with each single fault\n"
+        "  mg create FOLDER        make the images of a folder\n"
+        "  mg lock FOLDER NAME     run a command under a lock\n"
+        "  mg take FOLDER NAME     take a lock that stays when mg ends\n"
+        "  mg give FOLDER NAME     give back what mg take took\n"
+        "  mg status FOLDER        show slots, disks and locks\n"
+        "  mg watch FOLDER         show the status again and again\n"
+        "  mg recover FOLDER       release what killed processes left\n"
+        "  mg submit FOLDER        put a command into the log\n"
+        "  mg table FOLDER         show the lock table\n"
+        "  mg mark FOLDER          mark what has no mark\n"
+        "  mg check FOLDER         look for damage in the images\n"
+        "  mg migrate FOLDER       make a log that ends endless\n"
+        "  mg replace FOLDER DISK  make a new image in the place of a lost one\n"
+        "  mg run SCRIPT           run a script over disks in memory\n"
+        "  mg sweep SCRIPT         run a script with each single fault\n"
         "\n"
         "Two lines to begin with:\n"
         "  mg create images\n"
@@ -414,6 +432,6 @@ static const char SHORT_HELP[] =
         "mg help WORD has the options, and an example. man mg says more. mg --version shows the version.\n";
 
 static const char NAMES_OF_WORDS[] =
-        "create, lock, take, give, status, watch, recover, submit, table, mark, check, migrate, run, sweep, help";
+        "create, lock, take, give, status, watch, recover, submit, table, mark, check, migrate, replace, run, sweep, help";
 
 #endif

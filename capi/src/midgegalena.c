@@ -129,7 +129,7 @@ struct epochs_view {
     uint32_t slots;
     uint32_t is_in_epoch;
     uint32_t has_table;
-    uint32_t unused;
+    uint32_t away[MG_DISKS];
 };
 
 /* The sizes of the structs there. That each field lies where it does there is tried by tests/calls.c and tests/endless.c. */
@@ -139,12 +139,12 @@ typedef char sizes_are_as_there[sizeof(struct handle) == 16 && sizeof(struct req
                                         sizeof(struct written) == 128 && sizeof(struct row) == 4096 && sizeof(struct told_answer) == 16 &&
                                         sizeof(struct answer) == 24 && sizeof(struct mg_value) == 20 && sizeof(struct mg_lock_view) == 36 &&
                                         sizeof(struct mg_client_view) == 24 && sizeof(struct mg_host_view) == 32 && sizeof(struct epoch_handle) == 16 &&
-                                        sizeof(struct written_block) == 256 && sizeof(struct placed_answer) == 40 && sizeof(struct epochs_view) == 56
+                                        sizeof(struct written_block) == 256 && sizeof(struct placed_answer) == 40 && sizeof(struct epochs_view) == 80
                                     ? 1
                                     : -1];
 
 enum { ENQUEUE = 1, CONVERT = 2, RELEASE = 3, CANCEL = 4, STATUS = 5, PURGE = 6, FORGET = 7 };
-enum { ATTACH = 1, SYNC = 2, READ = 3, WRITE = 4 };
+enum { ATTACH = 1, SYNC = 2, READ = 3, WRITE = 4, AWAY = 5 };
 enum { DONE = 0, RESET = 1, FAILED = 2 };
 enum { NOTHING_DUE = -5, NO_TABLE = -10, HAS_AN_END = -11 };
 enum { NOT_LEARNED = 30 }; /* of crates/attempt: of a marking, that place is of no epoch where the host is; of a look, marks do not tell the table */
@@ -224,6 +224,7 @@ static const struct meaning MEANINGS[] = {
     {MG_BUSY, "", "a call of the session is under way; what mg_set_rest has it call may not use it, and nothing was done"},
     {MG_IN_DOUBT, "", "it is not known whether the lock stays in the table; the session keeps it, and releases it later"},
     {MG_NO_TABLE, "", "the host does not know the lock table now; a look, or mg_refresh, learns it"},
+    {MG_NOT_YET, "", "the disk takes part from a later epoch on; until then it counts as lost"},
     {MG_OUTRUN, "Outrun", "another host's greater ballot was read at the last try; ask again, with the same request number"},
     {MG_NO_MAJORITY, "NoMajority",
      "no majority of the disks answers; bring them back, and ask again, with the same request number"},
@@ -394,21 +395,22 @@ struct mg_host {
     int faults[MG_DISKS]; /* MG_OK, or why the image is not used, or that a call on it failed */
     struct mg_image_view images[MG_DISKS];
     int errors[MG_DISKS]; /* errno, where an image could not be opened or read */
-    struct stat facts[MG_DISKS];          /* of the files, when they were opened */
+    bool is_unfit[MG_DISKS]; /* it has the first bytes of a device of several machines, and is used as none */
+    struct stat facts[MG_DISKS];          /* of the files, when they were opened or could not be */
     uint8_t first[MG_DISKS][FIRST_BYTES]; /* of a block device, its header's numbers among them */
 };
 
 static bool is_shared(const struct mg_host *host, unsigned disk) { return host->how[disk].sector_size != 0; }
 
 /* Makes the device call that is due, and says what it was answered. An attach is hardly ever told: the library answers the first of them itself, since every
- * file tells boot number 1. */
+ * file tells boot number 1. AWAY is none: the disk takes no part yet, and the library listens to no answer. */
 static uint32_t make_call(struct mg_host *host) {
     const struct due_call *call = &host->call;
     const uint8_t *bytes = host->is_endless ? host->written_block.bytes : host->written.bytes;
     size_t room = host->is_endless ? sizeof host->written_block : sizeof host->written;
     int *file = call->disk < MG_DISKS ? &host->files[call->disk] : NULL;
     bool done = false;
-    if (call->kind == ATTACH)
+    if (call->kind == ATTACH || call->kind == AWAY)
         return DONE;
     if (call->boot != BOOT)
         return RESET;
@@ -455,6 +457,7 @@ struct facts {
     bool is_in_epoch;
     uint64_t epoch;
     uint64_t taken; /* slots of it whose commands are learned */
+    bool is_away[MG_DISKS]; /* the disk takes no part yet in this epoch */
 };
 
 static int32_t open_handle(struct mg_host *host, const struct images *images, unsigned number, enum way way, struct opened *told, int32_t *disk) {
@@ -543,6 +546,8 @@ static int facts_of_epochs(struct mg_host *host, struct facts *into) {
     into->is_in_epoch = view.is_in_epoch == 1;
     into->epoch = view.epoch;
     into->taken = view.taken;
+    for (unsigned k = 0; k < MG_DISKS; k++)
+        into->is_away[k] = view.away[k] == 1;
     return status;
 }
 
@@ -660,7 +665,9 @@ static bool find_shared(struct mg_host *host, unsigned disk, const char *path, i
     struct header shown;
     int file = open_file(path, flags | O_DIRECT | O_DSYNC);
     bool is_found = file != NO_FILE && device_find(file, disk, host->room, &how, &shown);
-    if (file != NO_FILE && !is_found)
+    if (file == NO_FILE)
+        host->errors[disk] = errno;
+    else if (!is_found)
         find_other(host, disk, file);
     if (file != NO_FILE && !(is_found && how.dsync)) {
         close(file);
@@ -689,7 +696,11 @@ static bool find_image(struct mg_host *host, const char *folder, unsigned disk, 
         return false;
     errno = 0;
     *file = open_file(path, flags);
-    if (*file != NO_FILE && fstat(*file, &facts) == 0) {
+    if (*file == NO_FILE) {
+        int error = errno;
+        (void)stat(path, &host->facts[disk]);
+        errno = error;
+    } else if (fstat(*file, &facts) == 0) {
         off_t size = S_ISBLK(facts.st_mode) ? lseek(*file, 0, SEEK_END) : facts.st_size;
         host->facts[disk] = facts;
         if (size >= 0) {
@@ -700,8 +711,7 @@ static bool find_image(struct mg_host *host, const char *folder, unsigned disk, 
             image->is_read = image->is_device && find_shared(host, disk, path, flags, image);
             if (!image->is_read && read_settled(*file, image->bytes, size < HEADER_LENGTH ? (size_t)size : HEADER_LENGTH, 0)) {
                 image->is_read = 1;
-                if (!image->is_device && device_version(image->bytes[1]))
-                    (void)find_shared(host, disk, path, flags, image);
+                host->is_unfit[disk] = device_version(image->bytes[1]) && (image->is_device || !find_shared(host, disk, path, flags, image));
             }
         }
     }
@@ -776,6 +786,10 @@ static void say_why_not(const struct mg_host *host, unsigned disk) {
         because("disk%u.img: %s", disk, strerror(host->errors[disk] ? host->errors[disk] : EIO));
     else if (image->other >= 0)
         because("disk%u.img is formatted as disk %d", disk, (int)image->other);
+    else if (host->is_unfit[disk] && host->errors[disk])
+        because("disk%u.img cannot be opened past this machine's cache: %s", disk, strerror(host->errors[disk]));
+    else if (host->is_unfit[disk])
+        because("disk%u.img has the header of a device of several machines, and is damaged or too short for that", disk);
     else if (host->files[disk] != NO_FILE)
         because("disk%u.img is read only", disk);
     else
@@ -817,7 +831,7 @@ static int open_host(struct mg_host *host, struct images *images, const char *fo
         if (!find_image(host, folder, k, way == WORKS || way == TAKES ? O_RDWR : O_RDONLY, &images->all[k]))
             return MG_NO_MEMORY;
     status = open_handle(host, images, number, way, &told, disk);
-    if (status != 0 && *disk >= 0 && *disk < MG_DISKS && (status == MG_UNREADABLE || host->images[*disk].other >= 0))
+    if (status != 0 && *disk >= 0 && *disk < MG_DISKS && (status == MG_UNREADABLE || host->images[*disk].other >= 0 || host->is_unfit[*disk]))
         say_why_not(host, (unsigned)*disk);
     else if (status == MG_WRONG_HEADER && *disk >= 0 && *disk < MG_DISKS && is_shared(host, (unsigned)*disk))
         because("disk%d.img is of another set than an image before it", (int)*disk);
@@ -901,15 +915,15 @@ static bool is_image_at(const struct mg_host *host, unsigned disk, const struct 
     return is_shared(host, disk) || !read_whole(host->files[disk], first, sizeof first, 0) || memcmp(first, host->first[disk], sizeof first) == 0;
 }
 
-/* Whether the images that are open are the folder's: the first one that is found there tells. */
+/* Whether each image that is found in the folder is the one that was there as it was opened: a lost one may have been replaced. */
 bool has_images_of(const struct mg_host *host, const char *folder) {
-    for (unsigned k = 0; k < MG_DISKS; k++) {
+    for (unsigned k = 0; k < host->disks; k++) {
         struct stat there;
-        char *path = host->files[k] != NO_FILE ? path_of(folder, "disk", (int)k, ".img") : NULL;
+        char *path = path_of(folder, "disk", (int)k, ".img");
         bool is_found = path && stat(path, &there) == 0;
         free(path);
-        if (is_found)
-            return is_image_at(host, k, &there);
+        if (is_found && !is_image_at(host, k, &there))
+            return false;
     }
     return true;
 }
@@ -1644,11 +1658,14 @@ static int count_disks(struct mg_host *host, const void *into, size_t room, size
 }
 
 int mg_disks(struct mg_host *host, struct mg_disk_view *into, size_t room, size_t *count) {
+    struct facts facts;
     unsigned shown;
     int status = count_disks(host, into, room, count, &shown);
+    if (shown > 0)
+        (void)facts_of(host, &facts);
     for (unsigned k = 0; k < shown; k++) {
         into[k].disk = k;
-        into[k].status = host->faults[k];
+        into[k].status = host->faults[k] == MG_OK && facts.is_away[k] ? MG_NOT_YET : host->faults[k];
     }
     return status;
 }

@@ -222,7 +222,9 @@ static void print_disks(FILE *out, const struct status *status) {
     else
         fprintf(out, "%zu more may fail\n", spare(status));
     for (size_t i = 0; i < status->facts.disks; i++) {
-        if (status->disks[i].status != MG_OK)
+        if (status->disks[i].status == MG_NOT_YET)
+            fprintf(out, "  disk%zu takes part from a later epoch on", i);
+        else if (status->disks[i].status != MG_OK)
             fprintf(out, "  disk%zu %d %s", i, (int)status->disks[i].status, mg_name(status->disks[i].status));
         else if (status->images[i].read_only)
             fprintf(out, "  disk%zu is read only", i);
@@ -294,13 +296,16 @@ static void put_text(FILE *out, const char *text) {
     fputc('"', out);
 }
 
+/* mg_name has the names of refusals that dlm prints. */
+static const char *name_of(int refusal) { return refusal == MG_NOT_YET ? "NotYet" : mg_name(refusal); }
+
 static void put_refusal(FILE *out, int status) {
     if (status == MG_OK) {
         fputs("null", out);
         return;
     }
     fprintf(out, "{\"number\": %d, \"name\": ", status);
-    put_text(out, mg_name(status));
+    put_text(out, name_of(status));
     fputc('}', out);
 }
 
@@ -420,7 +425,7 @@ static void add_number(FILE *out, const char *label, int number) { fprintf(out, 
 
 static void add_refusal(FILE *out, int refusal) {
     add_number(out, "number", refusal);
-    add_label(out, "name", mg_name(refusal));
+    add_label(out, "name", name_of(refusal));
 }
 
 /* All samples of this metric come next. */
@@ -464,7 +469,7 @@ static void put_samples_of_disks(FILE *out, const struct status *status) {
     put_sample(out, status, "disks", "How many disks there are.", status->facts.disks);
     put_sample(out, status, "disks_answering", "How many disks answer.", status->answering);
     put_sample(out, status, "disks_may_fail", "How many more disks may fail before no majority is left.", spare(status));
-    put_metric(out, "disk_answering", "Whether a disk answers (1), or is missing or damaged (0).");
+    put_metric(out, "disk_answering", "Whether a disk answers (1), or is missing, damaged or takes no part yet (0).");
     for (size_t i = 0; i < status->facts.disks; i++)
         put_numbered(out, status, "disk_answering", "disk", i, status->disks[i].status == MG_OK);
     put_metric(out, "disk_read_only", "Whether nobody may write to a disk (1).");

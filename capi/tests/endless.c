@@ -267,7 +267,7 @@ static void wrong_images(const char *folder) {
         off_t at;
         uint8_t wrong, right;
         int status;
-    } BYTES[] = {{0, 0, 0xA5, MG_NOT_FORMATTED}, {1, 5, 4, MG_WRONG_HEADER}, {24, 1, 0, MG_WRONG_HEADER}, {23, 1, 0, MG_WRONG_HEADER}, {7, 63, 64, MG_WRONG_HEADER}};
+    } BYTES[] = {{0, 0, 0xA5, MG_NOT_FORMATTED}, {1, 5, 4, MG_WRONG_HEADER}, {24, 1, 0, MG_WRONG_HEADER}, {16, 0x41, 0, MG_WRONG_HEADER}, {7, 63, 64, MG_WRONG_HEADER}};
     struct mg_disk_view disks[MG_DISKS];
     struct mg_host *host;
     int disk = 5;

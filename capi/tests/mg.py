@@ -94,7 +94,7 @@ def words():
     if has_folder:
         expect(json.loads(told.stdout)["reply"] == "Released", f"submit --json: {told}")
     else:
-        expect(told.returncode == 1 and run("submit", images, "release", 1, 2, 1).returncode == 0, f"submit --json: {told}")
+        expect(told.returncode == 2 and run("submit", images, "release", 1, 2, 1).returncode == 0, f"submit --json: {told}")
     told = run("submit", images, "enqueue", 1, 3, 1, "EX")
     expect(told.returncode == 2, f"no command: {told}")
     left_nothing("words")
@@ -367,8 +367,32 @@ def in_logs():
     left_nothing("another epoch")
 
 
+def replaces():
+    """A lost image has a new one in its place, unless a host number is in use. Until a later epoch it counts as lost. Who holds a lock meanwhile keeps it."""
+    folder()
+    process, _ = holder("--host", 3)
+    os.rename(os.path.join(images, "disk1.img"), os.path.join(work, "lost"))
+    with open(os.path.join(images, "host5.lock"), "a", encoding="ascii") as kept:
+        fcntl.flock(kept, fcntl.LOCK_EX)
+        told = run("replace", images, 1)
+    expect(told.returncode == 1 and re.search(r"36 \w+ host5", told.stderr) is not None, f"replace beside a service: {told}")
+    told = run("replace", images, 1)
+    expect(told.returncode == 0 and re.fullmatch(r"replaced disk1: it takes part from epoch \d+ on\n", told.stdout) is not None, f"replace: {told}")
+    told = run("replace", images, 1)
+    expect(told.returncode == 1 and re.search(r"29 \w+", told.stderr) is not None, f"replace again: {told}")
+    expect(run("lock", images, "db", "-n", "--", "true").returncode == 1, "the lock is held all the same")
+    told = run("status", images)
+    expect("disks: 2 of 3 answer, 0 more may fail\n  disk1 takes part from a later epoch on\n" in told.stdout, f"status: {told}")
+    disks = json.loads(run("status", images, "--json").stdout)["disks"]
+    expect([disk["refusal"] for disk in disks] == [None, {"number": -9, "name": "NotYet"}, None], f"status --json: {disks}")
+    kill_all(process)
+    expect(run("recover", images).stdout == "host 3: released 1\n", "what it had is released")
+    left_nothing("replaces")
+
+
 page()
 words()
+replaces()
 at_once()
 kills()
 takes()

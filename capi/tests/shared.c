@@ -240,6 +240,18 @@ static void numbers(void) {
     IS(opens(second, 2, &disk), MG_OK);
 }
 
+/* A device that has become too short is told as that, and not as a wrong image. */
+static void cut(void) {
+    int disk = 5;
+    snprintf(other_set, sizeof other_set, "%s/cut", second);
+    IS(mkdir(other_set, 0777), 0);
+    IS(mg_format_shared(other_set, 1, 16, 8, 4, 0, MG_FILES, NULL), MG_OK);
+    IS(truncate(in(other_set, "disk0.img"), 4096 + 17 * 4 * 4096 - 1), 0);
+    IS(opens(other_set, 0, &disk), MG_WRONG_HEADER);
+    IS(disk, 0);
+    IS_TEXT(mg_cause(), "disk0.img has the header of a device of several machines, and is damaged or too short for that");
+}
+
 /* A session of a number that is another machine's ends at once, also one that shares the number. */
 static void sessions(void) {
     struct mg_session *session;
@@ -271,6 +283,7 @@ int main(int argc, char **argv) {
     formats(first);
     link_to(first, second);
     numbers();
+    cut();
     sessions();
     /* A folder of ordinary images has no machines. */
     IS(mkdir(in(argv[1], "plain"), 0777), 0);
