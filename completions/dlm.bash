@@ -7,19 +7,20 @@ _dlm() {
 
     COMPREPLY=()
     case $COMP_CWORD:$task in
-        1:*) words="run format submit table mark check migrate fill renew race sweep" ;;
+        1:*) words="run format submit table mark check migrate replace fill renew race sweep" ;;
         2:run | 2:sweep)
             compopt -o filenames
             mapfile -t COMPREPLY < <(compgen -f -- "$word")
             return
             ;;
-        2:format | 2:submit | 2:table | 2:mark | 2:check | 2:migrate | 3:migrate | 2:fill | 2:renew | 4:renew)
+        2:format | 2:submit | 2:table | 2:mark | 2:check | 2:migrate | 3:migrate | 2:replace | 2:fill | 2:renew | 4:renew)
             compopt -o filenames
             mapfile -t COMPREPLY < <(compgen -d -- "$word")
             return
             ;;
         2:race) words="1 2 3 4 5 6 7 8 9 10 11 12 13 14 15 16" ;;
         3:format | 5:renew) words="1 2 3 4 5 6 7" ;;
+        3:replace) words="0 1 2 3 4 5 6" ;;
         3:submit | 3:table | 3:mark | 3:fill | 3:renew) words=$hosts ;;
         4:submit) words="enqueue convert release cancel status purge forget" ;;
         *:submit)

@@ -1,9 +1,10 @@
 #!/usr/bin/env python3
 """pictures.py: draws what hosts and disks do over time, as SVG, from a script and from what `dlm run` prints for it.
 
-    pictures.py                draws the pictures of docs/SCRIPTS.md anew from their examples
+    pictures.py                draws the pictures of the pages anew from their examples
     pictures.py check          tells which of them is not as it would be drawn
     pictures.py draw SCRIPT    prints the picture of this script
+    pictures.py end SCRIPT     prints a picture of its end: hosts, folder, disks, log and table
 
 It knows submissions and recoveries, without marks. Which call a step is follows from the lines: an attempt goes through the disks three times, with three
 calls to open, seven to promise and seven to vote, and leaves out a disk whose call failed. How an operation ends is printed. Where it was outrun is asked for:
@@ -16,7 +17,14 @@ import sys
 import tempfile
 
 DOCS = os.path.dirname(os.path.realpath(__file__))
-NAMES = ("race_step_by_step", "takeover", "faults_of_disks_and_hosts")
+# Each picture has the name of its example. Which page shows it, and whether it is of the example's end.
+PICTURES = {
+    "race_step_by_step": ("docs/SCRIPTS.md", False),
+    "takeover": ("docs/SCRIPTS.md", False),
+    "faults_of_disks_and_hosts": ("docs/SCRIPTS.md", False),
+    "calls_of_an_attempt_on_three_disks": ("docs/ARCHITECTURE.md", False),
+    "overview": ("README.md", True),
+}
 # The phases of an attempt, each with the class of its colour and the letters of its calls on a disk: attach, sync, read, write.
 PHASES = (("o", "asr"), ("p", "wswswsr"), ("v", "wswswsr"))
 LEFT, COLUMN, TOP, HOST_LANE, DISK_LANE = 52, 9, 30, 46, 32
@@ -28,14 +36,18 @@ STYLE = (
 LEGEND = ((52, "o", "opening"), (132, "p", "promise"), (212, "v", "vote"), (292, "x", "goes wrong"))
 
 
-def answers(lines):
-    """What `dlm run` prints for these lines: by the number of the event the host and the words of the answer."""
+def printed(lines):
+    """What `dlm run` prints for these lines."""
     program = os.environ.get("PROGRAM") or os.path.join(DOCS, "../dlm")
     with tempfile.NamedTemporaryFile("w", suffix=".dlm", encoding="ascii") as file:
         file.writelines(f"{' '.join(it)}\n" for it in lines)
         file.flush()
-        told = subprocess.run([program, "run", file.name], stdin=subprocess.DEVNULL, stdout=subprocess.PIPE, check=True, text=True).stdout
-    found = re.finditer(r"^(\d+) h(\d+) (.*)$", told, re.MULTILINE)
+        return subprocess.run([program, "run", file.name], stdin=subprocess.DEVNULL, stdout=subprocess.PIPE, check=True, text=True).stdout
+
+
+def answers(lines):
+    """By the number of the event the host and the words of the answer."""
+    found = re.finditer(r"^(\d+) h(\d+) (.*)$", printed(lines), re.MULTILINE)
     return {int(it[1]): (int(it[2]), it[3]) for it in found}
 
 
@@ -277,35 +289,100 @@ class Picture:
         self.out.append(f'<text class="f" x="{x}" y="{y}" dy="21">{word}</text>')
 
 
+class End:
+    """What is there at the end of a script: its hosts, its disks, the commands that are acknowledged by their slots, and the table that it shows last."""
+
+    def __init__(self, text):
+        run = Run(text)
+        self.disks, self.lost, self.running = run.disks, run.lost, set(run.hosts)
+        self.hosts = [it[1][1] for it in run.moments if it[1][0] == "started"]
+        self.slots, asked = {}, {}
+        for line in run.lines:
+            if line[0] == "submit":
+                asked.setdefault(int(line[1]), []).append(self.command(line[3:]))
+        for _, (host, words) in sorted(run.answers.items()):
+            what, slot, *reply = words.split()
+            command = asked[host].pop(0)
+            if what == "ack":
+                self.slots[int(slot)] = (command, " ".join(reply))
+        self.table = re.split(r"^\d+ h\d+ .*\n", printed(run.lines), flags=re.MULTILINE)[-1].splitlines()
+
+    @staticmethod
+    def command(words):
+        """What a client asks for, in words where it is a new lock."""
+        if words[0] != "enqueue":
+            return " ".join(words)
+        _, client, _, lock, mode, name, *flags = words
+        return f"client {client} asks for lock {lock} on {name}, {' '.join([mode, *flags])}"
+
+    def svg(self):
+        """From above: the hosts, the folder with a box for each disk, the log with a line for each slot, and the table."""
+        width, log = 640, 176
+        table = log + 30 + 14 * len(self.slots)
+        height = table + 24 + 12 * len(self.table)
+        out = [
+            f'<svg xmlns="http://www.w3.org/2000/svg" viewBox="0 0 {width} {height}" width="{width}" height="{height}" font-family="monospace" font-size="10">',
+            STYLE,
+            f'<rect class="k" width="{width}" height="{height}"/><path class="k l" d="M110 66h520v78h-520z"/>',
+        ]
+        labels = ((14, "hosts"), (70, "folder"), (log, "log"), (table, "table"))
+        out += [f'<text class="b" x="4" y="{y}" dy="10">{word}</text>' for y, word in labels]
+        for at, host in enumerate(self.hosts):
+            x, runs = self.middle(at, len(self.hosts)), host in self.running
+            out.append(self.box(x, 8, f"host {host}", runs, "a process" if runs else "stopped"))
+            if runs:
+                out += [f'<path class="l" d="M{x} 36L{self.middle(disk, self.disks)} 96"/>' for disk in range(self.disks) if disk not in self.lost]
+        out += [self.box(self.middle(disk, self.disks), 96, f"disk{disk}.img", disk not in self.lost, "lost") for disk in range(self.disks)]
+        out.append('<text class="n" x="116" y="138">files or block devices; the hosts share nothing else</text>')
+        out += [f'<text x="110" y="{log + 10 + 14 * slot}">slot {slot}: {command}: {reply}</text>' for slot, (command, reply) in sorted(self.slots.items())]
+        out.append(f'<text class="n" x="110" y="{log - 8}">decided slot by slot, by more than half of the disks</text>')
+        out += [f'<text x="110" y="{table + 10 + 12 * at}" xml:space="preserve">{line}</text>' for at, line in enumerate(self.table)]
+        out.append(f'<text class="n" x="110" y="{table - 8}">what the log makes of an empty one, the same on each host</text>\n</svg>\n')
+        return "\n".join(out)
+
+    @staticmethod
+    def middle(at, count):
+        """Of so many boxes beside one another, where this one has its middle."""
+        return 110 + 520 * (2 * at + 1) // (2 * count)
+
+    @staticmethod
+    def box(x, y, word, is_well, note):
+        """A box of a host or a disk. What stopped or was lost is red."""
+        of = "h" if is_well else "x"
+        below = f'<text class="{"n" if is_well else "f"}" x="{x}" y="{y + 25}" text-anchor="middle">{note}</text>' if not is_well or note == "a process" else ""
+        return f'<path class="k {of}" d="M{x - 55} {y}h110v28h-110z"/><text x="{x}" y="{y + 13}" text-anchor="middle">{word}</text>{below}'
+
+
 def text_of(path):
     with open(path, encoding="utf-8") as file:
         return file.read()
 
 
-def picture_of(path):
-    return Picture(Run(text_of(path))).svg()
+def picture_of(path, is_of_the_end=False):
+    text = text_of(path)
+    return End(text).svg() if is_of_the_end else Picture(Run(text)).svg()
 
 
 def main(words):
-    if len(words) == 2 and words[0] == "draw":
-        print(picture_of(words[1]), end="")
+    if len(words) == 2 and words[0] in ("draw", "end"):
+        print(picture_of(words[1], words[0] == "end"), end="")
         return 0
     if words not in ([], ["check"]):
         print(__doc__, file=sys.stderr)
         return 2
     wrong = 0
-    for name in NAMES:
-        stored, drawn = f"{DOCS}/{name}.svg", picture_of(f"{DOCS}/../examples/{name}.dlm")
+    for name, (page, is_of_the_end) in PICTURES.items():
+        stored, drawn = f"{DOCS}/{name}.svg", picture_of(f"{DOCS}/../examples/{name}.dlm", is_of_the_end)
         if not words:
             with open(stored, "w", encoding="utf-8") as file:
                 file.write(drawn)
         elif text_of(stored) != drawn:
             print(f"pictures.py: {name}.svg is not as it would be drawn now")
             wrong += 1
-        if f"({name}.svg)" not in text_of(f"{DOCS}/SCRIPTS.md"):
-            print(f"docs/SCRIPTS.md does not show {name}.svg")
+        if f"{os.path.relpath(stored, os.path.dirname(f'{DOCS}/../{page}'))})" not in text_of(f"{DOCS}/../{page}"):
+            print(f"{page} does not show {name}.svg")
             wrong += 1
-    print(f"pictures.py: {len(NAMES)} pictures, {wrong} faults")
+    print(f"pictures.py: {len(PICTURES)} pictures, {wrong} faults")
     return 1 if wrong else 0
 
 
