@@ -1,6 +1,6 @@
 #!/usr/bin/env bash
 # all.sh: the tests of the program, by the proved one: all scripts of tests/scripts/ and examples/, those with epochs by a plain table, words, folders, races, faults of files, damaged
-# images, kills, migrations, logs made endless in place, renewals, hosts at once, and logs without an end. `rt ci` is the gate, which proves; it stands beside.
+# images, kills, migrations, logs made endless in place, lost images that are replaced, renewals, hosts at once, and logs without an end. `rt ci` is the gate, which proves; it stands beside.
 # The last line counts the tests, and the status is 1 where one failed.
 set -uo pipefail
 
@@ -34,6 +34,7 @@ try check_images.sh
 try kill.sh 40
 try migrate.py --kills 40
 try in_place.py
+try replace.py
 try renew.py --kills 40 --long 5
 try at_once.py --rounds 2 --seconds 4
 try endless.py

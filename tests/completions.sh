@@ -35,7 +35,7 @@ expect() {
     fi
 }
 
-expect 'dlm ' '<check> <fill> <format> <mark> <migrate> <race> <renew> <run> <submit> <sweep> <table>'
+expect 'dlm ' '<check> <fill> <format> <mark> <migrate> <race> <renew> <replace> <run> <submit> <sweep> <table>'
 expect 'dlm f' '<fill> <format>'
 expect 'dlm race ' '<race> <1> <2> <3> <4> <5> <6> <7> <8> <9> <10> <11> <12> <13> <14> <15> <16>'
 expect 'dlm-shared ' '<check> <export> <format> <mark> <submit> <table> <take>'
@@ -86,7 +86,7 @@ expect 'mg-lock --status images ' '<--status> <images>'
 expect 'mg s' '<status> <submit> <sweep>'
 expect 'mg help m' '<help> <mark> <migrate>'
 expect 'mg create im' '<create> <images>'
-expect 'mg create images --' '<create> <images> <--cluster> <--disks> <--help> <--slots>'
+expect 'mg create images --' '<create> <images> <--cluster> <--disks> <--help> <--json> <--slots>'
 expect 'mg create images --disks ' '<create> <images> <--disks> <1> <2> <3> <4> <5> <6> <7>'
 expect 'mg create images --cluster ' '<create> <images> <--cluster>'
 expect 'mg run o' '<run> <one.dlm>'
@@ -98,12 +98,14 @@ expect 'mg table images ' '<table> <images>'
 expect 'mg submit images f' '<submit> <images> <forget>'
 expect 'mg submit images c' '<submit> <images> <cancel> <convert>'
 expect 'mg submit images --host 3 p' '<submit> <images> <--host> <3> <purge>'
-expect 'mg submit --json images enqueue 1 1 1 P' '<submit> <--json> <images> <enqueue> <1> <1> <1> <PR> <PW>'
+expect 'mg submit --host 3 images enqueue 1 1 1 P' '<submit> <--host> <3> <images> <enqueue> <1> <1> <1> <PR> <PW>'
 expect 'mg lock images ' '<lock> <images>'
 expect 'mg lock images db --mode P' '<lock> <images> <db> <--mode> <PR> <PW>'
 expect 'mg lock images db -w 3 --no' '<lock> <images> <db> <-w> <3> <--nonblock>'
 expect 'mg lock images db -- one' '<lock> <images> <db> <--> <one.dlm>'
 expect 'mg lock images db --host 2 -- ls --mode one' '<lock> <images> <db> <--host> <2> <--> <ls> <--mode> <one.dlm>'
+expect 'mg replace im' '<replace> <images>'
+expect 'mg replace images ' '<replace> <images> <0> <1> <2> <3> <4> <5> <6>'
 expect 'mg status images --p' '<status> <images> <--prometheus>'
 
 # asked TYPED WORDS: fish offers these words.
@@ -118,7 +120,7 @@ asked() {
 }
 
 if command -v fish >/dev/null; then
-    asked 'dlm ' 'check fill format mark migrate race renew run submit sweep table'
+    asked 'dlm ' 'check fill format mark migrate race renew replace run submit sweep table'
     asked 'dlm table ' 'images/ more images/'
     asked 'dlm submit images 0 ' 'cancel convert enqueue forget purge release status'
     asked 'dlm submit images 0 enqueue 1 1 1 ' 'CR CW EX NL PR PW'

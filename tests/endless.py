@@ -338,8 +338,7 @@ WRONG = [
     lambda path: put_slots(path, SLOTS - 1),
     lambda path: put_slots(path, 4097),
     lambda path: put_slots(path, 16),
-    # An epoch from which on the disk takes part, a mark, and what comes after it.
-    lambda path: put_bytes(path, 23, b"\1"),
+    # A first epoch that there never is, a mark, and what comes after it.
     lambda path: put_bytes(path, 16, b"\x80"),
     lambda path: put_bytes(path, 24, b"\1"),
     lambda path: put_bytes(path, 25, b"\1"),

@@ -1,11 +1,13 @@
 #!/usr/bin/env python3
 """Scripts over logs without an end, judged by a plain lock table over one list of commands: what each host answers and shows has to follow from one such
-list. Whether a command that was never acknowledged stands in the list is tried both ways.
+list. Whether a command that was never acknowledged stands in the list is tried both ways. Then it sweeps those scripts that make few calls, and counts the
+runs again: four for each call, and three more for each that writes.
 
-    epoch_scripts.py [--program PATH] [--stored] [SCRIPT..]
+    epoch_scripts.py [--program PATH] [--stored] [--calls N] [SCRIPT..]
 
 Without scripts it takes those of scripts/epochs and the example `epochs`. With --stored it judges what is stored beside each script, and runs nothing.
-A script may not go on with a host after `tear` but by `stop`, since the judge does not know whether the host was within a write."""
+Swept are scripts of N calls at most (none given: 1,100). A script may not go on with a host after `tear` but by `stop`, since the judge does not know whether
+the host was within a write."""
 
 import argparse
 import glob
@@ -236,6 +238,80 @@ def shows(ends, known, what, epoch, below):
     return None if lock_log.sorted_below(below) in texts else f"another table: {below}"
 
 
+# SWEEPS
+
+PROBED = 300                    # in scripts of so many calls at most each is tried, whether it writes
+
+
+def device_calls(script, printed):
+    """Each step that applies, as (number of the event, host). A host makes a call with each of its steps, from the beginning of a task to its answer."""
+    answers = {int(event): int(host) for event, host in re.findall(r"^(\d+) h(\d+) ", printed, re.MULTILINE)}
+    busy, learned, calls = set(), set(), []
+    for number, times, (kind, host, *_) in events_of(script)[2]:
+        host = int(host)
+        if kind in ("submit", "recover", "look", "beat", "mark") and (kind != "mark" or host in learned):
+            busy.add(host)
+        elif kind in ("stop", "tear"):
+            busy.discard(host)
+            learned.discard(host)
+        for event in range(number, number + times):
+            if kind == "step" and host in busy:
+                calls.append((event, host))
+            if answers.get(event) == host:
+                busy.discard(host)
+                learned.add(host)
+    return calls
+
+
+def cut_before(script, event):
+    """The lines of a script before this event; of a run of steps those before it."""
+    number = 0
+    for line in script.splitlines():
+        words = line.split()
+        if not words or words[0].startswith("#") or words[0] in ("cluster", "show", "blocking"):
+            yield line
+            continue
+        times = int(words[2]) if words[0] == "step" and len(words) == 3 else 1
+        if number + times > event:
+            if event > number:
+                yield f"step {words[1]} {event - number}"
+            return
+        number += times
+        yield line
+
+
+def writes(program, script, event, host):
+    """Whether a call writes: a torn write stops its host, which then answers nothing."""
+    text = "\n".join([*cut_before(script, event), f"tear {host} 00", f"step {host} 100000", ""])
+    run = subprocess.run([program, "run", "/dev/stdin"], input=text, capture_output=True, text=True)
+    if (run.returncode, run.stderr) != (0, ""):
+        raise Wrong(f"a call cannot be torn: {run.stderr}")
+    return not any(int(number) > event for number in re.findall(r"^(\d+) h", run.stdout, re.MULTILINE))
+
+
+def swept(program, path, script, printed, most):
+    """What is wrong with a sweep of a script, or None; and whether it was swept."""
+    calls = device_calls(script, printed)
+    if len(calls) > most:
+        return None, False
+    run = subprocess.run([program, "sweep", path], stdin=subprocess.DEVNULL, capture_output=True, text=True)
+    found = re.fullmatch(r"(\d+) runs, (\d+) recovered, 0 wrong\n", run.stdout)
+    if not found or (run.returncode, run.stderr) != (0, ""):
+        return f"swept: {run.stdout}{run.stderr}", True
+    runs, recovered = int(found[1]), int(found[2])
+    if len(calls) <= PROBED:
+        written = sum(writes(program, script, event, host) for event, host in calls)
+    else:
+        written = (runs - 4 * len(calls)) // 3
+    if runs != 4 * len(calls) + 3 * written or not 0 <= written <= len(calls):
+        return f"{runs} runs for {len(calls)} calls, of which {written} write", True
+    kinds = {words[0] for _, _, words in events_of(script)[2]}
+    answered = {1: 2 * (runs - len(calls)), 3: 2 * runs}.get(events_of(script)[0])
+    if answered is not None and not kinds & {"crash", "gone", "fail"} and "refused" not in printed and recovered != answered:
+        return f"{recovered} of {answered} recoveries answered", True
+    return None, True
+
+
 # SCRIPTS
 
 def judged(script, printed):
@@ -260,12 +336,13 @@ def main():
     words = argparse.ArgumentParser()
     words.add_argument("--program", default=os.environ.get("PROGRAM", lock_log.PROGRAM))
     words.add_argument("--stored", action="store_true")
+    words.add_argument("--calls", type=int, default=1100)
     words.add_argument("scripts", nargs="*")
     given = words.parse_args()
     scripts = given.scripts or sorted(glob.glob(f"{TESTS}/scripts/epochs/*.dlm")) + [f"{lock_log.TOP}/examples/epochs.dlm"]
     if not given.stored:
         lock_log.see_that_it_is_built(given.program)
-    failed = 0
+    failed, sweeps = 0, 0
     for path in scripts:
         with open(path) as file:
             script = file.read()
@@ -275,10 +352,13 @@ def main():
         else:
             printed = printed_by(given.program, path)
         wrong = judged(script, printed)
+        if not wrong and not given.stored:
+            wrong, was_swept = swept(given.program, path, script, printed, given.calls)
+            sweeps += was_swept
         if wrong:
             print(f"{path}: {wrong}")
             failed += 1
-    print(f"{len(scripts)} scripts of epochs, {failed} wrong")
+    print(f"{len(scripts)} scripts of epochs, {sweeps} swept, {failed} wrong")
     return 1 if failed else 0
 
 

@@ -85,10 +85,10 @@ done
 expect "not formatted" 1 "dlm: 24 NotFormatted disk0" "$shared" table "$work/a" 0
 expect "too many slots for the device" 1 "dlm: 26 Unreadable disk0 (disk0.img has 282624 bytes, and 299008 are needed)" "$shared" format "$work/a" 3 17 7 4
 expect "none was made" 1 "dlm: 24 NotFormatted disk0" "$shared" table "$work/b" 0
-expect "no such sector" 2 "dlm: usage" "$shared" format "$work/a" 3 16 7 4 4095
-expect "no such host" 2 "dlm: usage" "$shared" format "$work/a" 3 16 7 17
-expect "no disks" 2 "dlm: usage" "$shared" format "$work/a" 0 16 7 4
-expect "a number that wraps" 2 "dlm: usage" "$shared" format "$work/a" 18446744073709551619 16 7 4
+expect "no such sector" 2 "dlm-shared: SECTOR is 4095: 512, 1024, 2048 or 4096" "$shared" format "$work/a" 3 16 7 4 4095
+expect "no such host" 2 "dlm-shared: HOSTS is 17: 1 to 16" "$shared" format "$work/a" 3 16 7 17
+expect "no disks" 2 "dlm-shared: DISKS is 0: 1 to 7" "$shared" format "$work/a" 0 16 7 4
+expect "a number that wraps" 2 "dlm-shared: DISKS is 18446744073709551619: 1 to 7" "$shared" format "$work/a" 18446744073709551619 16 7 4
 expect "a further image" 1 "dlm: 29 AlreadyThere disk2 (something has the name disk2.img, and 2 disks are asked for)" "$shared" format "$work/a" 2 16 7 4
 expect "format" 0 "formatted 3 disks, 16 slots" "$shared" format "$work/a" 3 16 7 4
 expect "format again, on another machine" 1 "dlm: 29 AlreadyThere disk0 (disk0.img is formatted)" "$shared" format "$work/b" 3 16 7 4
@@ -101,11 +101,11 @@ expect "release" 0 "ack 2 Released" "$shared" submit "$work/a" 0 release 1 2 1 v
 expect "state" 0 "ack 3 State(held=PR, wanted=-, value=000102030405060708090a0b0c0d0e0f)" "$shared" submit "$work/b" 1 status 2 2 2
 expect "refused by the table" 0 "ack 4 12 NoSuchLock" "$shared" submit "$work/a" 0 cancel 1 3 9
 expect "mark" 0 $'recovered 5\nmarked 0 slots' "$shared" mark "$work/b" 1
-expect "no command" 2 "dlm: bad command" "$shared" submit "$work/a" 0 enqueue 1 4 1 XX db
-expect "no words" 2 "dlm: usage" "$shared" submit "$work/a" 0
+expect "no command" 2 "dlm-shared: MODE is XX: NL, CR, CW, PR, PW or EX" "$shared" submit "$work/a" 0 enqueue 1 4 1 XX db
+expect "no words" 2 "dlm-shared: COMMAND is missing: enqueue, convert, release, cancel, status, purge or forget" "$shared" submit "$work/a" 0
 expect "no such host number" 2 "dlm-shared: disk0.img has host numbers from 0 to 3, and 4 was given" "$shared" table "$work/a" 4
 expect "no such number to take" 2 "dlm-shared: disk0.img has host numbers from 0 to 3, and 4 was given" "$shared" take "$work/a" 4
-for task in fill renew migrate; do
+for task in fill renew migrate replace; do
     "$shared" "$task" "$work/a" 0 > "$work/told" 2>&1
     [[ $? -eq 2 ]] && grep -q "^dlm-shared: $task: " "$work/told" || fail "$task is not declined"
 done
@@ -327,7 +327,7 @@ mkdir -- "$work/epochs"
 "$work/shared_epochs" "$work/epochs" "${EPOCHS:-2}" "${devices[@]:0:6}" || fail "two machines through epochs"
 for k in 0 1 2; do dd if=/dev/zero of="$work/a/disk$k.img" bs=4096 count=1 conv=fsync oflag=direct status=none; done
 expect "no room for two areas" 1 "dlm: 26 Unreadable disk0 (disk0.img has 4194304 bytes, and 134483968 are needed)" "$shared" format "$work/a" 3 7
-expect "an epoch of other slots" 2 "dlm: usage" "$shared" format "$work/a" 3 - 7 17
+expect "an epoch of other slots" 2 "dlm-shared: HOSTS is 17: 1 to 16" "$shared" format "$work/a" 3 - 7 17
 rm -f -- "$work/a"/host*.lock "$work/b"/host*.lock
 truncate -s 5M -- "$work/storage"{0,1,2}
 for device in "${devices[@]:0:9}"; do losetup -c "$device"; done

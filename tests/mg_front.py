@@ -98,23 +98,27 @@ class Kept:
 HANDED = [
     ("submit images enqueue 1 1 1 EX db", "mg-folder: [submit] [images] [--host] [0] [enqueue] [1] [1] [1] [EX] [db]"),
     ("submit images --host 3 enqueue 1 1 1 EX db noqueue", "mg-folder: [submit] [images] [--host] [3] [enqueue] [1] [1] [1] [EX] [db] [noqueue]"),
-    ("submit --json --host=15 images enqueue 1 1 1 EX --json", "mg-folder: [submit] [images] [--host] [15] [--json] [enqueue] [1] [1] [1] [EX] [--json]"),
+    ("submit --host=15 images enqueue 1 1 1 EX --json", "mg-folder: [submit] [images] [--host] [15] [enqueue] [1] [1] [1] [EX] [--json]"),
     ("submit images -- purge 1 2 0", "mg-folder: [submit] [images] [--host] [0] [purge] [1] [2] [0]"),
     ("submit images forget 1", "mg-folder: [submit] [images] [--host] [0] [forget] [1]"),
     ("table images", "mg-folder: [table] [images] [--host] [0]"),
-    ("table images --json --host 0", "mg-folder: [table] [images] [--host] [0] [--json]"),
+    ("table images --host 0", "mg-folder: [table] [images] [--host] [0]"),
     ("table -- images", "mg-folder: [table] [images] [--host] [0]"),
     ("mark --host 7 images", "mg-folder: [mark] [images] [--host] [7]"),
     ("check images", "mg-folder: [check] [images]"),
     ("check --json images", "mg-folder: [check] [images] [--json]"),
     ("migrate images", "mg-folder: [migrate] [images]"),
     ("migrate images --json", "mg-folder: [migrate] [images] [--json]"),
+    ("replace images 1", "mg-folder: [replace] [images] [1]"),
+    ("replace --json images 0", "mg-folder: [replace] [images] [0] [--json]"),
+    ("replace -- -odd 6", "mg-folder: [replace] [./-odd] [6]"),
     ("run one.dlm", "mg-folder: [run] [one.dlm]"),
     ("run -", "mg-folder: [run] [/dev/stdin]"),
     ("run -- -odd/-one", "mg-folder: [run] [./-odd/-one]"),
     ("sweep one.dlm", "mg-folder: [sweep] [one.dlm]"),
     ("create images --cluster 7", "mg-folder: [create] [images] [--cluster] [7]"),
     ("create --slots 64 --disks=7 --cluster 18446744073709551615 images", "mg-folder: [create] [images] [--cluster] [18446744073709551615] [--disks] [7] [--slots] [64]"),
+    ("create images --json --cluster 7", "mg-folder: [create] [images] [--cluster] [7] [--json]"),
     ("create ./-odd --cluster 0", "mg-folder: [create] [./-odd] [--cluster] [0]"),
     ("create --cluster 0 -- -odd", "mg-folder: [create] [./-odd] [--cluster] [0]"),
     ("lock images db", "mg-lock: [images] [0] [db]"),
@@ -195,6 +199,7 @@ BY_DLM = [
     ("mark images", "dlm: [mark] [images] [0]"),
     ("check images", "dlm: [check] [images]"),
     ("migrate images", "dlm: [migrate] [images]"),
+    ("replace images 0", "dlm: [replace] [images] [0]"),
     ("run one.dlm", "dlm: [run] [one.dlm]"),
     ("sweep one.dlm", "dlm: [sweep] [one.dlm]"),
 ]
@@ -208,7 +213,7 @@ def by_dlm():
     for words, wanted in BY_DLM:
         told = mg(*words.split())
         expect((told.returncode, told.stdout, told.stderr) == (0, wanted + "\n", ""), f"{words}, by dlm: {told}")
-    told = mg("table", "images", "--json")
+    told = mg("check", "images", "--json")
     expect((told.returncode, told.stderr) == (1, "mg: --json is by mg-folder, which is not installed (see man mg, DIAGNOSTICS)\n"), f"--json, by dlm: {told}")
     os.makedirs("path", exist_ok=True)
     os.rename("usr/bin/dlm", "path/dlm")
@@ -299,12 +304,12 @@ WRONG = [
     (["watch", "images", "--json"], 2, "--json is no option of watch: --every"),
     (["recover", "images", "0"], 2, "0 is a word too many: mg recover FOLDER [--host N] [--all]"),
     (["recover", "images", "--host", "a"], 2, "--host is a: 0 to 15"),
-    (["submit"], 2, "FOLDER is missing: mg submit FOLDER [--host N] [--json] COMMAND.."),
-    (["submit", "images"], 2, "COMMAND is missing: mg submit FOLDER [--host N] [--json] COMMAND.."),
+    (["submit"], 2, "FOLDER is missing: mg submit FOLDER [--host N] COMMAND.."),
+    (["submit", "images"], 2, "COMMAND is missing: mg submit FOLDER [--host N] COMMAND.."),
     (["submit", "images", "--host", "0"], 2, "COMMAND is missing: mg submit FOLDER "),
-    (["submit", "images", "--hots", "0", "enqueue"], 2, "--hots is no option of submit: --host, --json"),
+    (["submit", "images", "--hots", "0", "enqueue"], 2, "--hots is no option of submit: --host"),
     (["submit", "images", "--host", "00", "enqueue"], 2, "--host is 00: 0 to 15"),
-    (["table", "images", "--jsn"], 2, "--jsn is no option of table: --host, --json"),
+    (["table", "images", "--jsn"], 2, "--jsn is no option of table: --host"),
     (["table", "images", "--"], 0, ""),
     (["table", "images", "0"], 2, "0 is a word too many: mg table FOLDER "),
     (["table", "--host", "--json", "images"], 2, "--host is --json: 0 to 15"),
@@ -312,6 +317,13 @@ WRONG = [
     (["mark", "images", "--host", "\x1b[31m"], 2, "--host is \\x1b[31m: 0 to 15"),
     (["check", "images", "--host", "1"], 2, "--host is no option of check: --json"),
     (["migrate", "images", "new", "64"], 2, "new is a word too many: mg migrate FOLDER [--json]"),
+    (["replace", "images"], 2, "DISK is missing: mg replace FOLDER DISK [--json]"),
+    (["replace", "images", "7"], 2, "DISK is 7: 0 to 6"),
+    (["replace", "images", "01"], 2, "DISK is 01: 0 to 6"),
+    (["replace", "images", ""], 2, "DISK is '': 0 to 6"),
+    (["replace", "images", "disk1.img"], 2, "DISK is disk1.img: 0 to 6"),
+    (["replace", "images", "1", "2"], 2, "2 is a word too many: mg replace FOLDER DISK [--json]"),
+    (["replace", "images", "1", "--host", "0"], 2, "--host is no option of replace: --json"),
     (["run"], 2, "SCRIPT is missing: mg run SCRIPT"),
     (["run", "one.dlm", "--json"], 2, "--json is no option of run: it has none"),
     (["sweep", "one.dlm", "two.dlm"], 2, "two.dlm is a word too many: mg sweep SCRIPT"),
@@ -333,6 +345,7 @@ REFUSED = [
     (["run", "nowhere.dlm"], 1, "SCRIPT is nowhere.dlm: no such file"),
     (["sweep", "images"], 1, "SCRIPT is images: it is a folder"),
     (["watch", "nowhere"], 1, "FOLDER is nowhere: no such folder"),
+    (["replace", "nowhere", "1"], 1, "FOLDER is nowhere: no such folder"),
     (["recover", "nowhere"], 1, "FOLDER is nowhere: no such folder"),
     (["table", "empty"], 1, "FOLDER is empty: 26 Unreadable disk0 (disk0.img: No such file or directory)"),
     (["lock", "empty", "db", "ls"], 125, "FOLDER is empty: 26 Unreadable disk0 (disk0.img: No such file or directory)"),
@@ -373,7 +386,7 @@ def wrong_words():
 
 # ---- help ----
 
-NAMES = ["create", "lock", "take", "give", "status", "watch", "recover", "submit", "table", "mark", "check", "migrate", "run", "sweep"]
+NAMES = ["create", "lock", "take", "give", "status", "watch", "recover", "submit", "table", "mark", "check", "migrate", "replace", "run", "sweep"]
 
 
 def helps():
@@ -405,9 +418,14 @@ def cluster_numbers():
     expect(len(seen) == 20 and all(1 <= number <= 2**40 for number in seen), f"cluster numbers: {sorted(seen)}")
     shutil.rmtree("images")
     expect(mg("create", "images").returncode == 0 and os.path.isdir("images"), "the folder is made")
-    # Nobody reads what is printed: the folder stays without images.
     told = subprocess.run(["bash", "-c", "usr/bin/mg create images > /dev/full"], capture_output=True, check=False)
     expect(told.returncode == 1, f"create, nowhere to print: {told}")
+    # Where the images are not made no number is said; and in an object it is mg-folder that says it.
+    for status in (1, 2, 125):
+        told = mg("create", "images", env={**os.environ, "STATUS": str(status)})
+        expect((told.returncode, told.stdout, told.stderr) == (status, "", ""), f"create that is refused: {told}")
+    told = mg("create", "images", "--json")
+    expect(re.fullmatch(r"mg-folder: \[create\] \[images\] \[--cluster\] \[[1-9][0-9]*\] \[--json\]\n", told.stdout) is not None, f"create --json: {told}")
 
 
 def host_of(told):

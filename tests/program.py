@@ -377,11 +377,13 @@ def words_that_are_no_task():
 
 
 @test
-def a_script_with_epochs_is_run_and_not_swept():
-    script = f"{TOP}/examples/epochs.dlm"
+def a_script_with_epochs_is_run_and_swept():
     with open(f"{TOP}/examples/epochs.out", encoding="ascii") as printed:
-        prints(f"run {script}", printed.read())
-    refused(f"sweep {script}", "dlm: 23 BadLine 2\n")
+        prints(f"run {TOP}/examples/epochs.dlm", printed.read())
+    # 27 calls: each is interrupted in four ways, and each of the six that write in three more. No host recovers once the one disk is lost.
+    with open("swept.dlm", "w", encoding="ascii") as script:
+        script.write("cluster 1 8 epochs\nsubmit 0 8 enqueue 1 1 1 EX db\nstep 0 40\n")
+    prints("sweep swept.dlm", f"{4 * 27 + 3 * 6} runs, {2 * (3 * 27 + 3 * 6)} recovered, 0 wrong\n")
 
 
 def restore():

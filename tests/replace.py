@@ -1,0 +1,293 @@
+#!/usr/bin/env python3
+"""replace.py [--program PATH] [--calls N] [--seed N]: folders of logs without an end that have lost an image, and `dlm replace FOLDER DISK`, which puts a new one in its place.
+The first epoch in which the new disk takes part is the second one after the newest. Before, it stays as it was made; from then on it is like any other, and
+another disk may be lost. Refused folders stay as they were. At so many calls (none given: 40) of a replacing its process is killed, and at so many one call fails.
+
+Images are written and worked out here byte by byte, by docs/FORMAT.md. It prints each difference, and how many there were; the status is 1 where there was one.
+The program has to be built: `./dlm` does so."""
+
+import argparse
+import fcntl
+import os
+import random
+import shutil
+import sys
+
+import endless
+import endless_log
+import folder_tests
+from endless import SLOTS, at_some_calls, built_failing, bytes_of, calls_of, checks, end_of, images_in, put, put_alone, put_bytes
+from folder_tests import TESTS, prints, refused, run, run_tests, usage, wants
+
+# The tests of endless.py are its own.
+TESTS.clear()
+from folder_tests import test
+
+CALLS = 40
+
+
+# Both rows of standings, in an image.
+ROWS = slice(endless_log.standing_place(SLOTS, 0, 0), endless_log.standing_place(SLOTS, 2, 0))
+
+
+def new_image(disk, disks, first, rows):
+    """An image that takes part from this epoch on, as it is made, with these standings."""
+    image = bytearray((endless_log.header(disk, disks, SLOTS, 7) + first.to_bytes(8, "big")).ljust(endless_log.length(SLOTS), b"\0"))
+    image[ROWS] = rows
+    return bytes(image)
+
+
+def newest_rows(folder):
+    """The standings of the disk that shows the newest epoch."""
+    return max((image for name, image in sorted(images_in(folder).items())), key=endless_log.newest)[ROWS]
+
+
+def replaced(folder, disk, first):
+    """Replaces a disk, and gives the standings that the new one has to have."""
+    rows = newest_rows(folder)
+    prints(f"replace {folder} {disk}", f"replaced disk{disk}: it takes part from epoch {first} on\n")
+    return rows
+
+
+def is_new(folder, disk, disks, first, rows, what):
+    wants(f"the image {what}", bytes_of(f"{folder}/disk{disk}.img") == new_image(disk, disks, first, rows), True)
+
+
+def lose(folder, disk):
+    os.remove(f"{folder}/disk{disk}.img")
+
+
+def fills(plain, upto, host=0):
+    """Commands up to a place."""
+    while plain.upto < upto:
+        plain.submits(host, f"status 5 {plain.upto + 1} 1")
+
+
+@test
+def takes_part_later():
+    """A log that has gone to epoch 6: the new disk takes no part in epochs 6 and 7, and does in 8. Then another one may be lost."""
+    plain = put_alone("d", 6, SLOTS - 8)
+    lose("d", 1)
+    plain.submits(2, "enqueue 2 1 2 EX db")
+    rows = replaced("d", 1, 8)
+    is_new("d", 1, 3, 8, rows, "as it was made")
+    wants("what is left", sorted(name for name in os.listdir("d") if not name.endswith(".lock")), ["disk0.img", "disk1.img", "disk2.img"])
+    checks([])
+    plain.shows()
+    fills(plain, 7 * SLOTS)
+    plain.submits(4, "enqueue 3 1 3 PR log")
+    plain.shows(4)
+    wants("the epoch", endless_log.newest(bytes_of("d/disk0.img")), 7)
+    is_new("d", 1, 3, 8, rows, "in the epoch before its own")
+    # Without it no majority is left as yet.
+    os.rename("d/disk2.img", "away")
+    refused("table d 3", "dlm: 7 NoMajority\n")
+    os.rename("away", "d/disk2.img")
+    fills(plain, 8 * SLOTS)
+    plain.submits(4, "enqueue 4 1 4 CR log")
+    wants("its newest epoch", endless_log.newest(bytes_of("d/disk1.img")), 8)
+    checks([])
+    for gone in (0, 2):
+        os.rename(f"d/disk{gone}.img", "away")
+        plain.shows(gone)
+        plain.submits(gone, f"enqueue {6 + gone} 1 {6 + gone} EX x{gone}")
+        os.rename("away", f"d/disk{gone}.img")
+    plain.shows()
+    # And on through the next epochs, with one disk less.
+    lose("d", 2)
+    fills(plain, 10 * SLOTS + 40, 4)
+    plain.shows(4)
+    wants("its newest epoch", endless_log.newest(bytes_of("d/disk1.img")), 10)
+
+
+@test
+def from_the_start():
+    """In epoch 0 a new disk looks as if all hosts were inside. It takes part from epoch 2 on, and its votes count then."""
+    plain = put_alone("d", 0, 3)
+    plain.submits(1, "enqueue 2 1 2 EX db")
+    lose("d", 0)
+    rows = replaced("d", 0, 2)
+    plain.submits(1, "enqueue 2 2 3 EX log")
+    os.rename("d/disk1.img", "away")
+    refused("table d 1", "dlm: 7 NoMajority\n")
+    os.rename("away", "d/disk1.img")
+    plain.shows()
+    fills(plain, SLOTS + 20)
+    is_new("d", 0, 3, 2, rows, "in epoch 1")
+    fills(plain, 2 * SLOTS + 20)
+    lose("d", 1)
+    plain.shows()
+    fills(plain, 3 * SLOTS + 20)
+    plain.shows()
+
+
+@test
+def one_after_the_other():
+    """The first epoch is told by what the other disks show: hosts on their way to an epoch count, and so does the first epoch of a disk that was replaced before."""
+    plain = put_alone("d", 4, 20, disks=5)
+    lose("d", 3)
+    replaced("d", 3, 6)
+    lose("d", 1)
+    replaced("d", 1, 7)
+    plain.submits(2, "enqueue 2 1 2 EX db")
+    plain.shows()
+    checks([])
+    # Host 9 has begun to come to epoch 6 on one disk.
+    put_bytes("d/disk4.img", endless_log.standing_place(SLOTS, 0, 9), endless.copy_of(5))
+    lose("d", 0)
+    replaced("d", 0, 8)
+    lose("d", 2)
+    replaced("d", 2, 9)
+    refused("table d 2", "dlm: 7 NoMajority\n")
+
+
+@test
+def one_number_above():
+    """A host that came to the next epoch on one disk alone counts, in either area."""
+    for epoch, number, first in ((5, 6, 8), (5, 5, 8), (4, 6, 7), (4, 5, 7)):
+        put_alone("d", epoch, SLOTS)
+        lose("d", 2)
+        put_bytes("d/disk0.img", endless_log.standing_place(SLOTS, (epoch + 1) % 2, 7), endless.copy_of(number))
+        replaced("d", 2, first)
+        shutil.rmtree("d")
+
+
+def stays(words, told, folder="d"):
+    """The words are refused, and what the folder has stays as it was."""
+    before = {name: bytes_of(f"{folder}/{name}") for name in sorted(os.listdir(folder)) if not name.endswith(".lock")}
+    refused(words, told)
+    wants(f"the folder after `{words}`", {name: bytes_of(f"{folder}/{name}") for name in sorted(os.listdir(folder)) if not name.endswith(".lock")} == before, True)
+
+
+@test
+def refusals():
+    for words in ("replace", "replace d", "replace d 7", "replace d -1", "replace d x", "replace d 1 2"):
+        usage(words)
+    refused("replace nothing 0", "dlm: 26 Unreadable disk0\n")
+    os.mkdir("empty")
+    stays("replace empty 0", "dlm: 26 Unreadable disk0\n", "empty")
+    put_alone("d", 3, 5)
+    whole = images_in("d")
+    for disk in range(3):
+        stays(f"replace d {disk}", "dlm: 29 AlreadyThere\n")
+    for disk in range(3, 7):
+        stays(f"replace d {disk}", f"dlm: 26 Unreadable disk{disk}\n")
+    wants("locks", [name for name in os.listdir("d") if name.endswith(".lock")], [])
+    # Whatever has its name stays there: a damaged image, a link, a folder.
+    put("d", {**whole, "disk1.img": whole["disk1.img"][:-1]})
+    stays("replace d 1", "dlm: 29 AlreadyThere\n")
+    lose("d", 1)
+    os.symlink("nowhere", "d/disk1.img")
+    refused("replace d 1", "dlm: 29 AlreadyThere\n")
+    os.remove("d/disk1.img")
+    os.mkdir("d/disk1.img")
+    refused("replace d 1", "dlm: 29 AlreadyThere\n")
+    os.rmdir("d/disk1.img")
+    replaced("d", 1, 5)
+    stays("replace d 1", "dlm: 29 AlreadyThere\n")
+    # Less than half of the disks tell their epochs.
+    put("d", {"disk2.img": whole["disk2.img"]})
+    stays("replace d 1", "dlm: 7 NoMajority\n")
+    put("d", {name: whole[name] for name in ("disk0.img", "disk2.img")})
+    put_bytes("d/disk0.img", endless_log.standing_place(SLOTS, 1, 3), b"\xa5")
+    stays("replace d 1", "dlm: 7 NoMajority\n")
+    # Another set, and a log that ends.
+    put("d", {"disk0.img": whole["disk0.img"], "disk2.img": endless_log.image(2, 3, SLOTS, 8)})
+    stays("replace d 1", "dlm: 25 WrongHeader disk2\n")
+    os.mkdir("e")
+    prints(f"format e 3 {SLOTS} 7", f"formatted 3 disks, {SLOTS} slots\n")
+    lose("e", 1)
+    stays("replace e 1", "dlm: 25 WrongHeader disk0\n", "e")
+
+
+@test
+def half_of_the_disks():
+    """Of two disks one is enough, and of four two. More than half have to be left for commands."""
+    for disks, gone in ((2, 1), (4, 2), (7, 3)):
+        put_alone("d", 2, 5, disks=disks)
+        for disk in range(gone):
+            lose("d", disk)
+        replaced("d", 0, 4)
+        shutil.rmtree("d")
+
+
+@test
+def host_in_use():
+    put_alone("d", 2, 5)
+    lose("d", 1)
+    for host in (0, 7, 15):
+        with open(f"d/host{host}.lock", "ab") as lock:
+            fcntl.flock(lock, fcntl.LOCK_EX)
+            stays("replace d 1", f"dlm: 36 HostInUse host{host}\n")
+    replaced("d", 1, 4)
+
+
+@test
+def processes_that_are_killed():
+    """The folder has no new image, or a whole one. The same words make it then, unless it is there."""
+    library = built_failing()
+    if not library:
+        return
+    plain = put_alone("d", 2, 5)
+    lose("d", 1)
+    before, rows = images_in("d"), newest_rows("d")
+    text = "replace d 1"
+    total = calls_of(library, text, before)
+    numbers = {*range(1, 40), *range(total - 12, total + 1), *random.sample(range(1, total + 1), min(CALLS, total))}
+    counts = {"there": 0, "none": 0}
+    for call, process in at_some_calls(library, text, before, sorted(numbers), FAIL_STOP="yes"):
+        process.kill()
+        printed = end_of(process)[1]
+        is_there = os.path.exists("d/disk1.img")
+        counts["there" if is_there else "none"] += 1
+        wants(f"what is told at {call}", bool(printed) <= is_there, True)
+        plain.shows()
+        made_by = rows
+        if is_there:
+            refused(text, "dlm: 29 AlreadyThere\n")
+        else:
+            # The host that showed the table has come to the epoch meanwhile.
+            made_by = newest_rows("d")
+            replaced("d", 1, 4)
+        is_new("d", 1, 3, 4, made_by, f"after {call}")
+        wants("what is left", sorted(name for name in os.listdir("d") if ".img" in name), ["disk0.img", "disk1.img", "disk2.img"])
+    wants(f"each case, {counts}", all(counts.values()), True)
+
+
+@test
+def calls_that_fail():
+    """One call fails. The image is made, or it is refused and the same words make it."""
+    library = built_failing()
+    if not library:
+        return
+    put_alone("d", 2, 5)
+    lose("d", 1)
+    before, rows = images_in("d"), newest_rows("d")
+    text = "replace d 1"
+    total = calls_of(library, text, before)
+    numbers = {*range(1, 60), *range(total - 12, total + 1), *random.sample(range(1, total + 1), min(CALLS, total))}
+    for call, process in at_some_calls(library, text, before, sorted(numbers)):
+        status, printed, told = end_of(process)
+        if status:
+            wants(f"what is told where {call} fails, {told}", (printed, told.split(" ")[1] in ("7", "26", "37", "29")), ("", True))
+        is_there = os.path.exists("d/disk1.img")
+        if not is_there:
+            replaced("d", 1, 4)
+        is_new("d", 1, 3, 4, rows, f"where {call} fails")
+
+
+def main():
+    global CALLS
+    words = argparse.ArgumentParser()
+    words.add_argument("--program", default=folder_tests.PROGRAM)
+    words.add_argument("--calls", type=int, default=CALLS)
+    words.add_argument("--seed", type=int, default=random.randrange(1 << 30))
+    given = words.parse_args()
+    folder_tests.PROGRAM = endless.PROGRAM = os.path.abspath(given.program)
+    CALLS = given.calls
+    random.seed(given.seed)
+    return run_tests(__file__, room=lambda name: endless.MEMORY, said=f", seed {given.seed}")
+
+
+if __name__ == "__main__":
+    sys.exit(main())
