@@ -65,7 +65,7 @@ set_there [] n x less = absurd (omega (arith, less))
 set_there (y ∷ ys) zero x less = refl
 set_there (y ∷ ys) (suc n) x less = let below : n < length ys = omega (arith, less) in set_there ys n x below
 
-set_other : {X : Type 0} (xs : List X) (n k : ℕ) (x : X) → ¬ (k ≡ n) → slice_get (slice_set xs n x) k ≡ slice_get xs k
+pub set_other : {X : Type 0} (xs : List X) (n k : ℕ) (x : X) → ¬ (k ≡ n) → slice_get (slice_set xs n x) k ≡ slice_get xs k
 set_other [] n k x other = refl
 set_other (y ∷ ys) zero zero x other = absurd (other refl)
 set_other (y ∷ ys) zero (suc k) x other = refl

@@ -38,6 +38,6 @@ same_header disk cluster first disks other slots more as_many as_long = ap (λ (
 
 -- an image of a folder is lost
 pub lacks : (disk : ℕ) (config : Shape) (cluster : ℕ) (tellings : Tellings) (found : AnyFound) (disks : List FileState) (firsts : List ℕ) → IsEndlessOpened found config cluster disks → disk < config.disks
-    → ((fault : ImageFault) × (slice_get found disk ≡ Some (Err fault))) → AreFirsts found firsts → AreToldBy FileGives config.slots disk firsts tellings → LacksImage disk config cluster tellings
+    → ((fault : ImageFault) × (slice_get found disk ≡ Some (Err fault))) → AreFirsts found firsts → AreToldBy FileGives config.slots disk firsts disks tellings → LacksImage disk config cluster tellings
 lacks disk config cluster tellings found disks firsts opened among lost first told =
     record { found = found; disks = disks; firsts = firsts; opened = opened; among = among; fault = lost.0; lost = lost.1; first = first; told = told }

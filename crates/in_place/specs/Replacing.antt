@@ -58,16 +58,19 @@ Shows gives slots told old new = TellsRows gives slots told.rows old new × IsNe
 abbrev pub Tellings : Type 0
 Tellings = List (Option EpochsTold)
 
--- It was told by a disk that is not the lost one. In this epoch it takes part first.
-pub record IsToldBy {D : Type 0} (gives : D → Call → Answer → D → Type 0) (slots lost : ℕ) (firsts : List ℕ) (k : ℕ) (told : EpochsTold) : Type 0 where
+-- It was told by this disk, whose number is not the lost one's. In this epoch it takes part first.
+pub record IsToldBy {D : Type 0} (gives : D → Call → Answer → D → Type 0) (slots lost : ℕ) (firsts : List ℕ) (k : ℕ) (old : D) (told : EpochsTold) : Type 0 where
   pub other : k ≢ lost
   pub first : told.first ≡ slice_index firsts k
-  pub old : D
   pub new : D
   pub shows : Shows gives slots told old new
 
-abbrev pub AreToldBy : {D : Type 0} → (D → Call → Answer → D → Type 0) → (slots lost : ℕ) → (firsts : List ℕ) → Tellings → Type 0
-AreToldBy gives slots lost firsts tellings = (k : ℕ) (told : EpochsTold) → slice_get tellings k ≡ Some (Some told) → IsToldBy gives slots lost firsts k told
+-- by the one of these disks that has this number
+abbrev pub IsToldAmong : {D : Type 0} → (D → Call → Answer → D → Type 0) → (slots lost : ℕ) → (firsts : List ℕ) → (disks : List D) → (k : ℕ) → EpochsTold → Type 0
+IsToldAmong {D = D} gives slots lost firsts disks k told = (old : D) × (slice_get disks k ≡ Some old) × IsToldBy gives slots lost firsts k old told
+
+abbrev pub AreToldBy : {D : Type 0} → (D → Call → Answer → D → Type 0) → (slots lost : ℕ) → (firsts : List ℕ) → (disks : List D) → Tellings → Type 0
+AreToldBy gives slots lost firsts disks tellings = (k : ℕ) (told : EpochsTold) → slice_get tellings k ≡ Some (Some told) → IsToldAmong gives slots lost firsts disks k told
 
 -- FROM WHICH EPOCH ON
 
@@ -182,7 +185,7 @@ pub record LacksImage (disk : ℕ) (config : Shape) (cluster : ℕ) (tellings : 
   pub fault : ImageFault
   pub lost : slice_get found disk ≡ Some (Err fault)
   pub first : AreFirsts found firsts
-  pub told : AreToldBy FileGives config.slots disk firsts tellings
+  pub told : AreToldBy FileGives config.slots disk firsts disks tellings
 
 -- what the new image says of itself
 abbrev pub new_header : (disk : ℕ) → Shape → (cluster first : ℕ) → EndlessHeader

@@ -1,8 +1,11 @@
-ghost use Rattle.std.specs.Prelude.{◌≡◌, ◌⊎◌, ◌<◌, ◌≤◌, ℕ, List, IfOk, IfErr, OnOk};
+ghost use Rattle.std.specs.Prelude.{◌≡◌, ◌≢◌, ◌⊎◌, ◌<◌, ◌≤◌, ◌↔◌, ℕ, List, IfOk, IfErr, OnOk, min, if◌then◌else◌};
 ghost use Rattle.lock_command.specs.declared.number.TheConstants.{HOSTS};
+ghost use Rattle.torn_block.specs.Layout.{cluster_version};
+ghost use Rattle.paxos_block.specs.Headers.{IsFormatted};
 ghost use Rattle.endless_image.specs.Headers.{IsEndlessHeader};
 ghost use Rattle.endless_image.specs.Sizes.{size_of};
 ghost use Rattle.folders.specs.Folders.{IsLockFault};
+ghost use Rattle.folders.specs.Headers.{IsOld};
 ghost use Rattle.folders.specs.declared.fault.FolderFault.TheVariants.{NoMemory};
 ghost use Rattle.in_place.specs.InPlaceFolders.{AreLong, AreOwn, CameTo, HoldsAll, IsMakingFault, IsOfWholeSet, IsOwn, IsTooShort, MayNotMake, WereMadeEndless};
 ghost use Rattle.in_place.specs.declared.in_place_fault.InPlaceFault.TheVariants.{Folder, Lock, Renewed, TooFewSlots};
@@ -191,9 +194,19 @@ where
     let Ok(bytes) = first_bytes(&mut device) else {
         return Err(ImageFault::Unreadable);
     };
-    match found_in(disk, used_length(&device, told_size(&bytes)), &bytes) {
+    let size = device.size();
+    let is_device = device.is_block_device();
+    match found_in(
+        disk,
+        used_length(size, is_device, told_size(&bytes)),
+        &bytes,
+    ) {
         Some(progress) => Ok(progress),
-        None => Err(fault_in(disk, used_length(&device, length_in_header(&bytes)), &bytes)),
+        None => Err(fault_in(
+            disk,
+            used_length(size, is_device, length_in_header(&bytes)),
+            &bytes,
+        )),
     }
 }
 
@@ -205,16 +218,18 @@ fn is_file_or_device<R: Files>(files: &R, path: &str) -> bool {
 }
 
 /// How long an image is: of a file all, and of a block device as much as its first bytes tell.
-fn used_length<F: FileExt + OpenFile + Drop>(device: &FileDisk<F>, told: u64) -> u64 {
-    if device.is_block_device() {
-        told.min(device.size())
-    } else {
-        device.size()
-    }
+fn used_length(size: u64, is_device: bool, told: u64) -> u64
+    ensures { result ≡ (if is_device then min told size else size) }
+{
+    if is_device { told.min(size) } else { size }
 }
 
 /// Why an image that is none of these cannot be used.
-fn fault_in(disk: u8, long: u64, bytes: &[u8; HEADER_LENGTH]) -> ImageFault {
+fn fault_in(disk: u8, long: u64, bytes: &[u8; HEADER_LENGTH]) -> ImageFault
+    ensures not_formatted { (result ≡ ImageFault.NotFormatted) ↔ ((HEADER_LENGTH ≤ long) × ¬ IsFormatted bytes.now) }
+    ensures old_layout { (result ≡ ImageFault.OldLayout) ↔ IsOld cluster_version disk long bytes.now }
+    ensures readable { result ≢ ImageFault.Unreadable }
+{
     match image_header::<ClusterLayout>(disk, long, bytes) {
         Ok(_) => ImageFault::WrongHeader,
         Err(fault) => fault,

@@ -30,7 +30,7 @@ pub fn epochs_told<D: Disk>(
 ) -> [Option<EpochsTold>; DISKS as usize]
     requires few { length disks.old ≤ DISKS }
     requires large { (k : ℕ) (d : D) → slice_get disks.old k ≡ Some d → size_of slots ≤ (D.device d).size }
-    ensures { AreToldBy D.gives slots lost firsts.now result }
+    ensures { AreToldBy D.gives slots lost firsts.now disks.old result }
 {
     let mut told = [None; DISKS as usize];
     for disk in 0..disks.len() {
@@ -49,7 +49,7 @@ fn told_by<D: Disk>(
 ) -> Option<EpochsTold>
     requires few { disk < DISKS }
     requires large { size_of slots ≤ (D.device device.old).size }
-    ensures told { IfSome result (IsToldBy D.gives slots lost firsts.now disk) }
+    ensures told { IfSome result (IsToldBy D.gives slots lost firsts.now disk device.old) }
     ensures device { D.device device.new ≡ D.device device.old }
 {
     if disk == usize::from(lost) {

@@ -1,6 +1,6 @@
-use Rattle.std.proofs.Common.{◌≡◌, ◌<◌, ℕ, arith, subst, sym}
+use Rattle.std.proofs.Common.{◌≡◌, ◌<◌, ℕ, List, arith, rules, subst, sym}
 use Rattle.std.proofs.lemmas.Result.{IfErr-weaker, IfOk-weaker}
-use Rattle.disk.specs.FileStates.{FileGives}
+use Rattle.disk.specs.FileStates.{FileState, FileGives}
 use Rattle.in_place.specs.Replacing.{AreTooFew, AreToldBy, IsBy, IsDue, MayNotReplace}
 use Rattle.in_place.specs.declared.replace_fault.ReplaceFault.{ReplaceFault}
 use Rattle.in_place.specs.declared.replace_fault.ReplaceFault.TheVariants.{NoMajority}
@@ -12,7 +12,9 @@ returns-clause-due g c =
     let images = c.args.images in
     let told = c.epochs_told-told.result in
     let among : c.args.disk < images.config.disks = omega (arith, c.disks.ensures.value, c.if-disks-disk.false) in
-    let tells = subst (λ (n : ℕ). AreToldBy FileGives n c.args.disk c.first_epochs-firsts.result told) c.slots-slots.ensures.value c.epochs_told-told.ensures in
+    let same : c.deref_mut.result.now ≡ images.disks.items = search rules in
+    let given = subst (λ (n : ℕ). AreToldBy FileGives n c.args.disk c.first_epochs-firsts.result c.deref_mut.result.now told) c.slots-slots.ensures.value c.epochs_told-told.ensures in
+    let tells = subst (λ (disks : List FileState). AreToldBy FileGives images.config.slots c.args.disk c.first_epochs-firsts.result disks told) same given in
     IfOk-weaker c.image_by.result (IsBy c.args.disk images.config images.cluster told) (IsDue c.args.disk)
     (λ image by. (
       images.config,
@@ -28,7 +30,9 @@ returns-clause-fault g c =
     let images = c.args.images in
     let told = c.epochs_told-told.result in
     let among : c.args.disk < images.config.disks = omega (arith, c.disks.ensures.value, c.if-disks-disk.false) in
-    let tells = subst (λ (n : ℕ). AreToldBy FileGives n c.args.disk c.first_epochs-firsts.result told) c.slots-slots.ensures.value c.epochs_told-told.ensures in
+    let same : c.deref_mut.result.now ≡ images.disks.items = search rules in
+    let given = subst (λ (n : ℕ). AreToldBy FileGives n c.args.disk c.first_epochs-firsts.result c.deref_mut.result.now told) c.slots-slots.ensures.value c.epochs_told-told.ensures in
+    let tells = subst (λ (disks : List FileState). AreToldBy FileGives images.config.slots c.args.disk c.first_epochs-firsts.result disks told) same given in
     IfErr-weaker c.image_by.result (λ (fault : ReplaceFault). (fault ≡ NoMajority) × AreTooFew images.config.disks told) (MayNotReplace c.args.disk)
     (λ fault few.
     subst (MayNotReplace c.args.disk) (sym few.0) (
