@@ -1,0 +1,11 @@
+pub mod Coming
+pub mod Example
+pub mod Files
+pub mod Folders
+pub mod Going
+pub mod Headers
+pub mod Put
+pub mod Reading
+pub mod Steps
+pub mod Told
+pub mod Used

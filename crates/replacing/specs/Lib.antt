@@ -1,0 +1,5 @@
+pub mod ByTool
+pub mod Example
+pub mod Folders
+pub mod Headers
+pub mod Laws
