@@ -8,4 +8,5 @@ pub mod Sectors
 pub mod Seeing
 pub mod Serving
 pub mod Steps
+pub mod Undoing
 pub mod Writing

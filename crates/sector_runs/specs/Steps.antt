@@ -1,5 +1,5 @@
 -- What single touches of a device are to the disk of the model that it shows.
-use Rattle.std.specs.Prelude.{◌≡◌, ◌+◌, ◌*◌, ◌≤◌, ◌<◌, ◌^◌, ℕ, false, List, [], length, Some, slice_range}
+use Rattle.std.specs.Prelude.{◌≡◌, ◌⊎◌, ◌+◌, ◌*◌, ◌≤◌, ◌<◌, ◌^◌, ℕ, false, List, [], length, Some, slice_range}
 use Rattle.disk.specs.Disk.{DiskState, Torn, written, synced}
 use Rattle.disk.specs.Simulated.{fresh_disk}
 use Rattle.torn_block.specs.Layout.{cluster_version}
@@ -12,7 +12,7 @@ use Rattle.world.specs.Entry.{Filled}
 use Rattle.sectors.specs.declared.geometry.Geometry.{Geometry}
 use Rattle.sectors.specs.declared.header.TheConstants.{DEVICE_HEADER_LENGTH}
 use Rattle.sectors.specs.Geometry.{IsGeometry, slot_rows}
-use Rattle.sectors.specs.Moments.{Puts, Tries, Keeps}
+use Rattle.sectors.specs.Moments.{Puts, Tries, Keeps, changed}
 use Rattle.sectors.specs.Places.{place_of, IsSpot, RowOf, IsRow, image_row}
 use Rattle.sectors.specs.Row.{IsRowOf, sector_in}
 use Rattle.sectors.specs.Sector.{block_of, stamp_of, sector_with}
@@ -65,6 +65,12 @@ KeepsAreSyncs =
 abbrev pub RestartsLosePower : Type 0
 RestartsLosePower =
     (geometry : Geometry) (old new : Device) (disk : DiskState) → IsGeometry geometry → ShowsDisk geometry old disk → Restarts old new → ShowsNext geometry new (LosesPower disk)
+
+-- until a sync, a restart may undo a write, or make one that failed: the sector is as it was before that or as it was to be, and the others stay
+abbrev pub WritesMayBeUndone : Type 0
+WritesMayBeUndone =
+    (old new : Device) (s : ℕ) (bytes left : List ℕ) → GoesBy (Some (Puts s bytes)) old new ⊎ GoesBy (Some (Tries s bytes)) old new → (left ≡ old.now s) ⊎ (left ≡ bytes) →
+    (after : Device) × Restarts new after × (after.now ≡ changed s left new.now)
 
 -- a row of what all its sectors have at one moment is the model's read
 abbrev pub RowsAreReads : Type 0

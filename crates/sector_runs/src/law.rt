@@ -3,7 +3,7 @@ ghost use Rattle.sector_runs.specs.Made.{CallsCanBeServed};
 ghost use Rattle.sector_runs.specs.OneLog.{DevicesHaveOneLog};
 ghost use Rattle.sector_runs.specs.OverDevices.{DevicesMakeItAtOnce, DevicesServe};
 ghost use Rattle.sector_runs.specs.Owning.{HostsWriteTheirOwn};
-ghost use Rattle.sector_runs.specs.Steps.{BlankDevicesShow, KeepsAreSyncs, PutsAreWrites, RestartsLosePower, RowsAreReads, SectorsFollow, SectorsServe, TriesAreTorn};
+ghost use Rattle.sector_runs.specs.Steps.{BlankDevicesShow, KeepsAreSyncs, PutsAreWrites, RestartsLosePower, RowsAreReads, SectorsFollow, SectorsServe, TriesAreTorn, WritesMayBeUndone};
 
 /// What touches a device's sectors makes a step of the disk that it shows.
 pub fn touches_are_steps()
@@ -14,6 +14,8 @@ pub fn touches_are_steps()
     ensures syncs { KeepsAreSyncs }
     // A restart leaves of each sector what it had, or something that it has had since the last sync.
     ensures restarts { RestartsLosePower }
+    // So until a sync it may undo what was written, or make what failed.
+    ensures undone { WritesMayBeUndone }
     // All sectors of a row had these bytes at one moment.
     ensures reads { RowsAreReads }
     // A device that has served calls by its sectors has served them as a disk of the model.
