@@ -12,6 +12,10 @@ pub weaker : (P Q : Fault → Type 0) → ((fault : Fault) → P fault → Q fau
 weaker P Q each (Refused fault) so = each fault so
 weaker P Q each (Output error) so = tt
 
+-- this is the refusal, for what was found first
+pub found_fault : (found : Option Finding) → IsFound found → (fault : Fault) → (first : Finding) × (found ≡ Some first) × (fault ≡ of_finding first) → IsFoundFault fault
+found_fault found is fault (first, some, told) = (first, subst IsFound some is, told)
+
 -- the refusal is what was found first
 pub found_first : (found : Option Finding) → IsFound found → (fault : Fault) → (first : Finding) × (found ≡ Some first) × (fault ≡ of_finding first) → IsNotOpened fault ⊎ IsFoundFault fault
 found_first found is fault (first, some, told) = inr (first, subst IsFound some is, told)

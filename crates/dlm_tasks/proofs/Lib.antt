@@ -1,3 +1,4 @@
 pub mod Answering
 pub mod Checking
+pub mod Refusing
 pub mod Shown

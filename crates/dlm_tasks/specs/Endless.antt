@@ -13,7 +13,7 @@ use Rattle.epoch_host.specs.Leading.{LeadsTo}
 use Rattle.epoch_host.specs.declared.answer.EpochAnswer.{EpochAnswer}
 use Rattle.epoch_host.specs.declared.answer.EpochAnswer.TheVariants as epochs
 use Rattle.epoch_host.specs.declared.answer.EpochAnswer.TheVariants.{Recovered}
-use Rattle.epoch_host.specs.declared.task.EpochTask.TheVariants.{Look, Recover}
+use Rattle.epoch_host.specs.declared.task.EpochTask.TheVariants.{Look, Mark, Recover}
 use Rattle.epoch_images.specs.Marking.{RecoversAndMarks}
 use Rattle.epoch_images.specs.Tries.{HasTried}
 use Rattle.epoch_images.specs.Working.{HasWorked, Standing}
@@ -27,7 +27,8 @@ pub record HasBegun (number : ℕ) (looked : Standing FileState) : Type 0 where
   pub seen : Option EpochAnswer
   pub looks : HasWorked FileGives Look seen old looked
 
--- The command was submitted through a host over some disks, after a look. Its place in the log and the lock table's reply there were written.
+-- The command was submitted through a host over some disks, after a look. Its place in the log and the lock table's reply there were written. Then the place was
+-- marked, however that ended.
 pub record WritesEndlessAcknowledgement (tries : ℕ) (command : Command) (before after : Option (List ℕ)) : Type 0 where
   pub looked : Standing FileState
   pub new : Standing FileState
@@ -36,6 +37,9 @@ pub record WritesEndlessAcknowledgement (tries : ℕ) (command : Command) (befor
   pub begun : HasBegun command.host looked
   pub tried : HasTried FileGives command tries (Some (epochs.Ack place reply)) looked new
   pub written : Appends before after (answer_line (Ack place reply))
+  pub marked : Standing FileState
+  pub said : Option EpochAnswer
+  pub marks : HasWorked FileGives (Mark place) said new marked
 
 -- The log was recovered by a host over some disks, which looked first. How long it is was written, and the queues of the table that the host then has: by whatever it did, that of what its core learned.
 pub record WritesEndlessTable (tries number : ℕ) (before after : Option (List ℕ)) : Type 0 where

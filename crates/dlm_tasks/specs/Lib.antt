@@ -6,3 +6,4 @@ pub mod Faults
 pub mod Folders
 pub mod InPlace
 pub mod Printed
+pub mod Refusing

@@ -33,7 +33,7 @@ use Rattle.simulator.specs.Events.{event_of, events_of, opening_of}
 use Rattle.simulator.specs.Kept.{Kept, LeadsTo}
 use Rattle.fault_sweep.specs.Sweeping.{recovered_behind, variants}
 use Rattle.dlm_images.specs.Marking.{RecoversAndMarks}
-use Rattle.dlm_images.specs.Operations.{HasLooked, HasOperated, IsAcknowledged, Standing}
+use Rattle.dlm_images.specs.Operations.{HasLooked, HasMarked, HasOperated, IsAcknowledged, Standing}
 use Rattle.dlm_images.specs.Tries.{HasTried}
 use Rattle.folder_migration.specs.Filling.{Fills}
 use Rattle.folder_migration.specs.Migrating.{CameTo}
@@ -171,7 +171,7 @@ abbrev pub Begins : Command → Standing FileState → Type 0
 Begins command begun = HasSearched command false begun ⊎ (IsFresh command.host begun × ((looked : Standing FileState) × HasSearched command true looked))
 
 -- The command was submitted through a host over some disks, after a look. It is the last that the host then knows, and its slot and the lock table's reply were
--- written.
+-- written. Then the slot was marked, however that ended.
 pub record WritesAcknowledgement (tries : ℕ) (command : Command) (before after : Option (List ℕ)) : Type 0 where
   pub begun : Standing FileState
   pub new : Standing FileState
@@ -181,6 +181,8 @@ pub record WritesAcknowledgement (tries : ℕ) (command : Command) (before after
   pub tried : HasTried FileGives command tries begun new
   pub acknowledged : IsAcknowledged command slot reply new.core.prefix
   pub written : Appends before after (answer_line (Ack slot reply))
+  pub marked : Standing FileState
+  pub marks : HasMarked FileGives slot new marked
 
 -- The log was recovered by a host over some disks, which looked first. How much it has learned, and the queues of the lock table after that, was written.
 pub record WritesTable (tries number : ℕ) (before after : Option (List ℕ)) : Type 0 where

@@ -1,5 +1,7 @@
-ghost use Rattle.std.specs.Prelude.{OnOk};
+ghost use Rattle.std.specs.Prelude.{IfErr, OnOk};
 ghost use Rattle.dlm_tasks.specs.AnyRun.{HasRoom, WritesAnyScript};
+ghost use Rattle.dlm_tasks.specs.Faults.{IfRefused};
+ghost use Rattle.dlm_tasks.specs.Refusing.{IsNoMemory};
 
 use crate::command_failure::CommandFailure;
 use crate::run::run_script;
@@ -15,7 +17,8 @@ pub fn run_any_script<O: Write>(
     out: &mut O,
 ) -> Result<(), CommandFailure>
     requires { HasRoom script.now }
-    ensures { OnOk result (WritesAnyScript script.now (O.contents out.old) (O.contents out.new)) }
+    ensures written { OnOk result (WritesAnyScript script.now (O.contents out.old) (O.contents out.new)) }
+    ensures refused { IfErr result (λ failure. IfRefused failure IsNoMemory) }
 {
     match script {
         AnyScript::Ending(script) => run_script(alloc, script, out),

@@ -1,6 +1,8 @@
-ghost use Rattle.std.specs.Prelude.{OnOk};
+ghost use Rattle.std.specs.Prelude.{IfErr, OnOk};
 ghost use Rattle.dlm_tasks.specs.AnyRun.{HasRoom};
 ghost use Rattle.dlm_tasks.specs.AnySweep.{WritesAnySweep, WritesEpochSweep};
+ghost use Rattle.dlm_tasks.specs.Faults.{IfRefused};
+ghost use Rattle.dlm_tasks.specs.Refusing.{IsNotRight, IsNotSwept};
 
 use crate::command_failure::CommandFailure;
 use crate::fault::Fault;
@@ -18,7 +20,8 @@ pub fn sweep_any_script<O: Write>(
     out: &mut O,
 ) -> Result<(), CommandFailure>
     requires { HasRoom script.now }
-    ensures { OnOk result (WritesAnySweep script.now (O.contents out.old) (O.contents out.new)) }
+    ensures written { OnOk result (WritesAnySweep script.now (O.contents out.old) (O.contents out.new)) }
+    ensures refused { IfErr result (λ failure. IfRefused failure (λ fault. IsNotSwept script.now fault (O.contents out.old) (O.contents out.new))) }
 {
     match script {
         AnyScript::Ending(script) => print_sweep(alloc, script, out),
@@ -31,7 +34,8 @@ fn print_epoch_sweep<O: Write>(
     script: &EpochScript,
     out: &mut O,
 ) -> Result<(), CommandFailure>
-    ensures { OnOk result (WritesEpochSweep script.now (O.contents out.old) (O.contents out.new)) }
+    ensures written { OnOk result (WritesEpochSweep script.now (O.contents out.old) (O.contents out.new)) }
+    ensures refused { IfErr result (λ failure. IfRefused failure (λ fault. IsNotRight script.now fault (O.contents out.old) (O.contents out.new))) }
 {
     let swept = sweep_epochs(alloc, script).map_err(Fault::from)?;
     print_counts(swept.runs, swept.recovered, swept.wrong, out)?;

@@ -1,10 +1,12 @@
-ghost use Rattle.std.specs.Prelude.{◌≡◌, ℕ, true, IfOk, OnOk};
+ghost use Rattle.std.specs.Prelude.{◌≡◌, ℕ, true, IfErr, IfOk, OnOk};
 ghost use Rattle.lock_command.specs.Command.{is_submittable};
 ghost use Rattle.host.specs.Host.{fresh};
 ghost use Rattle.host.specs.Kept.{LeadsTo};
 ghost use Rattle.folder_migration.specs.Filling.{IsOver};
+ghost use Rattle.dlm_tasks.specs.Faults.{IfRefused};
 ghost use Rattle.dlm_tasks.specs.Printed as printed;
 ghost use Rattle.dlm_tasks.specs.Printed.{Begins, HasSearched, IsFresh, WritesAcknowledgement, WritesFilling, WritesMarks, WritesTable};
+ghost use Rattle.dlm_tasks.specs.Refusing.{IsNoMemory, IsNotFilled, IsNotMarked, IsNotReopened, IsNotShown, IsNotSubmitted, PrintsNothing, RefusesFilling, RefusesMarks, RefusesSubmission};
 
 use crate::command_failure::CommandFailure;
 use crate::fault::Fault;
@@ -37,7 +39,9 @@ pub fn submit<R: Files + Clock + RandomSource + AllocGlobal, O: Write>(
 where
     R::File: FileExt + OpenFile + Drop,
     requires { is_submittable command ≡ true }
-    ensures { OnOk result (WritesAcknowledgement TRIES command (O.contents out.old) (O.contents out.new)) }
+    ensures written { OnOk result (WritesAcknowledgement TRIES command (O.contents out.old) (O.contents out.new)) }
+    ensures refused { IfErr result (λ failure. IfRefused failure (IsNotSubmitted TRIES command)) }
+    ensures silent { IfErr result (λ failure. PrintsNothing failure (O.contents out.old) (O.contents out.new)) }
 {
     let mut over = started(images, rt.alloc(), command.host)?;
     submit_in(rt, folder, &mut over, command, out)
@@ -50,7 +54,9 @@ pub fn table<F: FileExt + OpenFile + Drop, O: Write>(
     host: HostNumber,
     out: &mut O,
 ) -> Result<(), CommandFailure>
-    ensures { OnOk result (WritesTable TRIES host (O.contents out.old) (O.contents out.new)) }
+    ensures written { OnOk result (WritesTable TRIES host (O.contents out.old) (O.contents out.new)) }
+    ensures refused { IfErr result (λ failure. IfRefused failure (IsNotShown TRIES host)) }
+    ensures silent { IfErr result (λ failure. PrintsNothing failure (O.contents out.old) (O.contents out.new)) }
 {
     let mut over = started(images, alloc, host)?;
     recover_table(alloc, &mut over, out)
@@ -63,7 +69,9 @@ pub fn mark<F: FileExt + OpenFile + Drop, O: Write>(
     host: HostNumber,
     out: &mut O,
 ) -> Result<(), CommandFailure>
-    ensures { OnOk result (WritesMarks TRIES host (O.contents out.old) (O.contents out.new)) }
+    ensures written { OnOk result (WritesMarks TRIES host (O.contents out.old) (O.contents out.new)) }
+    ensures refused { IfErr result (λ failure. IfRefused failure (IsNotMarked TRIES host)) }
+    ensures silent { IfErr result (λ failure. PrintsNothing failure (O.contents out.old) (O.contents out.new)) }
 {
     let mut over = started(images, alloc, host)?;
     mark_through(&mut over, out)
@@ -76,7 +84,9 @@ pub fn fill<R: Clock + RandomSource + AllocGlobal, F: FileExt + OpenFile + Drop,
     host: HostNumber,
     out: &mut O,
 ) -> Result<(), CommandFailure>
-    ensures { OnOk result (WritesFilling host (O.contents out.old) (O.contents out.new)) }
+    ensures written { OnOk result (WritesFilling host (O.contents out.old) (O.contents out.new)) }
+    ensures refused { IfErr result (λ failure. IfRefused failure (IsNotFilled host)) }
+    ensures silent { IfErr result (λ failure. PrintsNothing failure (O.contents out.old) (O.contents out.new)) }
 {
     let config = images.config;
     let mut over = started(images, rt.alloc(), host)?;
@@ -91,6 +101,7 @@ fn started<F: FileExt + OpenFile + Drop>(
 ) -> Result<DiskHost<FileDisk<F>>, Fault>
     ensures over { IfOk result (λ over. LeadsTo images.config host fresh over.core) }
     ensures fresh { IfOk result (λ over. IsFresh host over) }
+    ensures fault { IfErr result IsNoMemory }
 {
     let over = start_host(images, alloc, host)?;
     Ok(over)
@@ -105,6 +116,7 @@ fn host_in<R: Files + AllocGlobal>(
 where
     R::File: FileExt + OpenFile + Drop,
     ensures fresh { IfOk result (λ over. IsFresh host over) }
+    ensures fault { IfErr result IsNotReopened }
 {
     let images = open_folder(rt, folder)?;
     let over = started(images, rt.alloc(), host)?;
@@ -128,7 +140,9 @@ where
     R::File: FileExt + OpenFile + Drop,
     requires asked { is_submittable command ≡ true }
     requires fresh { IsFresh command.host host.old }
-    ensures { OnOk result (WritesAcknowledgement TRIES command (O.contents out.old) (O.contents out.new)) }
+    ensures written { OnOk result (WritesAcknowledgement TRIES command (O.contents out.old) (O.contents out.new)) }
+    ensures refused { IfErr result (λ failure. IfRefused failure (IsNotSubmitted TRIES command)) }
+    ensures silent { IfErr result (λ failure. PrintsNothing failure (O.contents out.old) (O.contents out.new)) }
 {
     if has_found(host, &command) {
         let mut other = host_in(rt, folder, command.host)?;
@@ -165,17 +179,15 @@ fn submit_through<R: Clock + RandomSource, F: FileExt + OpenFile + Drop, O: Writ
 ) -> Result<(), CommandFailure>
     requires asked { is_submittable command ≡ true }
     requires host { command.host ≡ host.old.core.learner.host }
-    ensures { OnOk result (Begins command host.old → WritesAcknowledgement TRIES command (O.contents out.old) (O.contents out.new)) }
+    ensures written { OnOk result (Begins command host.old → WritesAcknowledgement TRIES command (O.contents out.old) (O.contents out.new)) }
+    ensures refused { IfErr result (λ failure. IfRefused failure (λ fault. Begins command host.old → RefusesSubmission TRIES command fault)) }
+    ensures silent { IfErr result (λ failure. PrintsNothing failure (O.contents out.old) (O.contents out.new)) }
 {
-    match submit_patiently(rt, host, command, TRIES) {
-        Ok(done) => {
-            print_ack(u64::from(done.slot), done.reply, out)?;
-            // The command is in the log whether or not the marking succeeds.
-            let _ = host.mark(done.slot);
-            Ok(())
-        }
-        Err(refusal) => Err(CommandFailure::from(Fault::from(refusal))),
-    }
+    let done = submit_patiently(rt, host, command, TRIES)?;
+    print_ack(u64::from(done.slot), done.reply, out)?;
+    // The command is in the log whether or not the marking succeeds.
+    let _ = host.mark(done.slot);
+    Ok(())
 }
 
 fn recover_table<F: FileExt + OpenFile + Drop, O: Write>(
@@ -183,27 +195,30 @@ fn recover_table<F: FileExt + OpenFile + Drop, O: Write>(
     host: &mut DiskHost<FileDisk<F>>,
     out: &mut O,
 ) -> Result<(), CommandFailure>
-    ensures { OnOk result ((number : ℕ) → IsFresh number host.old → WritesTable TRIES number (O.contents out.old) (O.contents out.new)) }
+    ensures written { OnOk result ((number : ℕ) → IsFresh number host.old → WritesTable TRIES number (O.contents out.old) (O.contents out.new)) }
+    ensures refused { IfErr result (λ failure. IfRefused failure (λ fault. (number : ℕ) → IsFresh number host.old → IsNotShown TRIES number fault)) }
+    ensures silent { IfErr result (λ failure. PrintsNothing failure (O.contents out.old) (O.contents out.new)) }
 {
     let _ = host.look();
-    match host.recover(TRIES) {
-        Ok(length) => print_table(alloc, u64::from(length), host.table(), out),
-        Err(refusal) => Err(CommandFailure::from(Fault::from(refusal))),
-    }
+    let length = host.recover(TRIES)?;
+    print_table(alloc, u64::from(length), host.table(), out)
 }
 
 fn mark_through<F: FileExt + OpenFile + Drop, O: Write>(
     host: &mut DiskHost<FileDisk<F>>,
     out: &mut O,
 ) -> Result<(), CommandFailure>
-    ensures { OnOk result ((number : ℕ) → IsFresh number host.old → WritesMarks TRIES number (O.contents out.old) (O.contents out.new)) }
+    ensures written { OnOk result ((number : ℕ) → IsFresh number host.old → WritesMarks TRIES number (O.contents out.old) (O.contents out.new)) }
+    ensures refused { IfErr result (λ failure. IfRefused failure (λ fault. (number : ℕ) → IsFresh number host.old → RefusesMarks TRIES number fault)) }
+    ensures silent { IfErr result (λ failure. PrintsNothing failure (O.contents out.old) (O.contents out.new)) }
 {
     // A slot that the look learns from a mark need not be marked again.
     let _ = host.look();
-    match host.recover_and_mark(TRIES) {
-        Ok(log) => print_marked(u64::from(log.length), u64::from(log.marked), out),
-        Err(refusal) => Err(CommandFailure::from(Fault::from(refusal))),
-    }
+    let log = host.recover_and_mark(TRIES)?;
+    let length = u64::from(log.length);
+    let marked = u64::from(log.marked);
+    print_marked(length, marked, out)?;
+    Ok(())
 }
 
 fn fill_through<R: Clock + RandomSource + AllocGlobal, F: FileExt + OpenFile + Drop, O: Write>(
@@ -213,11 +228,12 @@ fn fill_through<R: Clock + RandomSource + AllocGlobal, F: FileExt + OpenFile + D
     out: &mut O,
 ) -> Result<(), CommandFailure>
     requires { IsOver config host.old }
-    ensures { OnOk result ((number : ℕ) → LeadsTo config number fresh host.old.core → WritesFilling number (O.contents out.old) (O.contents out.new)) }
+    ensures written { OnOk result ((number : ℕ) → LeadsTo config number fresh host.old.core → WritesFilling number (O.contents out.old) (O.contents out.new)) }
+    ensures refused { IfErr result (λ failure. IfRefused failure (λ fault. (number : ℕ) → LeadsTo config number fresh host.old.core → RefusesFilling number fault)) }
+    ensures silent { IfErr result (λ failure. PrintsNothing failure (O.contents out.old) (O.contents out.new)) }
 {
     let _ = host.look();
-    match fill_log(rt, rt.alloc(), host, config) {
-        Ok(count) => print_filled(count, out),
-        Err(fault) => Err(CommandFailure::from(Fault::from(fault))),
-    }
+    let count = fill_log(rt, rt.alloc(), host, config)?;
+    print_filled(count, out)?;
+    Ok(())
 }

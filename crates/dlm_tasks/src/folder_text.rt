@@ -1,7 +1,9 @@
-ghost use Rattle.std.specs.Prelude.{OnOk};
+ghost use Rattle.std.specs.Prelude.{IfErr, OnOk};
 ghost use Rattle.std.specs.Io.KnownBytes.{Appends};
 ghost use Rattle.host.specs.declared.answer.HostAnswer.TheVariants.{Ack};
+ghost use Rattle.dlm_tasks.specs.Faults.{IfRefused};
 ghost use Rattle.dlm_tasks.specs.Printed.{answer_line, filled_text, formatted_text, marked_text, moved_text, renewed_text, sound_text, table_text};
+ghost use Rattle.dlm_tasks.specs.Refusing.{IsNoMemory, PrintsNothing};
 
 use crate::command_failure::CommandFailure;
 use crate::fault::Fault;
@@ -29,23 +31,21 @@ pub fn print_formatted<O: Write>(kind: Kind, config: Config, out: &mut O) -> io:
 }
 
 /// Where a command stands in the log, and what the lock table replied to it there.
-pub fn print_ack<O: Write>(place: u64, reply: Reply, out: &mut O) -> Result<(), CommandFailure>
+pub fn print_ack<O: Write>(place: u64, reply: Reply, out: &mut O) -> io::Result<()>
     ensures { OnOk result (Appends (O.contents out.old) (O.contents out.new) (answer_line (Ack place reply))) }
 {
     let reply = ReplyText(reply);
     writeln!(out, "ack {place} {reply}")?;
-    out.flush()?;
-    Ok(())
+    out.flush()
 }
 
 /// How much of the log was recovered, and how many of its slots were marked then.
-pub fn print_marked<O: Write>(length: u64, marked: u64, out: &mut O) -> Result<(), CommandFailure>
+pub fn print_marked<O: Write>(length: u64, marked: u64, out: &mut O) -> io::Result<()>
     ensures { OnOk result (Appends (O.contents out.old) (O.contents out.new) (marked_text length marked)) }
 {
     writeln!(out, "recovered {length}")?;
     writeln!(out, "marked {marked} slots")?;
-    out.flush()?;
-    Ok(())
+    out.flush()
 }
 
 /// How much of the log was recovered, and the lock table after it.
@@ -55,7 +55,9 @@ pub fn print_table<O: Write>(
     table: &Table,
     out: &mut O,
 ) -> Result<(), CommandFailure>
-    ensures { OnOk result (Appends (O.contents out.old) (O.contents out.new) (table_text length table.now)) }
+    ensures written { OnOk result (Appends (O.contents out.old) (O.contents out.new) (table_text length table.now)) }
+    ensures refused { IfErr result (λ failure. IfRefused failure IsNoMemory) }
+    ensures silent { IfErr result (λ failure. PrintsNothing failure (O.contents out.old) (O.contents out.new)) }
 {
     let picture = table.picture(alloc).map_err(Fault::from)?;
     writeln!(out, "recovered {length}")?;
@@ -64,12 +66,11 @@ pub fn print_table<O: Write>(
     Ok(())
 }
 
-pub fn print_filled<O: Write>(count: u16, out: &mut O) -> Result<(), CommandFailure>
+pub fn print_filled<O: Write>(count: u16, out: &mut O) -> io::Result<()>
     ensures { OnOk result (Appends (O.contents out.old) (O.contents out.new) (filled_text count)) }
 {
     writeln!(out, "filled {count} slots")?;
-    out.flush()?;
-    Ok(())
+    out.flush()
 }
 
 pub fn print_moved<O: Write>(moved: Moved, slots: SlotCount, out: &mut O) -> io::Result<()>

@@ -2,11 +2,14 @@ ghost use Rattle.std.specs.Prelude.{◌≡◌, ◌⊎◌, true, None, Some, IfEr
 ghost use Rattle.std.specs.Io.KnownBytes.{Appends};
 ghost use Rattle.lock_command.specs.Command.{is_submittable};
 ghost use Rattle.endless_image.specs.Kinds.{IsSlotsBy};
+ghost use Rattle.folder_migration.specs.Migrating.{MayFail};
+ghost use Rattle.folder_migration.specs.RenewingFolders.{MayNotRenew};
 ghost use Rattle.log_folders.specs.LogFolders.{IsLogOpened};
 ghost use Rattle.dlm_tasks.specs.Checking.{EndsIn, IsFound, IsFoundFault, IsNotOpened};
-ghost use Rattle.dlm_tasks.specs.Faults.{IfRefused, of_finding};
+ghost use Rattle.dlm_tasks.specs.Faults.{IfRefused, IsOf, of_finding, of_move, of_renewal};
 ghost use Rattle.dlm_tasks.specs.Folders.{MakesImages, WritesAck, WritesLog, WritesMarked};
 ghost use Rattle.dlm_tasks.specs.Printed.{WritesFilling, WritesMove, WritesRenewal, formatted_text, sound_text};
+ghost use Rattle.dlm_tasks.specs.Refusing.{IsNotLocked, IsNotMade, MayNotFill, MayNotMark, MayNotShow, MayNotSubmit, PrintsNothing};
 
 use crate::command_failure::CommandFailure;
 use crate::fault::Fault;
@@ -24,6 +27,7 @@ use paxos_block::SlotCount;
 use std::fs::OpenFile;
 use std::io::Write;
 use std::os::unix::fs::FileExt;
+use std::path::PathBuf;
 use std::random::RandomSource;
 use std::rt::Files;
 use std::time::Clock;
@@ -45,6 +49,8 @@ where
     requires { IsSlotsBy kind config.slots }
     ensures laid_out { OnOk result (MakesImages kind config cluster) }
     ensures prints { OnOk result (Appends (O.contents out.old) (O.contents out.new) (formatted_text kind config)) }
+    ensures refused { IfErr result (λ failure. IfRefused failure (IsNotMade config.disks)) }
+    ensures silent { IfErr result (λ failure. PrintsNothing failure (O.contents out.old) (O.contents out.new)) }
 {
     make_images(rt, folder, kind, config, cluster)?;
     print_formatted(kind, config, out)?;
@@ -63,10 +69,12 @@ pub fn submit<R: Files + Clock + RandomSource + AllocGlobal, O: Write>(
 where
     R::File: FileExt + OpenFile + TryLock + Drop,
     requires { is_submittable command ≡ true }
-    ensures { OnOk result (WritesAck TRIES command (O.contents out.old) (O.contents out.new)) }
+    ensures written { OnOk result (WritesAck TRIES command (O.contents out.old) (O.contents out.new)) }
+    ensures refused { IfErr result (λ failure. IfRefused failure (MayNotSubmit R.File.held TRIES command)) }
+    ensures silent { IfErr result (λ failure. PrintsNothing failure (O.contents out.old) (O.contents out.new)) }
+    ensures locked { OnOk result ((file : _) × R.File.locked file) }
 {
-    let folder = find_folder(rt, folder).map_err(Fault::from)?;
-    let (images, _lock) = locked_log(rt, folder.as_str(), command.host)?;
+    let (folder, images, _lock) = locked_log(rt, folder, command.host)?;
     match images {
         LogFolder::Ending(images) => ending::submit(rt, folder.as_str(), images, command, out),
         LogFolder::Endless(images) => without_end::submit(rt, images, command, out),
@@ -82,10 +90,12 @@ pub fn table<R: Files + AllocGlobal, O: Write>(
 ) -> Result<(), CommandFailure>
 where
     R::File: FileExt + OpenFile + TryLock + Drop,
-    ensures { OnOk result (WritesLog TRIES host (O.contents out.old) (O.contents out.new)) }
+    ensures written { OnOk result (WritesLog TRIES host (O.contents out.old) (O.contents out.new)) }
+    ensures refused { IfErr result (λ failure. IfRefused failure (MayNotShow R.File.held TRIES host)) }
+    ensures silent { IfErr result (λ failure. PrintsNothing failure (O.contents out.old) (O.contents out.new)) }
+    ensures locked { OnOk result ((file : _) × R.File.locked file) }
 {
-    let folder = find_folder(rt, folder).map_err(Fault::from)?;
-    let (images, _lock) = locked_log(rt, folder.as_str(), host)?;
+    let (_folder, images, _lock) = locked_log(rt, folder, host)?;
     match images {
         LogFolder::Ending(images) => ending::table(rt.alloc(), images, host, out),
         LogFolder::Endless(images) => without_end::table(rt.alloc(), images, host, out),
@@ -102,10 +112,12 @@ pub fn mark<R: Files + AllocGlobal, O: Write>(
 ) -> Result<(), CommandFailure>
 where
     R::File: FileExt + OpenFile + TryLock + Drop,
-    ensures { OnOk result (WritesMarked TRIES host (O.contents out.old) (O.contents out.new)) }
+    ensures written { OnOk result (WritesMarked TRIES host (O.contents out.old) (O.contents out.new)) }
+    ensures refused { IfErr result (λ failure. IfRefused failure (MayNotMark R.File.held TRIES host)) }
+    ensures silent { IfErr result (λ failure. PrintsNothing failure (O.contents out.old) (O.contents out.new)) }
+    ensures locked { OnOk result ((file : _) × R.File.locked file) }
 {
-    let folder = find_folder(rt, folder).map_err(Fault::from)?;
-    let (images, _lock) = locked_log(rt, folder.as_str(), host)?;
+    let (_folder, images, _lock) = locked_log(rt, folder, host)?;
     match images {
         LogFolder::Ending(images) => ending::mark(rt.alloc(), images, host, out),
         LogFolder::Endless(images) => without_end::mark(rt.alloc(), images, host, out),
@@ -123,6 +135,8 @@ where
     // `sound` stands at the end only where nothing was found.
     ensures sound { OnOk result (IsFound None × EndsIn sound_text (O.contents out.new)) }
     ensures refused { IfErr result (λ failure. IfRefused failure (λ fault. IsNotOpened fault ⊎ IsFoundFault fault)) }
+    // Where nothing was found, nothing is printed.
+    ensures silent { IfErr result (λ failure. IfRefused failure (λ fault. IsFoundFault fault ⊎ (O.contents out.new ≡ O.contents out.old))) }
 {
     let found = print_findings(rt, folder, out)?;
     tell_found(found, out)
@@ -138,7 +152,9 @@ pub fn migrate<R: Files + AllocGlobal, O: Write>(
 ) -> Result<(), CommandFailure>
 where
     R::File: FileExt + OpenFile + TryLock + Drop,
-    ensures { OnOk result (WritesMove slots (O.contents out.old) (O.contents out.new)) }
+    ensures written { OnOk result (WritesMove slots (O.contents out.old) (O.contents out.new)) }
+    ensures refused { IfErr result (λ failure. IfRefused failure (IsOf (MayFail slots) of_move)) }
+    ensures silent { IfErr result (λ failure. PrintsNothing failure (O.contents out.old) (O.contents out.new)) }
 {
     let moved = migrate_folder(rt, old, new, slots).map_err(Fault::from)?;
     print_moved(moved, slots, out)?;
@@ -155,7 +171,10 @@ pub fn fill<R: Files + Clock + RandomSource + AllocGlobal, O: Write>(
 ) -> Result<(), CommandFailure>
 where
     R::File: FileExt + OpenFile + TryLock + Drop,
-    ensures { OnOk result (WritesFilling host (O.contents out.old) (O.contents out.new)) }
+    ensures written { OnOk result (WritesFilling host (O.contents out.old) (O.contents out.new)) }
+    ensures refused { IfErr result (λ failure. IfRefused failure (MayNotFill R.File.held host)) }
+    ensures silent { IfErr result (λ failure. PrintsNothing failure (O.contents out.old) (O.contents out.new)) }
+    ensures locked { OnOk result ((file : _) × R.File.locked file) }
 {
     let (images, _lock) = locked_folder(rt, folder, host)?;
     ending::fill(rt, images, host, out)
@@ -174,7 +193,9 @@ pub fn renew<R: Files + AllocGlobal, O: Write>(
 ) -> Result<(), CommandFailure>
 where
     R::File: FileExt + OpenFile + TryLock + Drop,
-    ensures { OnOk result (WritesRenewal host config cluster leave.now (O.contents out.old) (O.contents out.new)) }
+    ensures written { OnOk result (WritesRenewal host config cluster leave.now (O.contents out.old) (O.contents out.new)) }
+    ensures refused { IfErr result (λ failure. IfRefused failure (IsOf (MayNotRenew host config cluster leave.now) of_renewal)) }
+    ensures silent { IfErr result (λ failure. PrintsNothing failure (O.contents out.old) (O.contents out.new)) }
 {
     let renewed = renew_folder(rt, old, host, new, config, cluster, leave).map_err(Fault::from)?;
     print_renewed(renewed, config, out)?;
@@ -193,7 +214,8 @@ fn make_images<R: Files + AllocGlobal>(
 where
     R::File: FileExt + OpenFile + Drop,
     requires { IsSlotsBy kind config.slots }
-    ensures { OnOk result (MakesImages kind config cluster) }
+    ensures laid_out { OnOk result (MakesImages kind config cluster) }
+    ensures fault { IfErr result (IsNotMade config.disks) }
 {
     let Some(set) = NewSet::new(kind, config, cluster) else {
         unreachable!()
@@ -203,19 +225,21 @@ where
     Ok(())
 }
 
-/// The images of a folder that was found, with either kind of log, and the file that keeps a host's number locked.
+/// A folder's own path, its images, with either kind of log, and the file that keeps a host's number locked.
 fn locked_log<R: Files + AllocGlobal>(
     rt: &R,
     folder: &str,
     host: HostNumber,
-) -> Result<(LogFolder<R::File>, R::File), Fault>
+) -> Result<(PathBuf, LogFolder<R::File>, R::File), Fault>
 where
     R::File: FileExt + OpenFile + TryLock + Drop,
-    ensures locked { IfOk result (λ log. R.File.locked log.1) }
+    ensures locked { IfOk result (λ log. R.File.locked log.2) }
+    ensures fault { IfErr result (IsNotLocked R.File.held host) }
 {
-    let images = open_log(rt, folder, Access::ReadAndWrite)?;
-    let lock = lock_host(rt, folder, host)?;
-    Ok((images, lock))
+    let folder = find_folder(rt, folder)?;
+    let images = open_log(rt, folder.as_str(), Access::ReadAndWrite)?;
+    let lock = lock_host(rt, folder.as_str(), host)?;
+    Ok((folder, images, lock))
 }
 
 /// The images of a folder with a log that ends, and the file that keeps a host's number locked.
@@ -227,6 +251,7 @@ fn locked_folder<R: Files + AllocGlobal>(
 where
     R::File: FileExt + OpenFile + TryLock + Drop,
     ensures locked { IfOk result (λ log. R.File.locked log.1) }
+    ensures fault { IfErr result (IsNotLocked R.File.held host) }
 {
     let folder = find_folder(rt, folder)?;
     let images = open_folder(rt, folder.as_str())?;
@@ -244,6 +269,7 @@ where
     R::File: FileExt + OpenFile + Drop,
     ensures found { IfOk result IsFound }
     ensures refused { IfErr result (λ failure. IfRefused failure IsNotOpened) }
+    ensures silent { IfErr result (λ failure. PrintsNothing failure (O.contents out.old) (O.contents out.new)) }
 {
     match opened_to_read(rt, folder)? {
         LogFolder::Ending(mut images) => Ok(check_folder(&mut images, out)?),

@@ -1,6 +1,9 @@
-ghost use Rattle.std.specs.Prelude.{OnOk};
+ghost use Rattle.std.specs.Prelude.{IfErr, OnOk};
 ghost use Rattle.std.specs.Io.KnownBytes.{Appends};
+ghost use Rattle.in_place.specs.InPlaceFolders.{MayNotMake};
+ghost use Rattle.dlm_tasks.specs.Faults.{IfRefused, IsOf, of_in_place};
 ghost use Rattle.dlm_tasks.specs.InPlace.{WritesMaking, made_text};
+ghost use Rattle.dlm_tasks.specs.Refusing.{PrintsNothing};
 
 use crate::command_failure::CommandFailure;
 use crate::fault::Fault;
@@ -20,7 +23,9 @@ pub fn make_endless<R: Files + AllocGlobal, O: Write>(
 ) -> Result<(), CommandFailure>
 where
     R::File: FileExt + OpenFile + TryLock + Drop,
-    ensures { OnOk result (WritesMaking (O.contents out.old) (O.contents out.new)) }
+    ensures written { OnOk result (WritesMaking (O.contents out.old) (O.contents out.new)) }
+    ensures refused { IfErr result (λ failure. IfRefused failure (IsOf MayNotMake of_in_place)) }
+    ensures silent { IfErr result (λ failure. PrintsNothing failure (O.contents out.old) (O.contents out.new)) }
 {
     let made = make_folder_endless(rt, folder).map_err(Fault::from)?;
     print_made(made, out)?;

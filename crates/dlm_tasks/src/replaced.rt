@@ -3,6 +3,7 @@ ghost use Rattle.std.specs.Io.KnownBytes.{Appends};
 ghost use Rattle.in_place.specs.Replacing.{MayNotReplace};
 ghost use Rattle.dlm_tasks.specs.Faults.{IfRefused, IsOf, of_replacing};
 ghost use Rattle.dlm_tasks.specs.InPlace.{WritesReplacing, replaced_text};
+ghost use Rattle.dlm_tasks.specs.Refusing.{PrintsNothing};
 
 use crate::command_failure::CommandFailure;
 use crate::fault::Fault;
@@ -25,6 +26,7 @@ where
     R::File: FileExt + OpenFile + TryLock + Drop,
     ensures written { OnOk result (WritesReplacing disk (O.contents out.old) (O.contents out.new)) }
     ensures refused { IfErr result (λ failure. IfRefused failure (IsOf (MayNotReplace disk) of_replacing)) }
+    ensures silent { IfErr result (λ failure. PrintsNothing failure (O.contents out.old) (O.contents out.new)) }
 {
     let first = replace_disk(rt, folder, disk).map_err(Fault::from)?;
     print_replaced(disk, first, out)?;

@@ -1,10 +1,12 @@
-ghost use Rattle.std.specs.Prelude.{◌≤◌, ◌<◌, ◌+◌, ℕ, List, [], Some, None, IfOk, OnOk, length, replicate, slice_index_or};
+ghost use Rattle.std.specs.Prelude.{◌≤◌, ◌<◌, ◌+◌, ℕ, List, [], Some, None, IfErr, IfOk, OnOk, length, replicate, slice_index_or};
 ghost use Rattle.std.specs.Io.KnownBytes.{Appends};
 ghost use Rattle.world.specs.Entry.{Filled};
 ghost use Rattle.world.specs.Happens.{Step};
 ghost use Rattle.simulator.specs.Events.{event_of, events_of, lines_of};
 ghost use Rattle.simulator.specs.Kept.{LeadsTo};
+ghost use Rattle.dlm_tasks.specs.Faults.{IfRefused};
 ghost use Rattle.dlm_tasks.specs.Printed.{WritesAnswer, WritesAnswers, WritesPart, WritesScript, WritesText, IsFrom, IsShowOf, IsViewOf, blocking_text, lines_text, stopped_line};
+ghost use Rattle.dlm_tasks.specs.Refusing.{IsNoMemory};
 
 use crate::command_failure::CommandFailure;
 use crate::fault::Fault;
@@ -25,7 +27,8 @@ pub fn run_script<O: Write>(
     out: &mut O,
 ) -> Result<(), CommandFailure>
     requires { length script.now.log.items ≤ script.now.config.slots }
-    ensures { OnOk result (WritesScript script.now (O.contents out.old) (O.contents out.new)) }
+    ensures written { OnOk result (WritesScript script.now (O.contents out.old) (O.contents out.new)) }
+    ensures refused { IfErr result (λ failure. IfRefused failure IsNoMemory) }
 {
     let mut cluster = SimulatedCluster::migrated(alloc, script.config, &script.log).map_err(
         Fault::from,
@@ -40,8 +43,9 @@ fn happen_all<O: Write>(
     script: &Script,
     out: &mut O,
 ) -> Result<(), CommandFailure>
-    ensures { OnOk result ((log : List Filled) → LeadsTo log cluster.old →
+    ensures written { OnOk result ((log : List Filled) → LeadsTo log cluster.old →
         WritesText cluster.old.shape log 0 (events_of script.now.events) script.now.shows.items (O.contents out.old) (O.contents out.new)) }
+    ensures refused { IfErr result (λ failure. IfRefused failure IsNoMemory) }
 {
     let mut shows = script.shows.as_slice();
     let mut place = 0;
@@ -63,8 +67,9 @@ fn happen_run<'a, O: Write>(
     out: &mut O,
 ) -> Result<&'a [Show], CommandFailure>
     requires { first + run.now.times ≤ MOST_EVENTS }
-    ensures { IfOk result (λ left. (log : List Filled) → LeadsTo log cluster.old →
+    ensures written { IfOk result (λ left. (log : List Filled) → LeadsTo log cluster.old →
         WritesPart log (replicate run.now.times (event_of run.now.event)) first shows.now left.now cluster.old cluster.new (O.contents out.old) (O.contents out.new)) }
+    ensures refused { IfErr result (λ failure. IfRefused failure IsNoMemory) }
 {
     let mut made = 0;
     while made < run.times {
@@ -99,8 +104,9 @@ fn repeat<O: Write>(
     out: &mut O,
 ) -> Result<(), CommandFailure>
     requires { first + times ≤ MOST_EVENTS }
-    ensures { OnOk result ((log : List Filled) → LeadsTo log cluster.old →
+    ensures written { OnOk result ((log : List Filled) → LeadsTo log cluster.old →
         WritesAnswers log (replicate times (event_of event.now)) first cluster.old cluster.new (O.contents out.old) (O.contents out.new)) }
+    ensures refused { IfErr result (λ failure. IfRefused failure IsNoMemory) }
 {
     match event {
         Event::Step(host) => repeat_steps(cluster, first, *host, times, out),
@@ -118,8 +124,9 @@ fn repeat_event<O: Write>(
     out: &mut O,
 ) -> Result<(), CommandFailure>
     requires { first + times ≤ MOST_EVENTS }
-    ensures { OnOk result ((log : List Filled) → LeadsTo log cluster.old →
+    ensures written { OnOk result ((log : List Filled) → LeadsTo log cluster.old →
         WritesAnswers log (replicate times (event_of event.now)) first cluster.old cluster.new (O.contents out.old) (O.contents out.new)) }
+    ensures refused { IfErr result (λ failure. IfRefused failure IsNoMemory) }
 {
     for place in first..first + times {
         happen(alloc, cluster, place, event, out)?;
@@ -136,8 +143,9 @@ fn repeat_steps<O: Write>(
     out: &mut O,
 ) -> Result<(), CommandFailure>
     requires { first + times ≤ MOST_EVENTS }
-    ensures { OnOk result ((log : List Filled) → LeadsTo log cluster.old →
+    ensures written { OnOk result ((log : List Filled) → LeadsTo log cluster.old →
         WritesAnswers log (replicate times (Step host)) first cluster.old cluster.new (O.contents out.old) (O.contents out.new)) }
+    ensures refused { IfErr result (λ failure. IfRefused failure IsNoMemory) }
 {
     let mut made = 0;
     while made < times {
@@ -160,6 +168,7 @@ fn happen_steps<O: Write>(
     ensures made { IfOk result (λ made. (1 ≤ made) × (made ≤ most)) }
     ensures written { IfOk result (λ made. (log : List Filled) → LeadsTo log cluster.old →
         WritesAnswers log (replicate made (Step host)) first cluster.old cluster.new (O.contents out.old) (O.contents out.new)) }
+    ensures refused { IfErr result (λ failure. IfRefused failure IsNoMemory) }
 {
     let (made, said) = cluster.steps(host, most);
     if let Some(said) = said {
@@ -176,8 +185,9 @@ fn happen<O: Write>(
     event: &Event,
     out: &mut O,
 ) -> Result<(), CommandFailure>
-    ensures { OnOk result ((log : List Filled) → LeadsTo log cluster.old →
+    ensures written { OnOk result ((log : List Filled) → LeadsTo log cluster.old →
         WritesAnswer log event.now place cluster.old cluster.new (O.contents out.old) (O.contents out.new)) }
+    ensures refused { IfErr result (λ failure. IfRefused failure IsNoMemory) }
 {
     if let Some(said) = cluster.event(alloc, event).map_err(Fault::from)? {
         tell(place, &said, out)?;
@@ -205,6 +215,7 @@ fn show_due<'a, O: Write>(
     ensures written { IfOk result (λ left. (log : List Filled) → LeadsTo log cluster.now →
         WritesPart log [] place shows.now left.now cluster.now cluster.now (O.contents out.old) (O.contents out.new)) }
     ensures ahead { IfOk result (λ left. IsFrom (place + 1) left.now) }
+    ensures refused { IfErr result (λ failure. IfRefused failure IsNoMemory) }
 {
     while let Some((show, later)) = shows.split_first() {
         if show.place > place {
@@ -223,8 +234,9 @@ fn show_all<O: Write>(
     shows: &[Show],
     out: &mut O,
 ) -> Result<(), CommandFailure>
-    ensures { OnOk result ((log : List Filled) (place : ℕ) → LeadsTo log cluster.now →
+    ensures written { OnOk result ((log : List Filled) (place : ℕ) → LeadsTo log cluster.now →
         WritesText cluster.now.shape log place [] shows.now (O.contents out.old) (O.contents out.new)) }
+    ensures refused { IfErr result (λ failure. IfRefused failure IsNoMemory) }
 {
     for show in shows {
         show_host(alloc, cluster, show, out)?;
@@ -239,8 +251,9 @@ fn show_host<O: Write>(
     show: &Show,
     out: &mut O,
 ) -> Result<(), CommandFailure>
-    ensures { OnOk result ((text : List ℕ) × IsShowOf show.now (slice_index_or cluster.now.hosts show.now.host None) text
+    ensures written { OnOk result ((text : List ℕ) × IsShowOf show.now (slice_index_or cluster.now.hosts show.now.host None) text
         × Appends (O.contents out.old) (O.contents out.new) text) }
+    ensures refused { IfErr result (λ failure. IfRefused failure IsNoMemory) }
 {
     let host = show.host.get();
     match cluster.host(host) {

@@ -1,6 +1,8 @@
-ghost use Rattle.std.specs.Prelude.{◌≤◌, OnOk, length};
+ghost use Rattle.std.specs.Prelude.{◌≤◌, IfErr, OnOk, length};
 ghost use Rattle.std.specs.Io.KnownBytes.{Appends};
+ghost use Rattle.dlm_tasks.specs.Faults.{IfRefused};
 ghost use Rattle.dlm_tasks.specs.Printed.{counts_text, sweep_text};
+ghost use Rattle.dlm_tasks.specs.Refusing.{IsUntold};
 
 use crate::command_failure::CommandFailure;
 use crate::fault::Fault;
@@ -18,7 +20,8 @@ pub fn print_sweep<O: Write>(
     out: &mut O,
 ) -> Result<(), CommandFailure>
     requires { length script.now.log.items ≤ script.now.config.slots }
-    ensures { OnOk result (Appends (O.contents out.old) (O.contents out.new) (sweep_text script.now)) }
+    ensures written { OnOk result (Appends (O.contents out.old) (O.contents out.new) (sweep_text script.now)) }
+    ensures refused { IfErr result (λ failure. IfRefused failure (λ fault. IsUntold fault (O.contents out.old) (O.contents out.new))) }
 {
     let swept = sweep(alloc, script).map_err(Fault::from)?;
     print_counts(swept.runs, swept.recovered, swept.wrong, out)?;

@@ -1,13 +1,14 @@
-ghost use Rattle.std.specs.Prelude.{◌≡◌, ℕ, true, Option, OnOk};
+ghost use Rattle.std.specs.Prelude.{◌≡◌, ℕ, true, Option, IfErr, OnOk};
 ghost use Rattle.disk.specs.FileStates.{FileGives};
 ghost use Rattle.lock_command.specs.Command.{is_submittable};
 ghost use Rattle.epoch_host.specs.declared.answer.EpochAnswer.{EpochAnswer};
 ghost use Rattle.epoch_host.specs.declared.task.EpochTask.TheVariants.{Look};
 ghost use Rattle.epoch_images.specs.Working.{HasWorked};
 ghost use Rattle.dlm_tasks.specs.Endless.{HasBegun, WritesEndlessAcknowledgement, WritesEndlessMarks, WritesEndlessTable};
+ghost use Rattle.dlm_tasks.specs.Faults.{IfRefused};
+ghost use Rattle.dlm_tasks.specs.Refusing.{IsEndlessNotShown, PrintsNothing, RefusesEndlessRecovery, RefusesEndlessSubmission};
 
 use crate::command_failure::CommandFailure;
-use crate::fault::Fault;
 use crate::folder_text::{print_ack, print_marked, print_table};
 use crate::images::TRIES;
 use disk::FileDisk;
@@ -32,7 +33,9 @@ pub fn submit<R: Clock + RandomSource + AllocGlobal, F: FileExt + OpenFile + Dro
     out: &mut O,
 ) -> Result<(), CommandFailure>
     requires { is_submittable command ≡ true }
-    ensures { OnOk result (WritesEndlessAcknowledgement TRIES command (O.contents out.old) (O.contents out.new)) }
+    ensures written { OnOk result (WritesEndlessAcknowledgement TRIES command (O.contents out.old) (O.contents out.new)) }
+    ensures refused { IfErr result (λ failure. IfRefused failure (RefusesEndlessSubmission TRIES command)) }
+    ensures silent { IfErr result (λ failure. PrintsNothing failure (O.contents out.old) (O.contents out.new)) }
 {
     let mut host = begun(images, rt.alloc(), command.host);
     submit_through(rt, &mut host, command, out)
@@ -45,7 +48,9 @@ pub fn table<F: FileExt + OpenFile + Drop, O: Write>(
     host: HostNumber,
     out: &mut O,
 ) -> Result<(), CommandFailure>
-    ensures { OnOk result (WritesEndlessTable TRIES host (O.contents out.old) (O.contents out.new)) }
+    ensures written { OnOk result (WritesEndlessTable TRIES host (O.contents out.old) (O.contents out.new)) }
+    ensures refused { IfErr result (λ failure. IfRefused failure (IsEndlessNotShown TRIES host)) }
+    ensures silent { IfErr result (λ failure. PrintsNothing failure (O.contents out.old) (O.contents out.new)) }
 {
     let mut host = begun(images, alloc, host);
     recover_table(alloc, &mut host, out)
@@ -58,7 +63,9 @@ pub fn mark<F: FileExt + OpenFile + Drop, O: Write>(
     host: HostNumber,
     out: &mut O,
 ) -> Result<(), CommandFailure>
-    ensures { OnOk result (WritesEndlessMarks TRIES host (O.contents out.old) (O.contents out.new)) }
+    ensures written { OnOk result (WritesEndlessMarks TRIES host (O.contents out.old) (O.contents out.new)) }
+    ensures refused { IfErr result (λ failure. IfRefused failure (RefusesEndlessRecovery TRIES host)) }
+    ensures silent { IfErr result (λ failure. PrintsNothing failure (O.contents out.old) (O.contents out.new)) }
 {
     let mut host = begun(images, alloc, host);
     mark_through(&mut host, out)
@@ -93,17 +100,15 @@ fn submit_through<R: Clock + RandomSource, F: FileExt + OpenFile + Drop, O: Writ
 ) -> Result<(), CommandFailure>
     requires asked { is_submittable command ≡ true }
     requires host { command.host ≡ host.old.host.host }
-    ensures { OnOk result (HasBegun command.host host.old → WritesEndlessAcknowledgement TRIES command (O.contents out.old) (O.contents out.new)) }
+    ensures written { OnOk result (HasBegun command.host host.old → WritesEndlessAcknowledgement TRIES command (O.contents out.old) (O.contents out.new)) }
+    ensures refused { IfErr result (λ failure. IfRefused failure (λ fault. HasBegun command.host host.old → RefusesEndlessSubmission TRIES command fault)) }
+    ensures silent { IfErr result (λ failure. PrintsNothing failure (O.contents out.old) (O.contents out.new)) }
 {
-    match submit_in_turn(rt, host, command, TRIES) {
-        Ok(placed) => {
-            print_ack(placed.place, placed.reply, out)?;
-            // The command is in the log whether or not the marking succeeds.
-            let _ = host.mark(placed.place);
-            Ok(())
-        }
-        Err(fault) => Err(CommandFailure::from(Fault::from(fault))),
-    }
+    let placed = submit_in_turn(rt, host, command, TRIES)?;
+    print_ack(placed.place, placed.reply, out)?;
+    // The command is in the log whether or not the marking succeeds.
+    let _ = host.mark(placed.place);
+    Ok(())
 }
 
 fn recover_table<F: FileExt + OpenFile + Drop, O: Write>(
@@ -111,14 +116,14 @@ fn recover_table<F: FileExt + OpenFile + Drop, O: Write>(
     host: &mut EpochDiskHost<FileDisk<F>>,
     out: &mut O,
 ) -> Result<(), CommandFailure>
-    ensures { OnOk result ((number : ℕ) → HasBegun number host.old → WritesEndlessTable TRIES number (O.contents out.old) (O.contents out.new)) }
+    ensures written { OnOk result ((number : ℕ) → HasBegun number host.old → WritesEndlessTable TRIES number (O.contents out.old) (O.contents out.new)) }
+    ensures refused { IfErr result (λ failure. IfRefused failure (λ fault. (number : ℕ) → HasBegun number host.old → IsEndlessNotShown TRIES number fault)) }
+    ensures silent { IfErr result (λ failure. PrintsNothing failure (O.contents out.old) (O.contents out.new)) }
 {
-    match host.recover(TRIES) {
-        Ok(length) => match host.table() {
-            Some(table) => print_table(alloc, length, table, out),
-            None => unreachable!(),
-        },
-        Err(fault) => Err(CommandFailure::from(Fault::from(fault))),
+    let length = host.recover(TRIES)?;
+    match host.table() {
+        Some(table) => print_table(alloc, length, table, out),
+        None => unreachable!(),
     }
 }
 
@@ -126,10 +131,11 @@ fn mark_through<F: FileExt + OpenFile + Drop, O: Write>(
     host: &mut EpochDiskHost<FileDisk<F>>,
     out: &mut O,
 ) -> Result<(), CommandFailure>
-    ensures { OnOk result ((number : ℕ) → HasBegun number host.old → WritesEndlessMarks TRIES number (O.contents out.old) (O.contents out.new)) }
+    ensures written { OnOk result ((number : ℕ) → HasBegun number host.old → WritesEndlessMarks TRIES number (O.contents out.old) (O.contents out.new)) }
+    ensures refused { IfErr result (λ failure. IfRefused failure (λ fault. (number : ℕ) → HasBegun number host.old → RefusesEndlessRecovery TRIES number fault)) }
+    ensures silent { IfErr result (λ failure. PrintsNothing failure (O.contents out.old) (O.contents out.new)) }
 {
-    match host.recover_and_mark(TRIES) {
-        Ok(log) => print_marked(log.length, log.marked, out),
-        Err(fault) => Err(CommandFailure::from(Fault::from(fault))),
-    }
+    let log = host.recover_and_mark(TRIES)?;
+    print_marked(log.length, log.marked, out)?;
+    Ok(())
 }

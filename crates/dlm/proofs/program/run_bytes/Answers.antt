@@ -11,7 +11,7 @@ returns g c =
     let is_script : IsAnyScript (lines_of c.args.bytes.now) c.in_ok-script.script = search rules in
     on_ok_weaker c.run_any_script-end.result
     (λ written. record { script = c.in_ok-script.script; is_script = is_script; written = flushed_any c.in_ok-script.script _ _ _ written c.flush.ensures.bytes })
-    c.run_any_script-end.ensures
+    c.run_any_script-end.ensures.written
 
 pub run_any_script-end-requires : goal.run_any_script-end-requires
 run_any_script-end-requires g c =

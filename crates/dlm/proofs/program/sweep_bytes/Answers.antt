@@ -11,7 +11,7 @@ returns g c =
     let is_script : IsAnyScript (lines_of c.args.bytes.now) c.in_ok-script.script = search rules in
     on_ok_weaker c.sweep_any_script.result
     (λ written. record { script = c.in_ok-script.script; is_script = is_script; written = written })
-    c.sweep_any_script.ensures
+    c.sweep_any_script.ensures.written
 
 pub sweep_any_script-requires : goal.sweep_any_script-requires
 sweep_any_script-requires g c =

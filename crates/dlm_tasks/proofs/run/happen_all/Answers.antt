@@ -40,11 +40,11 @@ loop-run-preserved g c =
           (g.O.Write.contents c.args.out.now) (g.O.Write.contents at.out) (g.O.Write.contents c.happen_run.new.out)
           (subst (λ (l : List Event). ShownSoFar log (events_of script.events) l at.place script.shows.items at.shows.now c.args.cluster.now at.cluster (g.O.Write.contents c.args.out.now) (g.O.Write.contents at.out))
           (run_first runs at.run-index run within c.run-item.is) (at.invariant.so_far log leads))
-          c.in_ok-shows.ensures (length-replicate run.times (event_of run.event));
+          c.in_ok-shows.ensures.written (length-replicate run.times (event_of run.event));
     }
 
-pub returns : goal.returns
-returns g c =
+pub returns-clause-written : goal.returns-clause-written
+returns-clause-written g c =
     let at = c.loop-run in
     let runs = c.runs-run-items.result.now in
     let script = c.args.script.now in
@@ -56,4 +56,4 @@ returns g c =
     (subst (λ (l : List Run). ShownSoFar log (events_of script.events) (events_of (each_event l)) at.place script.shows.items at.shows.now c.args.cluster.now at.cluster (g.O.Write.contents c.args.out.now) (g.O.Write.contents at.out))
     none_left (at.invariant.so_far log leads))
     rest)
-    c.show_all.ensures
+    c.show_all.ensures.written

@@ -28,10 +28,10 @@ loop-place-preserved g c = λ log leads.
     (more log e made 1 first start at.cluster new before mid after (at.invariant log leads)
     (λ log' leads'.
     subst (λ (n : ℕ). WritesAnswers log' (replicate 1 e) n at.cluster new mid after) here
-    (once log' c.args.event.now at.place at.cluster new mid after (c.in_ok-happen.ensures log' leads'))))
+    (once log' c.args.event.now at.place at.cluster new mid after (c.in_ok-happen.ensures.written log' leads'))))
 
-pub returns : goal.returns
-returns g c = λ log leads.
+pub returns-clause-written : goal.returns-clause-written
+returns-clause-written g c = λ log leads.
     let all : c.loop-place.place - c.args.first ≡ c.args.times = omega arith in
     subst (λ (n : ℕ). WritesAnswers log (replicate n (event_of c.args.event.now)) c.args.first c.args.cluster.now c.loop-place.cluster (g.O.Write.contents c.args.out.now) (g.O.Write.contents c.loop-place.out)) all
     (c.loop-place.invariant log leads)

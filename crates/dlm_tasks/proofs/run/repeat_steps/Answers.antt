@@ -23,8 +23,8 @@ loop-made-preserved g c =
           (at.invariant.so_far log leads) c.in_ok-made.ensures.written;
     }
 
-pub returns : goal.returns
-returns g c = λ log leads.
+pub returns-clause-written : goal.returns-clause-written
+returns-clause-written g c = λ log leads.
     let all : c.loop-made.made ≡ c.args.times = omega (arith, c.loop-made.invariant.within, c.loop-made-test.false) in
     subst (λ (n : ℕ). WritesAnswers log (replicate n (Step c.args.host)) c.args.first c.args.cluster.now c.loop-made.cluster (g.O.Write.contents c.args.out.now) (g.O.Write.contents c.loop-made.out)) all
     (c.loop-made.invariant.so_far log leads)

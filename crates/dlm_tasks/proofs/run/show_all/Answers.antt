@@ -15,14 +15,14 @@ loop-show-preserved g c = λ log leads.
     let show = c.show-item.result in
     let k = c.args.cluster.now in
     let before = g.O.Write.contents c.args.out.now in
-    let shown = c.in_ok-show_host.ensures in
+    let shown = c.in_ok-show_host.ensures.written in
     let within : at.show-index < length shows = omega arith in
     shown_last log shows show (drop (at.show-index + 1) shows) k shown.0 before (g.O.Write.contents at.out) (g.O.Write.contents c.show_host.new.out)
     (subst (λ (l : List Show). ShowsLast log shows l k before (g.O.Write.contents at.out)) (next_of shows at.show-index show within c.show-item.is) (at.invariant log leads))
     leads shown.1 shown.2
 
-pub returns : goal.returns
-returns g c = λ log place leads.
+pub returns-clause-written : goal.returns-clause-written
+returns-clause-written g c = λ log place leads.
     let at = c.loop-show in
     let shows = c.args.shows.now in
     let before = g.O.Write.contents c.args.out.now in

@@ -15,7 +15,7 @@ loop-show-preserved g c = λ log leads.
     let left = c.in-Some.later.now in
     let k = c.args.cluster.now in
     let before = g.O.Write.contents c.args.out.now in
-    let shown = c.in_ok-show_host.ensures in
+    let shown = c.in_ok-show_host.ensures.written in
     shown_due log c.args.place shows show left k shown.0 before (g.O.Write.contents at.out) (g.O.Write.contents c.show_host.new.out) (omega (arith, c.if-show-place.false))
     (subst (λ (l : List Show). WritesPart log [] c.args.place shows l k k before (g.O.Write.contents at.out)) c.in-Some.ensures.cases.0 (at.invariant log leads))
     leads shown.1 shown.2

@@ -5,8 +5,8 @@ use Rattle.host.specs.Kept.{Kept}
 use Rattle.dlm_tasks.specs.Printed.{IsShowOf, stopped_line}
 use Rattle.dlm_tasks.proofs.run.show_host.Goals as goal
 
-pub returns-in_ok-print_stopped-in-None : goal.returns-in_ok-print_stopped-in-None
-returns-in_ok-print_stopped-in-None g c =
+pub returns-in_ok-print_stopped-in-None-clause-written : goal.returns-in_ok-print_stopped-in-None-clause-written
+returns-in_ok-print_stopped-in-None-clause-written g c =
     let show = c.args.show.now in
     let hosts = c.args.cluster.now.hosts in
     let before = g.O.Write.contents c.args.out.now in

@@ -1,0 +1,20 @@
+-- It is refused as the task over a log of either kind is. The host's number is locked meanwhile.
+use Rattle.std.proofs.Common.{inl, inr}
+use Rattle.dlm_tasks.specs.Refusing.{IsEndlessNotShown, IsNotShown, MayNotShow}
+use Rattle.dlm_tasks.specs.declared.images.TheConstants.{TRIES}
+use Rattle.dlm_tasks.proofs.Refusing.{as_part, known}
+use Rattle.dlm_tasks.proofs.images.table.Goals as goal
+
+pub returns-in-Ending-clause-refused : goal.returns-in-Ending-clause-refused
+returns-in-Ending-clause-refused g c =
+    as_part (IsNotShown TRIES c.args.host) (MayNotShow g.R.File.TryLock.held TRIES c.args.host) c.table.result c.table.ensures.refused (λ fault is. inr (inl is))
+
+pub returns-in-Ending-clause-locked : goal.returns-in-Ending-clause-locked
+returns-in-Ending-clause-locked g c = known _ (c.in_ok-_folder._lock, c.in_ok-_folder.ensures.locked) c.table.result
+
+pub returns-clause-refused : goal.returns-clause-refused
+returns-clause-refused g c =
+    as_part (IsEndlessNotShown TRIES c.args.host) (MayNotShow g.R.File.TryLock.held TRIES c.args.host) c.table-in-Endless.result c.table-in-Endless.ensures.refused (λ fault is. inr (inr is))
+
+pub returns-clause-locked : goal.returns-clause-locked
+returns-clause-locked g c = known _ (c.in_ok-_folder._lock, c.in_ok-_folder.ensures.locked) c.table-in-Endless.result
