@@ -1,0 +1,4 @@
+pub mod Adding
+pub mod EachForm
+pub mod FirstLine
+pub mod Lines

@@ -1,0 +1,6 @@
+pub mod Asking
+pub mod Forms
+pub mod Objects
+pub mod Results
+pub mod Texts
+pub mod Wrong
