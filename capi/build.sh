@@ -89,7 +89,7 @@ objcopy --wildcard --keep-global-symbol='device_*' --keep-global-symbol='dlm_c_d
 rm -f -- "$out"/libmidgegalena.*
 ar rcs "$out/libmidgegalena.a" "$out/whole.o"
 "$cc" -shared -Wl,-soname,"libmidgegalena.so.$abi" -Wl,-z,defs,-z,relro,-z,now ${CFLAGS:-} -o "$out/libmidgegalena.so.$version" "$out/whole.o"
-"$cc" -std=c99 -O2 -Wall -Wextra -pedantic ${CFLAGS:-} -I "$here/include" "$here/src/"{mg-lock,status}.c "$out/libmidgegalena.a" -o "$out/mg-lock"
+"$cc" -std=c99 -O2 -Wall -Wextra -pedantic ${CFLAGS:-} -I "$here/include" "$here/src/"{mg-lock,status,looked,since,probe}.c "$out/libmidgegalena.a" -o "$out/mg-lock"
 "$cc" -std=c99 -O2 -Wall -Wextra -pedantic ${CFLAGS:-} -I "$here/include" "$here/src/"{mg,mg_host}.c "$out/libmidgegalena.a" -o "$out/mg"
 "$cc" -std=c99 -O2 -Wall -Wextra -pedantic ${CFLAGS:-} -I "$here/include" "$here/src/dlm-shared.c" "$out/devices.o" "$out/libmidgegalena.a" -o "$out/dlm-shared"
 "$cc" -std=gnu11 -O2 -Wall -Wextra ${CFLAGS:-} -I "$here/include" -I "$here/src" "$here/examples/dlm-mount/dlm-mount.c" "$out/devices.o" -o "$out/dlm-mount"

@@ -103,7 +103,7 @@ tried "endless" "$work/endless" "$memory" "$dlm"
 says_endless() { { "$@" 2>&1 || true; } | grep -q ' 25 WrongHeader disk0 (an image for the processes of one machine alone: '; }
 tried "refused: dlm-shared" says_endless "$PREFIX/bin/dlm-shared" table "$memory/epochs" 0
 # A lost image is replaced there: by the test, and by dlm.
-tried "replaced, built" cc -std=c99 $common "$here/tests/replaced.c" $flags -o "$work/replaced"
+tried "replaced, built" cc -std=c99 $common -Wl,--wrap=flock "$here/tests/replaced.c" "$PREFIX/lib/libmidgegalena.a" -o "$work/replaced"
 mkdir -- "$memory/replaced" "$memory/replaced_by_dlm"
 tried "replaced" "$work/replaced" "$memory/replaced"
 [[ ! -x $dlm ]] || tried "replaced by dlm" "$work/replaced" "$memory/replaced_by_dlm" "$dlm"
@@ -466,7 +466,7 @@ done
 # The program mg-lock. MG_LOCK: turns of each of eight processes.
 if command -v python3 > /dev/null && [[ -x $dlm ]]; then
     mkdir -- "$work/mg-lock" "$work/mg-lock-endless"
-    tried "answers, built" cc -std=c99 $common -Wl,--wrap=mg_take,--wrap=mg_give,--wrap=fdatasync,--wrap=clock_gettime "$here/src/"{mg-lock,status}.c "$here/tests/answers.c" "$PREFIX/lib/libmidgegalena.a" -o "$work/answers"
+    tried "answers, built" cc -std=c99 $common -Wl,--wrap=mg_take,--wrap=mg_give,--wrap=fdatasync,--wrap=clock_gettime "$here/src/"{mg-lock,status,looked,since,probe}.c "$here/tests/answers.c" "$PREFIX/lib/libmidgegalena.a" -o "$work/answers"
     tried "mg-lock" env PYTHONDONTWRITEBYTECODE=1 python3 "$here/tests/mg_lock.py" "$PREFIX/bin/mg-lock" "$dlm" "$work/mg-lock" "${MG_LOCK:-3}" \
         "$PREFIX/lib/libmidgegalena.so" "$work/answers"
     tail -n 1 "$work/out.txt" >> "$work/restarted.txt"
@@ -794,7 +794,7 @@ if [[ -f $work/sanitizer ]] && command -v rt > /dev/null; then
     tried "sanitized sessions over a log without an end, built" cc "${sanitized[@]}" "$work/sanitized_endless_sessions.o" "${proved[@]}" -o "$work/sanitized_endless_sessions"
     folder
     tried "sanitized sessions over a log without an end" "$work/sanitized_endless_sessions" "$work/images"
-    tried "sanitized mg-lock, built" cc "${sanitized[@]}" "$here/src/"{mg-lock,status}.c "${proved[@]}" -o "$work/sanitized_mg-lock"
+    tried "sanitized mg-lock, built" cc "${sanitized[@]}" "$here/src/"{mg-lock,status,looked,since,probe}.c "${proved[@]}" -o "$work/sanitized_mg-lock"
     folder
     in_folder ./format images 64
     tried "sanitized mg-lock" in_folder ./sanitized_mg-lock -w 1 images 0 db -- bash -c '! ./sanitized_mg-lock -n images 0 db true && ./sanitized_mg-lock -r images 0 && ./sanitized_mg-lock --status images && ./sanitized_mg-lock --status --json images && ./sanitized_mg-lock --status --prometheus images'

@@ -101,7 +101,8 @@ WORDS = [
         JSON,
         option("prometheus", "FLAG", "for node_exporter of Prometheus"),
     ], "show slots, disks and locks",
-        ["Shows slots, disks, host numbers in use on this machine, and locks.", "It only looks."],
+        ["Shows slots, disks, host numbers, and locks with how many slots ago they were granted or began to wait.", "It only looks.",
+         "The status is 0 if nothing is wrong, 1 if work goes on all the same, 3 if no command gets into the log, 125 if the table cannot be read."],
         ["mg status images"], one_of=(("json", "prometheus"),)),
     word("watch", "FOLDER", [
         seconds("every", 100, 86400000, "the pause between two looks; 2 without it"),
@@ -134,6 +135,14 @@ WORDS = [
          ["mg run examples/first_reply.dlm"]),
     word("sweep", "SCRIPT", [], "run a script with each single fault", ["Runs SCRIPT once for each fault before each of its steps, and says how many runs were wrong.", "A SCRIPT `-` is the standard input."],
          ["mg sweep examples/first_reply.dlm"]),
+]
+
+# The names in the objects that mg-folder prints, with what they stand for, as lines of mdoc.
+OBJECTS = [
+    ("create", [".Ar folder ;", ".Ar cluster ,", "a string;", ".Ar disks ;", ".Ar slots ,", "null without an end;", ".Ar kind :", "ending or endless"]),
+    ("check", [".Ar folder ;", ".Ar sound ,", "true or false;", ".Ar lines :", "those that are printed without", ".Fl -json ,", "but for sound"]),
+    ("migrate", [".Ar folder ;", ".Ar disks ;", ".Ar made ,", "false where the log was endless before;", ".Ar slots_an_epoch ,", "null where it was"]),
+    ("replace", [".Ar folder ;", ".Ar disk ;", ".Ar first_epoch ,", "from which on the new image takes part"]),
 ]
 
 # What it says, and what to do. The program says the first part.
@@ -240,7 +249,10 @@ def header():
         groups = [list(group) + [None] * (3 - len(group)) for group in it.one_of] + [[None] * 3] * (2 - len(it.one_of))
         out.append("        .one_of = {" + ", ".join("{" + ", ".join("O_" + one.upper() if one else "OPTIONS" for one in group) + "}" for group in groups) + "},")
         out += [f"        .usage = {in_c(usage(it))},", "        .help =", lines_in_c(help_of(it)) + ",", "    },"]
-    out += ["};", "", "static const char SHORT_HELP[] =", lines_in_c(short_help()) + ";", "",
+    out += ["};", "", "/* What submit puts into the log: its words, as the help has them. */", "static const struct command {", "    const char *name, *words;",
+            "} ALL_COMMANDS[] = {", *(f"    {{{in_c(name)}, {in_c(words)}}}," for name, words in COMMANDS), "};", "",
+            "static const char NAMES_OF_COMMANDS[] =", f"        {in_c(', '.join(name for name, _ in COMMANDS))};"]
+    out += ["", "static const char SHORT_HELP[] =", lines_in_c(short_help()) + ";", "",
             "static const char NAMES_OF_WORDS[] =", f"        {in_c(', '.join(it.name for it in WORDS) + ', help')};", "", "#endif"]
     return "\n".join(out) + "\n"
 
@@ -325,9 +337,13 @@ def manual(version):
             "If somebody else takes the number in the same moment they are refused,", ".Ql 36 HostInUse :", "nothing was done, so run them again.", ".Pp",
             "Where images are devices, or files of a network file system or of FUSE, other machines and guests may use them.", ".Nm",
             "cannot know their numbers, so there", ".Fl -host", "has to be given."]
+    out += [".Sh OUTPUT FOR PROGRAMS", "With", ".Fl -json", "each of these words prints one object in a line, with these names:", ".Bl -tag -width Ds"]
+    for name, names in OBJECTS:
+        out += [f".It Cm {name}", *names]
+    out += [".El", ".Pp", "The object of", ".Cm check", "is printed where something was found, too.", "A refusal is a line on standard error, with or without", ".Fl -json ."]
     out += [".Sh FILES", ".Bl -tag -width Ds", ".It Pa turn.lock", "in the folder: locked by", ".Cm submit , table", "and", ".Cm mark", "without", ".Fl -host .",
             "It is empty, and may stay.", ".It Pa hostHOST.lock", "in the folder: locked while a host number is in use.", ".It Pa libexec/midgegalena/mg-folder",
-            "beside the folder of", ".Nm", "itself: a program for a folder's words and a script's; no version has one yet.", ".El"]
+            "beside the folder of", ".Nm", "itself: the program for a folder's words and a script's.", ".El"]
     out += [".Sh EXIT STATUS", "That of", ".Xr mg-lock 1", "for", ".Cm lock , take , give , status", "and", ".Cm recover .", "Otherwise:", ".Bl -tag -width Ds", ".It 0",
             "done", ".It 1", "refused, or a check found something", ".It 2", "the words are wrong, and nothing was done;", ".Cm lock , take", "and", ".Cm give", "end with 125 then", ".El"]
     out += [".Sh EXAMPLES", "Each word, as it is typed:", ".Bd -literal -offset indent"]

@@ -259,6 +259,11 @@ int mg_refresh(struct mg_host *host, uint64_t *learned);
  * be acknowledged and stay unseen until somebody marks it (mg_mark). */
 int mg_look(struct mg_host *host, uint64_t *learned);
 
+/* As mg_look, and calls `told` with `more` as it begins and each time it has learned another command: one after the other, so that the caller sees by which command
+ * the table came to be as it is. `told` may ask what the host knows, as by mg_locks, mg_host_facts and mg_epoch, and makes no other call on it. Of a log without an end
+ * the look begins in the newest epoch, whose first commands carry the table over: while these are learned the table is refused, MG_NO_TABLE. */
+int mg_look_each(struct mg_host *host, void (*told)(struct mg_host *host, void *more), void *more, uint64_t *learned);
+
 /* Learns as mg_refresh does, and marks what it had to recover, so that looks pass it from then on. */
 int mg_mark(struct mg_host *host, uint64_t *learned);
 

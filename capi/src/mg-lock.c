@@ -392,7 +392,8 @@ static void usage(FILE *where) {
           "  -h, --help; -V, --version\n"
           "\n"
           "Exit status: that of COMMAND, 128 + N if signal N ended it; 1 (-E) not granted, or nothing to give; 125 mg-lock\n"
-          "failed, or the lock was lost, or may stay; 126, 127 COMMAND cannot be run, was not found.\n",
+          "failed, or the lock was lost, or may stay; 126, 127 COMMAND cannot be run, was not found.\n"
+          "With --status: 0 nothing is wrong, 1 work goes on all the same, 3 no command gets into the log, 125 no table.\n",
           where);
 }
 
@@ -615,11 +616,12 @@ static int show(void) {
     char *text = NULL;
     size_t length = 0;
     FILE *out = open_memstream(&text, &length);
+    enum health health;
     int disk, status;
     bool is_whole;
     if (!out)
         return refuse("it could not be printed", strerror(errno));
-    status = show_status(asked.folder, asked.form, out, &disk);
+    status = show_status(asked.folder, asked.form, out, &disk, &health);
     if (status != MG_OK)
         (void)refuse_folder(status, disk);
     is_whole = !ferror(out);
@@ -627,7 +629,7 @@ static int show(void) {
     if (!is_whole || !print(text, length))
         status = refuse("it could not be printed", strerror(errno));
     free(text);
-    return status == MG_OK ? 0 : FAILED;
+    return status == MG_OK ? (int)health : FAILED;
 }
 
 /* Says which lock was not given back. Where a session has the host number for itself, no mg-lock gets it: that session's mg_take releases. */

@@ -1,7 +1,7 @@
 /*
  * mg: the words for people, over mg-lock and dlm. No proof covers this file. It reads its words and says what is wrong with them. Where none is given it adds
- * a cluster number or a host number. Then it becomes one of the two. Where a program mg-folder is installed, which this repository does not have yet, it becomes
- * that in place of dlm. man man/mg.1 says how it is used; capi/mg_pages.py has the words.
+ * a cluster number or a host number. Then it becomes one of the two. Where mg-folder is installed, the proved program of crates/mg, it becomes that in place
+ * of dlm. man man/mg.1 says how it is used; capi/mg_pages.py has the words.
  */
 #ifndef _GNU_SOURCE
 #define _GNU_SOURCE
@@ -260,6 +260,72 @@ static void see_disk(const char *disk) {
         wrong("DISK is %s: 0 to %d", shown(disk), MG_DISKS - 1);
 }
 
+/* ---- the command of submit ---- */
+
+/* What a word of a command is. A number is between two others. */
+static const struct part {
+    const char *name;
+    uint64_t least, most;
+    const char *range;
+} PARTS[] = {
+    {"CLIENT", 0, 255, "0 to 255"},
+    {"REQUEST", 1, (uint64_t)1 << 62, "1 to 4611686018427387904"},
+    {"LOCK", 1, 65535, "1 to 65535"},
+    {"HOST", 0, MG_HOSTS - 1, "0 to 15"},
+    {"FORGOTTEN", 0, 255, "0 to 255"},
+};
+
+static void see_number(const char *name, const char *word) {
+    const struct part *part = PARTS;
+    const char *end;
+    uint64_t number;
+    while (strcmp(part->name, name) != 0)
+        part++;
+    end = digits(word, part->most, &number);
+    if (!end || *end != '\0' || number < part->least)
+        wrong("%s is %s: %s", name, shown(word), part->range);
+}
+
+static void see_part(const char *name, const char *word) {
+    if (strcmp(name, "NAME") == 0)
+        see_name(word);
+    else if (strcmp(name, "MODE") == 0 && !is_mode(word))
+        wrong("MODE is %s: NL, CR, CW, PR, PW, EX", shown(word));
+    else if (strcmp(name, "VALUE") == 0 && (strlen(word) != 2 * MG_VALUE_LENGTH || strspn(word, "0123456789abcdef") != 2 * MG_VALUE_LENGTH))
+        wrong("VALUE is %s: 32 digits, 0 to 9 and a to f", shown(word));
+    else if (strcmp(name, "MODE") != 0 && strcmp(name, "VALUE") != 0)
+        see_number(name, word);
+}
+
+static const struct command *find_command(const char *name) {
+    for (size_t i = 0; i < sizeof ALL_COMMANDS / sizeof ALL_COMMANDS[0]; i++)
+        if (strcmp(ALL_COMMANDS[i].name, name) == 0)
+            return &ALL_COMMANDS[i];
+    wrong("no command is called %s: %s", shown(name), NAMES_OF_COMMANDS);
+}
+
+/* Goes through what the help says of the command: a word in small letters stands for itself, and in brackets is what may be left out. */
+static void see_command(void) {
+    const struct command *command = find_command(asked.rest[0]);
+    char **word = asked.rest + 1, text[128], *name, *left;
+    bool is_left_out = false;
+    snprintf(text, sizeof text, "%s", command->words);
+    for (name = strtok_r(text, " ", &left); name; name = strtok_r(NULL, " ", &left)) {
+        bool ends = name[strlen(name) - 1] == ']';
+        name[strlen(name) - ends] = '\0';
+        if (name[0] == '[')
+            is_left_out = !*word || strcmp(*word, ++name) != 0;
+        if (!is_left_out && !*word)
+            wrong("%s is missing: mg submit FOLDER [--host N] %s %s", name, command->name, command->words);
+        if (!is_left_out && isupper((unsigned char)name[0]))
+            see_part(name, *word);
+        word += !is_left_out;
+        is_left_out &= !ends;
+    }
+    if (*word)
+        wrong("%s is a word too many: mg submit FOLDER [--host N] %s %s", shown(*word), command->name, command->words);
+}
+
 /* Sees whether all is there. */
 static void see_whole(bool is_parted) {
     const struct word *word = asked.word;
@@ -276,6 +342,8 @@ static void see_whole(bool is_parted) {
         see_name(asked.taken[1]);
     if (word == &ALL_WORDS[W_REPLACE])
         see_disk(asked.taken[1]);
+    if (word == &ALL_WORDS[W_SUBMIT])
+        see_command();
 }
 
 /* Shows the help of one word, or of all. */
@@ -434,8 +502,15 @@ static void see_there(void) {
         refuse("FOLDER is %s: not a folder", shown(path));
 }
 
+/* dlm has no --json. So that is seen before anything is made. */
+static void see_json(void) {
+    if (asked.given[O_JSON] && access(place_of("mg-folder", true), F_OK) != 0)
+        refuse("--json is by mg-folder, which is not installed");
+}
+
 static void make_folder(void) {
     const char *path = asked.taken[0];
+    see_json();
     if (mkdir(path, 0777) != 0 && errno != EEXIST)
         refuse("FOLDER is %s: it cannot be made: %s", shown(path), reason(errno, "folder above it"));
 }
@@ -462,11 +537,10 @@ static void see_room(void) {
         refuse("FOLDER is %s: no space left: %" PRIu64 " bytes are needed, and %" PRIu64 " are free", shown(path), needed, free_there);
 }
 
-/* dlm has no --json, and the same tasks by words of its own. It is beside this program, or on the path. */
+/* dlm has the same tasks by words of its own. It is beside this program, or on the path. */
 static void begin_dlm(void) {
     bool creates = asked.word == &ALL_WORDS[W_CREATE];
-    if (asked.given[O_JSON])
-        refuse("--json is by mg-folder, which is not installed");
+    see_json();
     begin_words("dlm", false);
     if (access(words[0], F_OK) != 0)
         words[0] = strrchr(words[0], '/') + 1;

@@ -200,7 +200,9 @@ static const struct word ALL_WORDS[WORDS] = {
         .usage = "mg status FOLDER [--json] [--prometheus]",
         .help =
         "usage: mg status FOLDER [--json] [--prometheus]\n"
-        "Shows slots, disks, host numbers in use on this machine, and locks. It only looks.\n"
+        "Shows slots, disks, host numbers, and locks with how many slots ago they were granted or began\n"
+        "to wait. It only looks. The status is 0 if nothing is wrong, 1 if work goes on all the same, 3\n"
+        "if no command gets into the log, 125 if the table cannot be read.\n"
         "\n"
         "  --json        for programs: one object\n"
         "  --prometheus  for node_exporter of Prometheus\n"
@@ -404,6 +406,22 @@ static const struct word ALL_WORDS[WORDS] = {
         "  mg sweep examples/first_reply.dlm\n",
     },
 };
+
+/* What submit puts into the log: its words, as the help has them. */
+static const struct command {
+    const char *name, *words;
+} ALL_COMMANDS[] = {
+    {"enqueue", "CLIENT REQUEST LOCK MODE NAME [noqueue]"},
+    {"convert", "CLIENT REQUEST LOCK MODE [noqueue] [value VALUE]"},
+    {"release", "CLIENT REQUEST LOCK [value VALUE]"},
+    {"cancel", "CLIENT REQUEST LOCK"},
+    {"status", "CLIENT REQUEST LOCK"},
+    {"purge", "CLIENT REQUEST HOST"},
+    {"forget", "CLIENT REQUEST FORGOTTEN"},
+};
+
+static const char NAMES_OF_COMMANDS[] =
+        "enqueue, convert, release, cancel, status, purge, forget";
 
 static const char SHORT_HELP[] =
         "usage: mg WORD ..\n"

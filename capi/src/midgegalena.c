@@ -14,6 +14,7 @@
 
 #include <errno.h>
 #include <fcntl.h>
+#include <limits.h>
 #include <stdarg.h>
 #include <stdbool.h>
 #include <stdio.h>
@@ -389,6 +390,8 @@ struct mg_host {
     struct written written;
     struct written_block written_block; /* in its place, where the log has no end */
     struct row row;
+    void (*follows)(struct mg_host *host, void *more); /* of mg_look_each; NULL where none does */
+    void *more;
     int64_t took;         /* the last attempt, in microseconds */
     bool marks_late;
     int64_t due, due_end; /* the slots of commands that are to be marked, and others between; none where they are the same */
@@ -584,20 +587,34 @@ static int32_t show_text(struct mg_host *host, uint8_t *into, size_t room, size_
 
 /* ---- operations ---- */
 
+/* Whoever follows a look is told where another number of commands is known than before. */
+static void tell_follower(struct mg_host *host, uint64_t *known) {
+    struct facts facts;
+    if (facts_of(host, &facts) != MG_OK || facts.view.learned == *known)
+        return;
+    *known = facts.view.learned;
+    host->follows(host, host->more);
+}
+
 /* Makes the calls of an operation that was begun, until it has ended, and tells how. Where memory is refused a host of a log without an end gives it up. */
 static int carry_out(struct mg_host *host, int32_t begun, struct outcome *outcome) {
     struct told_answer told = {BOOT, DONE, 0};
+    uint64_t known = UINT64_MAX;
     int32_t status;
     *outcome = NO_OUTCOME;
     if (begun != 0)
         return status_of(begun);
     status = first_call(host);
     while (status == 0) {
+        if (host->follows)
+            tell_follower(host, &known);
         told.outcome = make_call(host);
         if (told.outcome != DONE && host->call.disk < MG_DISKS && host->faults[host->call.disk] == MG_OK)
             host->faults[host->call.disk] = MG_UNREADABLE;
         status = next_call(host, &told);
     }
+    if (host->follows)
+        tell_follower(host, &known);
     if (status != NOTHING_DUE)
         return status == MG_NO_MEMORY ? MG_NO_MEMORY : MG_BROKEN;
     return status_of(outcome_of(host, outcome));
@@ -672,6 +689,8 @@ static bool find_shared(struct mg_host *host, unsigned disk, const char *path, i
     if (file != NO_FILE && !(is_found && how.dsync)) {
         close(file);
         file = is_found ? open_file(path, flags | O_DIRECT) : NO_FILE;
+        if (is_found && file == NO_FILE)
+            host->errors[disk] = errno;
     }
     if (file == NO_FILE)
         return false;
@@ -854,7 +873,7 @@ static int open_host(struct mg_host *host, struct images *images, const char *fo
     return status == MG_OK ? own_number(host, folder, number, way == TAKES) : status;
 }
 
-static int open_folder(const char *folder, unsigned number, enum way way, struct mg_host **out, int *disk) {
+static int open_once(const char *folder, unsigned number, enum way way, struct mg_host **out, int *disk) {
     int32_t at_fault = -1;
     int status;
     struct mg_host *host;
@@ -900,6 +919,18 @@ static int open_folder(const char *folder, unsigned number, enum way way, struct
     return MG_OK;
 }
 
+enum { OPENINGS = 3 };
+
+/* A lost image may be replaced after the images were opened, and before the number is locked: nobody does so while it is. Then all are opened anew. */
+static int open_folder(const char *folder, unsigned number, enum way way, struct mg_host **out, int *disk) {
+    int status = open_once(folder, number, way, out, disk);
+    for (unsigned i = 1; i < OPENINGS && status == MG_OK && (way == WORKS || way == TAKES) && !has_images_of(*out, folder); i++) {
+        let_go(*out);
+        status = open_once(folder, number, way, out, disk);
+    }
+    return status;
+}
+
 int mg_open(const char *folder, unsigned number, struct mg_host **out, int *disk) {
     return open_folder(folder, number, WORKS, out, disk);
 }
@@ -915,13 +946,13 @@ static bool is_image_at(const struct mg_host *host, unsigned disk, const struct 
     return is_shared(host, disk) || !read_whole(host->files[disk], first, sizeof first, 0) || memcmp(first, host->first[disk], sizeof first) == 0;
 }
 
-/* Whether each image that is found in the folder is the one that was there as it was opened: a lost one may have been replaced. */
+/* Whether each image that is found in the folder is the one that was there as it was opened: a lost one may have been replaced. It asks for no memory. */
 bool has_images_of(const struct mg_host *host, const char *folder) {
     for (unsigned k = 0; k < host->disks; k++) {
         struct stat there;
-        char *path = path_of(folder, "disk", (int)k, ".img");
-        bool is_found = path && stat(path, &there) == 0;
-        free(path);
+        char path[PATH_MAX];
+        int long_as = snprintf(path, sizeof path, "%s/disk%u.img", folder, k);
+        bool is_found = long_as > 0 && (size_t)long_as < sizeof path && stat(path, &there) == 0;
         if (is_found && !is_image_at(host, k, &there))
             return false;
     }
@@ -1412,6 +1443,19 @@ int mg_refresh(struct mg_host *host, uint64_t *learned) {
     status = refresh(host, &outcome);
     if (learned)
         *learned = outcome.learned;
+    return status;
+}
+
+int mg_look_each(struct mg_host *host, void (*told)(struct mg_host *host, void *more), void *more, uint64_t *learned) {
+    int status;
+    if (learned)
+        *learned = 0;
+    if (!host || !told)
+        return MG_BAD_ARGUMENT;
+    host->follows = told;
+    host->more = more;
+    status = mg_look(host, learned);
+    host->follows = NULL;
     return status;
 }
 

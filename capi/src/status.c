@@ -1,204 +1,47 @@
 /*
- * mg-lock --status: looks at the images by a handle that has no host number (mg_open_to_look), and reads from Linux which files of the folder
- * somebody has locked. Only where marks do not tell the table of a log without an end it takes a number for a moment. man man/mg-lock.1 says what it prints.
- *
- * Who has a file locked by flock(2) stands in /proc/locks, by the device and inode of the file. A lock of the file's own would tell it, too, but
- * would keep others from the file for that moment. So no file of the folder is even opened, but for its place (O_PATH).
+ * mg-lock --status: prints what was looked at (looked.c), for people, for programs and for Prometheus. man man/mg-lock.1 says what it prints.
  */
 #ifndef _GNU_SOURCE
 #define _GNU_SOURCE
 #endif
 #include "status.h"
 
-#include <mg_session.h>
+#include "looked.h"
 
-#include <errno.h>
-#include <fcntl.h>
 #include <inttypes.h>
-#include <limits.h>
-#include <stdbool.h>
 #include <stdlib.h>
 #include <string.h>
-#include <sys/stat.h>
-#include <sys/sysmacros.h>
-#include <unistd.h>
-
-enum { FIRST_CLIENT = 240 };
-
-/* Whether somebody on this machine has a file locked. */
-enum held { IS_HELD, IS_FREE, IS_MISSING, NOT_KNOWN };
 
 static const char *const MODES[] = {"NL", "CR", "CW", "PR", "PW", "EX"};
 static const char *const SIGNS[] = {"held", "free", "none", NULL};
 static const char *const KINDS[] = {NULL, "file", "device", "shared"};
 
-/* A file that somebody has locked. */
-struct locked {
-    unsigned major_of, minor_of;
-    unsigned long long inode;
-};
-
-/* What is shown. */
-struct status {
-    const char *folder; /* as the caller names it */
-    int refusal;        /* of the look */
-    struct mg_host_view facts;
-    bool is_in_epoch;
-    uint64_t epoch, taken; /* of a log without an end: which one, and how many of its slots are used */
-    struct mg_disk_view disks[MG_DISKS];
-    struct mg_image_view images[MG_DISKS];
-    size_t answering;
-    size_t writable; /* of those that answer */
-    enum held hosts[MG_HOSTS];
-    bool knows_hosts; /* of each number whether it is in use */
-    struct mg_lock_view locks[MG_LOCKS];
-    enum held signs[MG_LOCKS];
-    size_t count;
-    size_t clients; /* that the table knows */
-    struct locked *locked;
-    size_t locked_count;
-    bool is_known;
-};
-
-/* ---- files that are locked ---- */
-
-/* The device of an open file as /proc/locks has it, the one of its mount. Some file systems tell another one by fstat. */
-static bool device_of(int file, struct locked *into) {
-    char path[64], line[PATH_MAX + 256];
-    unsigned mount = 0, found;
-    bool is_found = false;
-    FILE *from;
-    snprintf(path, sizeof path, "/proc/self/fdinfo/%d", file);
-    from = fopen(path, "re");
-    while (from && fgets(line, sizeof line, from))
-        if (sscanf(line, "mnt_id: %u", &mount) == 1)
-            is_found = true;
-    if (from)
-        fclose(from);
-    from = is_found ? fopen("/proc/self/mountinfo", "re") : NULL;
-    is_found = false;
-    while (from && !is_found && fgets(line, sizeof line, from))
-        is_found = sscanf(line, "%u %*u %u:%u", &found, &into->major_of, &into->minor_of) == 3 && found == mount;
-    if (from)
-        fclose(from);
-    return is_found;
-}
-
-/* Reads which files are locked by flock(2). A line with "->" is of one who waits. */
-static void read_locked(struct status *status) {
-    char line[256];
-    size_t room = 0;
-    FILE *locks = fopen("/proc/locks", "re");
-    status->is_known = locks != NULL;
-    while (locks && status->is_known && fgets(line, sizeof line, locks)) {
-        struct locked one;
-        if (sscanf(line, "%*d: FLOCK %*s %*s %*s %x:%x:%llu", &one.major_of, &one.minor_of, &one.inode) != 3)
-            continue;
-        if (status->locked_count == room) {
-            struct locked *more = realloc(status->locked, (room = 2 * room + 64) * sizeof *more);
-            status->is_known = more != NULL;
-            status->locked = more ? more : status->locked;
-        }
-        if (status->is_known)
-            status->locked[status->locked_count++] = one;
-    }
-    if (locks) {
-        status->is_known &= !ferror(locks);
-        fclose(locks);
-    }
-}
-
-static enum held find_locked(const struct status *status, int file) {
-    struct locked wanted;
-    struct stat facts;
-    if (!status->is_known || fstat(file, &facts) != 0)
-        return NOT_KNOWN;
-    if (!device_of(file, &wanted))
-        wanted.major_of = major(facts.st_dev), wanted.minor_of = minor(facts.st_dev);
-    for (size_t i = 0; i < status->locked_count; i++) {
-        const struct locked *one = &status->locked[i];
-        if (one->inode == facts.st_ino && one->major_of == wanted.major_of && one->minor_of == wanted.minor_of)
-            return IS_HELD;
-    }
-    return IS_FREE;
-}
-
-static enum held is_locked(const struct status *status, const char *path) {
-    enum held held;
-    int file = open(path, O_PATH | O_CLOEXEC);
-    if (file < 0)
-        return errno == ENOENT ? IS_MISSING : NOT_KNOWN;
-    held = find_locked(status, file);
-    close(file);
-    return held;
-}
-
-static void find_hosts(struct status *status, const char *folder) {
-    status->knows_hosts = status->is_known;
-    for (unsigned host = 0; host < MG_HOSTS; host++) {
-        char path[PATH_MAX];
-        snprintf(path, sizeof path, "%s/host%u.lock", folder, host);
-        status->hosts[host] = is_locked(status, path);
-        status->knows_hosts &= status->hosts[host] != NOT_KNOWN;
-    }
-}
-
-/* The sign of life of each lock that a session took. */
-static void find_signs(struct status *status, const char *folder) {
-    for (size_t i = 0; i < status->count; i++) {
-        const struct mg_lock_view *lock = &status->locks[i];
-        char path[PATH_MAX];
-        snprintf(path, sizeof path, "%s/mg-lock.%" PRIu64 ".%u.%u", folder, status->facts.cluster, (unsigned)lock->host, (unsigned)lock->lock);
-        status->signs[i] = lock->client == FIRST_CLIENT + lock->host ? is_locked(status, path) : IS_MISSING;
-    }
-}
-
-/* ---- looking ---- */
-
-static int look_at(struct status *status, struct mg_host *host) {
-    size_t disks = 0;
-    int refusal = mg_look(host, NULL);
-    status->refusal = refusal;
-    if (refusal == MG_OK)
-        refusal = mg_locks(host, status->locks, MG_LOCKS, &status->count);
-    if (refusal == MG_OK)
-        refusal = mg_clients(host, NULL, 0, &status->clients);
-    if (status->count > MG_LOCKS)
-        status->count = MG_LOCKS;
-    (void)mg_host_facts(host, &status->facts);
-    status->is_in_epoch = mg_epoch(host, &status->epoch, NULL, &status->taken) == MG_OK;
-    (void)mg_disks(host, status->disks, MG_DISKS, &disks);
-    (void)mg_images(host, status->images, MG_DISKS, NULL);
-    for (size_t i = 0; i < disks; i++) {
-        status->answering += status->disks[i].status == MG_OK;
-        status->writable += status->disks[i].status == MG_OK && !status->images[i].read_only;
-    }
-    return refusal;
-}
-
-/* How many of those that answer, and may be written, are more than a majority. */
-static size_t spare(const struct status *status) {
-    size_t majority = status->facts.disks / 2 + 1;
-    return status->writable > majority ? status->writable - majority : 0;
-}
-
-/* The first disk in use that is of a kind; NULL where none is. */
-static const struct mg_image_view *first_of(const struct status *status, int kind) {
-    for (size_t i = 0; i < status->facts.disks; i++)
-        if (status->disks[i].status == MG_OK && status->images[i].kind == kind)
-            return &status->images[i];
-    return NULL;
-}
-
 /* ---- for people ---- */
 
-static void print_lock(FILE *out, const struct mg_lock_view *lock, enum held sign) {
+/* "5 slots or more" between two texts: so many commands have come since. */
+static void print_slots_since(FILE *out, const struct status *status, const struct since *since, const char *before, const char *after) {
+    uint64_t slots = slots_since(status->followed, since);
+    fprintf(out, "%s%" PRIu64 " slot%s%s%s", before, slots, slots == 1 ? "" : "s", since->is_earlier ? " or more" : "", after);
+}
+
+static void print_since(FILE *out, const struct status *status, const struct since *since) {
+    if (since->is_known)
+        print_slots_since(out, status, since, " for ", "");
+}
+
+static void print_lock(FILE *out, const struct status *status, size_t place) {
+    const struct mg_lock_view *lock = &status->locks[place];
     fprintf(out, "  lock %u of client %u, host %u:", (unsigned)lock->lock, (unsigned)lock->client, (unsigned)lock->host);
-    if (lock->held != MG_NONE)
-        fprintf(out, " has %s%s", MODES[lock->held], lock->wanted == MG_NONE ? "" : ",");
-    if (lock->wanted != MG_NONE)
+    if (lock->held != MG_NONE) {
+        fprintf(out, " has %s", MODES[lock->held]);
+        print_since(out, status, since_of(status, place, false));
+        fputs(lock->wanted == MG_NONE ? "" : ",", out);
+    }
+    if (lock->wanted != MG_NONE) {
         fprintf(out, " waits for %s", MODES[lock->wanted]);
-    fputs(sign == IS_FREE ? "; no process here has its sign of life\n" : "\n", out);
+        print_since(out, status, since_of(status, place, true));
+    }
+    fputs(status->signs[place] == IS_FREE ? "; no process here has its sign of life\n" : "\n", out);
 }
 
 static void print_locks(FILE *out, const struct status *status) {
@@ -209,7 +52,7 @@ static void print_locks(FILE *out, const struct status *status) {
         if (strcmp(name, lock->name) != 0)
             fprintf(out, "%s\n", lock->name);
         name = lock->name;
-        print_lock(out, lock, status->signs[i]);
+        print_lock(out, status, i);
     }
 }
 
@@ -228,6 +71,8 @@ static void print_disks(FILE *out, const struct status *status) {
             fprintf(out, "  disk%zu %d %s", i, (int)status->disks[i].status, mg_name(status->disks[i].status));
         else if (status->images[i].read_only)
             fprintf(out, "  disk%zu is read only", i);
+        else if (is_slow(status, i))
+            fprintf(out, "  disk%zu is slow: a read took %.1f seconds", i, (double)status->took[i] / 1e6);
         else
             continue;
         if (status->images[i].other >= 0)
@@ -256,6 +101,30 @@ static void print_hosts(FILE *out, const struct status *status) {
     fprintf(out, "%s\n", status->knows_hosts ? some : " not known, /proc/locks cannot be read");
 }
 
+static void print_machines(FILE *out, const struct status *status) {
+    const char *between = "host numbers of machines: ";
+    for (unsigned host = 0; host < MG_HOSTS; host++)
+        if (status->machines[host][0]) {
+            fprintf(out, "%s%u of %s", between, host, status->machines[host]);
+            between = ", ";
+        }
+    fputs(between[0] == ',' ? "\n" : "", out);
+}
+
+/* Through which host numbers locks came, as far as the look goes back. */
+static void print_seen(FILE *out, const struct status *status) {
+    const char *between = "host numbers in the log: ";
+    for (unsigned host = 0; host < MG_HOSTS; host++) {
+        const struct since *since = &status->followed->asked[host];
+        if (!since->is_known)
+            continue;
+        fprintf(out, "%s%u ", between, host);
+        print_slots_since(out, status, since, "(", " ago)");
+        between = ", ";
+    }
+    fputs(between[0] == ',' ? "\n" : "", out);
+}
+
 static void print_slots(FILE *out, const struct status *status) {
     unsigned slots = (unsigned)status->facts.slots, used = (unsigned)status->facts.learned;
     if (status->refusal != MG_OK)
@@ -269,14 +138,28 @@ static void print_epoch(FILE *out, const struct status *status) {
     fprintf(out, "slots: %" PRIu64 " are used, %" PRIu64 " of %u in this epoch\n", status->facts.learned, status->taken, (unsigned)status->facts.slots);
 }
 
+static void print_wrong(FILE *out, const struct status *status) {
+    const char *between = "wrong: ";
+    for (size_t i = 0; i < WRONGS; i++)
+        if (WRONG[i].is_so(status)) {
+            fprintf(out, "%s%s", between, WRONG[i].sentence);
+            between = "; ";
+        }
+    fputs(between[0] == ';' ? "\n" : "", out);
+}
+
 static void print_status(FILE *out, const struct status *status) {
     fprintf(out, "cluster: %" PRIu64 "\n", status->facts.cluster);
     (status->refusal == MG_OK && status->facts.endless ? print_epoch : print_slots)(out, status);
     print_disks(out, status);
     print_kinds(out, status);
     print_hosts(out, status);
-    if (status->refusal == MG_OK)
+    print_machines(out, status);
+    if (status->refusal == MG_OK) {
+        print_seen(out, status);
         print_locks(out, status);
+    }
+    print_wrong(out, status);
 }
 
 /* ---- for programs ---- */
@@ -316,7 +199,11 @@ static void put_disks(FILE *out, const struct status *status) {
         put_refusal(out, status->disks[i].status);
         fputs(", \"kind\": ", out);
         put_text(out, KINDS[status->images[i].kind]);
-        fprintf(out, ", \"read_only\": %s}", status->images[i].read_only ? "true" : "false");
+        fprintf(out, ", \"read_only\": %s, \"microseconds\": ", status->images[i].read_only ? "true" : "false");
+        if (status->took[i] >= 0)
+            fprintf(out, "%" PRId64 "}", status->took[i]);
+        else
+            fputs("null}", out);
     }
     fprintf(out, "],\n  \"answering\": %zu,\n  \"may_fail\": %zu,\n", status->answering, spare(status));
 }
@@ -332,15 +219,52 @@ static void put_hosts(FILE *out, const struct status *status) {
     fputs(status->knows_hosts ? "],\n" : "", out);
 }
 
-static void put_lock(FILE *out, const struct mg_lock_view *lock, enum held sign) {
+/* How many slots ago; null where that is not known. */
+static void put_since(FILE *out, const struct status *status, const char *key, const struct since *since) {
+    if (since->is_known)
+        fprintf(out, ", \"%s\": {\"slots\": %" PRIu64 ", \"or_more\": %s}", key, slots_since(status->followed, since), since->is_earlier ? "true" : "false");
+    else
+        fprintf(out, ", \"%s\": null", key);
+}
+
+static void put_machines(FILE *out, const struct status *status) {
+    const char *between = "";
+    fputs("  \"machines\": [", out);
+    for (unsigned host = 0; host < MG_HOSTS; host++)
+        if (status->machines[host][0]) {
+            fprintf(out, "%s{\"host\": %u, \"machine\": \"%s\"}", between, host, status->machines[host]);
+            between = ", ";
+        }
+    fputs("],\n", out);
+}
+
+static void put_seen(FILE *out, const struct status *status) {
+    const char *between = "";
+    fputs("  \"hosts_seen\": [", out);
+    for (unsigned host = 0; host < MG_HOSTS; host++) {
+        const struct since *since = &status->followed->asked[host];
+        if (!since->is_known)
+            continue;
+        fprintf(out, "%s{\"host\": %u", between, host);
+        put_since(out, status, "asked", since);
+        fputc('}', out);
+        between = ", ";
+    }
+    fputs("],\n", out);
+}
+
+static void put_lock(FILE *out, const struct status *status, size_t place) {
+    const struct mg_lock_view *lock = &status->locks[place];
     fputs("{\"name\": ", out);
     put_text(out, lock->name);
     fprintf(out, ", \"lock\": %u, \"client\": %u, \"host\": %u, \"held\": ", (unsigned)lock->lock, (unsigned)lock->client, (unsigned)lock->host);
     put_text(out, lock->held == MG_NONE ? NULL : MODES[lock->held]);
     fputs(", \"wanted\": ", out);
     put_text(out, lock->wanted == MG_NONE ? NULL : MODES[lock->wanted]);
+    put_since(out, status, "has_for", since_of(status, place, false));
+    put_since(out, status, "waits_for", since_of(status, place, true));
     fputs(", \"sign\": ", out);
-    put_text(out, SIGNS[sign]);
+    put_text(out, SIGNS[status->signs[place]]);
     fputc('}', out);
 }
 
@@ -348,7 +272,7 @@ static void put_locks(FILE *out, const struct status *status) {
     fputs("  \"locks\": [", out);
     for (size_t i = 0; i < status->count; i++) {
         fputs(i == 0 ? "\n    " : ",\n    ", out);
-        put_lock(out, &status->locks[i], status->signs[i]);
+        put_lock(out, status, i);
     }
     fputs(status->count == 0 ? "]\n" : "\n  ]\n", out);
 }
@@ -361,17 +285,33 @@ static void put_number(FILE *out, const char *key, bool is_there, uint64_t numbe
         fprintf(out, "  \"%s\": null,\n", key);
 }
 
+static void put_wrong(FILE *out, const struct status *status) {
+    const char *between = "";
+    fputs(",\n  \"wrong\": [", out);
+    for (size_t i = 0; i < WRONGS; i++)
+        if (WRONG[i].is_so(status)) {
+            fputs(between, out);
+            put_text(out, WRONG[i].name);
+            between = ", ";
+        }
+    fputc(']', out);
+}
+
 static void put_status(FILE *out, const struct status *status) {
     bool is_known = status->refusal == MG_OK, ends = !status->facts.endless;
     fprintf(out, "{\n  \"cluster\": \"%" PRIu64 "\",\n  \"refusal\": ", status->facts.cluster);
     put_refusal(out, status->refusal);
+    put_wrong(out, status);
     fprintf(out, ",\n  \"endless\": %s,\n", ends ? "false" : "true");
     put_number(out, "epoch", is_known && !ends && status->is_in_epoch, status->epoch);
+    put_number(out, "epoch_used", is_known && !ends && status->is_in_epoch, status->taken);
     put_number(out, "slots", true, status->facts.slots);
     put_number(out, "used", is_known, status->facts.learned);
     put_number(out, "left", is_known && ends, status->facts.slots - status->facts.learned);
     put_disks(out, status);
     put_hosts(out, status);
+    put_machines(out, status);
+    put_seen(out, status);
     put_number(out, "clients", is_known, status->clients);
     if (is_known)
         put_locks(out, status);
@@ -475,6 +415,14 @@ static void put_samples_of_disks(FILE *out, const struct status *status) {
     put_metric(out, "disk_read_only", "Whether nobody may write to a disk (1).");
     for (size_t i = 0; i < status->facts.disks; i++)
         put_numbered(out, status, "disk_read_only", "disk", i, status->images[i].read_only);
+    put_metric(out, "disk_read_seconds", "How long a read of a disk took that passed by the machine's cache.");
+    for (size_t i = 0; i < status->facts.disks; i++) {
+        if (status->took[i] < 0)
+            continue;
+        begin_sample(out, status, "disk_read_seconds");
+        add_number(out, "disk", (int)i);
+        fprintf(out, "} %" PRId64 ".%06" PRId64 "\n", status->took[i] / 1000000, status->took[i] % 1000000);
+    }
     put_metric(out, "disk_refusal_info", "Why a disk does not answer, by number and name.");
     for (size_t i = 0; i < status->facts.disks; i++) {
         if (status->disks[i].status == MG_OK)
@@ -490,6 +438,18 @@ static void put_samples_of_hosts(FILE *out, const struct status *status) {
     put_metric(out, "host_in_use", "Whether a process of this machine has a host number (1).");
     for (size_t host = 0; host < MG_HOSTS; host++)
         put_numbered(out, status, "host_in_use", "host", host, status->hosts[host] == IS_HELD);
+}
+
+static void put_samples_of_machines(FILE *out, const struct status *status) {
+    put_metric(out, "host_machine_info", "Which machine has a host number, of devices that several machines use.");
+    for (size_t host = 0; host < MG_HOSTS; host++) {
+        if (!status->machines[host][0])
+            continue;
+        begin_sample(out, status, "host_machine_info");
+        add_number(out, "host", (int)host);
+        add_label(out, "machine", status->machines[host]);
+        end_sample(out, 1);
+    }
 }
 
 static void put_samples_of_folder(FILE *out, const struct status *status) {
@@ -540,6 +500,37 @@ static void put_samples_of_names(FILE *out, const struct status *status, const c
     }
 }
 
+/* Of each name the lock that has its mode, or waits, for most slots. */
+static void put_longest(FILE *out, const struct status *status, const char *metric, bool waits) {
+    for (size_t first = 0, end; first < status->count; first = end) {
+        const char *name = status->locks[first].name;
+        uint64_t longest = 0;
+        bool any = false;
+        for (end = first; end < status->count && strcmp(status->locks[end].name, name) == 0; end++) {
+            const struct since *since = since_of(status, end, waits);
+            uint64_t slots = since->is_known ? slots_since(status->followed, since) : 0;
+            any |= since->is_known;
+            longest = slots > longest ? slots : longest;
+        }
+        if (!any)
+            continue;
+        begin_sample(out, status, metric);
+        add_label(out, "name", name);
+        end_sample(out, longest);
+    }
+}
+
+static void put_samples_of_ages(FILE *out, const struct status *status) {
+    put_metric(out, "name_granted_slots", "How many slots ago the oldest grant of a name was, or more: what an epoch began with is older.");
+    put_longest(out, status, "name_granted_slots", false);
+    put_metric(out, "name_waiting_slots", "How many slots ago the oldest wait of a name began, or more: what an epoch began with is older.");
+    put_longest(out, status, "name_waiting_slots", true);
+    put_metric(out, "host_seen_slots", "How many slots ago a lock last came through a host, or more: what an epoch began with is older.");
+    for (size_t host = 0; host < MG_HOSTS; host++)
+        if (status->followed->asked[host].is_known)
+            put_numbered(out, status, "host_seen_slots", "host", host, slots_since(status->followed, &status->followed->asked[host]));
+}
+
 static void put_samples_of_signs(FILE *out, const struct status *status) {
     size_t left = 0;
     for (size_t i = 0; i < status->count; i++) {
@@ -563,6 +554,7 @@ static void put_samples_of_locks(FILE *out, const struct status *status) {
     put_samples_of_names(out, status, "name_locks_granted", false);
     put_metric(out, "name_locks_waiting", "How many locks of a name wait for the mode.");
     put_samples_of_names(out, status, "name_locks_waiting", true);
+    put_samples_of_ages(out, status);
     put_metric(out, "host_locks", "How many locks came through a host that has some.");
     for (size_t host = 0; host < MG_HOSTS; host++)
         if (hosts[host] > 0)
@@ -578,59 +570,31 @@ static void put_samples(FILE *out, const struct status *status, int refusal) {
     }
     if (status->knows_hosts)
         put_samples_of_hosts(out, status);
+    if (first_of(status, MG_SHARED_IMAGE))
+        put_samples_of_machines(out, status);
     if (refusal == MG_OK) {
         put_samples_of_log(out, status);
         put_samples_of_locks(out, status);
     }
 }
 
-/* ---- all of it ---- */
-
-/* Looks without a host number. Where marks do not tell the table it looks by the greatest number that nobody has. */
-static int look_by_any(struct status *status, const char *folder, struct mg_host **host, int *disk) {
-    struct mg_host *by_number = NULL;
-    const char *given = status->folder;
-    int result = look_at(status, *host), opened = MG_HOST_IN_USE;
-    if (status->refusal != MG_NO_TABLE)
-        return result;
-    for (unsigned number = MG_HOSTS; opened == MG_HOST_IN_USE && number-- > 0;)
-        opened = mg_open(folder, number, &by_number, disk);
-    if (opened != MG_OK)
-        return result;
-    mg_close(*host);
-    *host = by_number;
-    memset(status, 0, sizeof *status);
-    status->folder = given;
-    return look_at(status, *host);
-}
-
-int show_status(const char *folder, enum status_form form, FILE *out, int *disk) {
-    struct mg_host *host;
-    struct status *status;
-    char *followed = NULL;
+int show_status(const char *folder, enum status_form form, FILE *out, int *disk, enum health *health) {
+    struct status *status = begin_status(folder);
+    char *followed;
     int result;
     *disk = -1;
-    status = calloc(1, sizeof *status);
+    *health = IS_STUCK;
     if (!status)
         return MG_NO_MEMORY;
-    status->folder = folder;
     /* A link is followed once, so that all is of one folder. */
     followed = realpath(folder, NULL);
-    folder = followed ? followed : folder;
-    result = mg_open_to_look(folder, &host, disk);
-    if (result == MG_OK) {
-        result = look_by_any(status, folder, &host, disk);
-        mg_close(host);
-        read_locked(status);
-        find_hosts(status, folder);
-        find_signs(status, folder);
-    }
+    result = look_at_all(status, followed ? followed : folder, disk);
+    *health = health_of(status);
     if (form == FOR_PROMETHEUS)
         put_samples(out, status, result);
     else if (result == MG_OK || status->refusal != MG_OK)
         (form == AS_JSON ? put_status : print_status)(out, status);
     free(followed);
-    free(status->locked);
-    free(status);
+    end_status(status);
     return result;
 }

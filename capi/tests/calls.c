@@ -10,6 +10,15 @@
 #include <stdio.h>
 #include <string.h>
 
+/* Is told of each command, from the one of this number on. */
+static void follows(struct mg_host *host, void *more) {
+    struct mg_host_view facts;
+    uint64_t *next = (uint64_t *)more;
+    IS(mg_host_facts(host, &facts), MG_OK);
+    IS(facts.learned, *next);
+    ++*next;
+}
+
 static void bad_arguments(const char *folder) {
     struct mg_host *host = (struct mg_host *)&failures;
     int disk = 5;
@@ -49,6 +58,7 @@ static void bad_arguments(const char *folder) {
     IS(mg_forget(NULL, 1, 1, 1, NULL), MG_BAD_ARGUMENT);
     IS(mg_refresh(NULL, NULL), MG_BAD_ARGUMENT);
     IS(mg_look(NULL, NULL), MG_BAD_ARGUMENT);
+    IS(mg_look_each(NULL, follows, NULL, NULL), MG_BAD_ARGUMENT);
     IS(mg_mark(NULL, NULL), MG_BAD_ARGUMENT);
     IS(mg_wait(NULL, 1, 1, 1, NULL), MG_BAD_ARGUMENT);
     IS(mg_host_facts(NULL, NULL), MG_BAD_ARGUMENT);
@@ -259,12 +269,20 @@ static void only_looks(const char *folder) {
     struct mg_host *eye, *other;
     struct mg_answer answer;
     struct mg_value value = {{0}, 0};
-    uint64_t learned = 5;
+    uint64_t learned = 5, next = 0;
     IS(mg_open_to_look(folder, &eye, NULL), MG_OK);
     IS(mg_open_to_look(folder, &other, NULL), MG_OK);
     IS(mg_look(eye, &learned), MG_OK);
     IS(learned, 18);
+    IS(mg_look_each(other, NULL, NULL, NULL), MG_BAD_ARGUMENT);
+    IS(mg_look_each(other, follows, &next, &learned), MG_OK);
+    IS(learned, 18);
+    IS(next, 19);
+    next = 18; /* nothing is new */
+    IS(mg_look_each(other, follows, &next, NULL), MG_OK);
+    IS(next, 19);
     IS(mg_look(other, NULL), MG_OK);
+    IS(next, 19);
     mg_close(other);
     IS(mg_wait(eye, 1, 1, 0, NULL), MG_NO_SUCH_LOCK);
     IS(mg_value(eye, 1, &value), MG_NO_SUCH_LOCK);

@@ -91,10 +91,14 @@ def words():
     expect(run("check", images).stdout.endswith("sound\n") or "epoch" in run("check", images).stdout, f"check: {run('check', images)}")
     expect("\ndb\n" in run("status", images).stdout, "status")
     told = run("submit", images, "--json", "release", 1, 2, 1)
+    expect(told.returncode == 2 and run("submit", images, "release", 1, 2, 1).returncode == 0, f"submit --json: {told}")
+    told = run("check", images, "--json")
     if has_folder:
-        expect(json.loads(told.stdout)["reply"] == "Released", f"submit --json: {told}")
+        expect(told.returncode == 0 and json.loads(told.stdout)["sound"] is True, f"check --json: {told}")
+        told = run("migrate", images, "--json")
+        expect(json.loads(told.stdout) == {"folder": images, "disks": 3, "made": False, "slots_an_epoch": None}, f"migrate --json: {told}")
     else:
-        expect(told.returncode == 2 and run("submit", images, "release", 1, 2, 1).returncode == 0, f"submit --json: {told}")
+        expect(told.returncode == 1 and "which is not installed" in told.stderr, f"check --json: {told}")
     told = run("submit", images, "enqueue", 1, 3, 1, "EX")
     expect(told.returncode == 2, f"no command: {told}")
     left_nothing("words")
@@ -382,7 +386,7 @@ def replaces():
     expect(told.returncode == 1 and re.search(r"29 \w+", told.stderr) is not None, f"replace again: {told}")
     expect(run("lock", images, "db", "-n", "--", "true").returncode == 1, "the lock is held all the same")
     told = run("status", images)
-    expect("disks: 2 of 3 answer, 0 more may fail\n  disk1 takes part from a later epoch on\n" in told.stdout, f"status: {told}")
+    expect(told.returncode == 1 and "disks: 2 of 3 answer, 0 more may fail\n  disk1 takes part from a later epoch on\n" in told.stdout, f"status: {told}")
     disks = json.loads(run("status", images, "--json").stdout)["disks"]
     expect([disk["refusal"] for disk in disks] == [None, {"number": -9, "name": "NotYet"}, None], f"status --json: {disks}")
     kill_all(process)

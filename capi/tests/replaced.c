@@ -3,6 +3,8 @@
  * looks, and no byte of it is read as a vote; from then on it is one like the others, and another one may be lost. Hosts, and sessions that were begun before.
  *
  *   replaced FOLDER [DLM]      an empty folder, and the program by which images are replaced; without it the test makes each itself, all zeros after its header
+ *
+ * Linked with -Wl,--wrap=flock, so that one is replaced just before a host number is locked.
  */
 #include <mg_session.h>
 
@@ -11,6 +13,7 @@
 
 #include <stdbool.h>
 #include <stdlib.h>
+#include <sys/file.h>
 #include <sys/stat.h>
 #include <sys/wait.h>
 #include <unistd.h>
@@ -166,6 +169,44 @@ static void is_told(struct mg_host *host, int status) {
     IS(disks[2].status, MG_OK);
 }
 
+/* The folder in which disk 1 is replaced before the next lock, and its first epoch then. */
+static const char *replaced_late;
+static uint64_t first_late;
+
+int __real_flock(int file, int how);
+int __wrap_flock(int file, int how);
+
+int __wrap_flock(int file, int how) {
+    const char *folder = replaced_late;
+    replaced_late = NULL;
+    if (folder) {
+        take_away(folder, 1);
+        first_late = replaced(folder, 1, 1);
+    }
+    return __real_flock(file, how);
+}
+
+/* Who has opened the images by then, and locks its number after that, works on the new one. */
+static void late(void) {
+    const char *folder = laid_out("late");
+    struct mg_host *host = opened(folder, HOST);
+    struct stat before, after;
+    char path[400];
+    IS(mg_enqueue(host, CLIENT, ++request, 7, MG_EX, "db", 0, NULL), MG_OK);
+    mg_close(host);
+    replaced_late = folder;
+    host = opened(folder, HOST);
+    IS(replaced_late == NULL, 1);
+    path_of(path, sizeof path, folder, 1, ".lost");
+    IS(stat(path, &before), 0);
+    work_to(host, first_late);
+    IS(has_no_rows(folder, 1), 0);
+    mg_close(host);
+    IS(stat(path, &after), 0);
+    IS(before.st_mtim.tv_sec == after.st_mtim.tv_sec && before.st_mtim.tv_nsec == after.st_mtim.tv_nsec, 1);
+    sees(folder);
+}
+
 /* Nothing is written before its first epoch. From then on it stands in for the next one that is lost. */
 static void hosts(void) {
     const char *folder = laid_out("hosts");
@@ -289,6 +330,7 @@ int main(int argc, char **argv) {
     dlm = argc == 3 ? argv[2] : NULL;
     hosts();
     no_majority();
+    late();
     sessions(false);
     sessions(true);
     printf("replaced: %d failures\n", failures);

@@ -48,20 +48,34 @@ def run(*words, **more):
     return subprocess.run([mg_lock, *map(str, words)], capture_output=True, text=True, timeout=300, **more)
 
 
-def told(status=0):
-    """What it tells programs. Each key is there, and no other."""
+# The exit status by what is wrong.
+STATUSES = {"refused": 125, "log_full": 3, "not_writable": 3, "disk_lost": 1, "disk_read_only": 1, "disk_slow": 1, "log_nearly_full": 1, "locks_left_over": 1}
+
+
+def told(*wrong):
+    """What it tells programs. Each key is there, and no other; this is wrong; and the status is that of the worst. A disk may be slow where the machine has other work."""
     said = run("--status", "--json", images)
-    expect(said.returncode == status, f"status {said.returncode}, not {status}: {said}")
     told = json.loads(said.stdout)
-    keys = ["cluster", "refusal", "endless", "epoch", "slots", "used", "left", "disks", "answering", "may_fail", "hosts", "clients", "locks"]
+    keys = ["cluster", "refusal", "wrong", "endless", "epoch", "epoch_used", "slots", "used", "left", "disks", "answering", "may_fail", "hosts", "machines", "hosts_seen", "clients", "locks"]
     expect(list(told) == keys, f"keys {list(told)}")
+    expect([it for it in told["wrong"] if it != "disk_slow" or it in wrong] == list(wrong), f"wrong is {told['wrong']}, not {wrong}")
+    expect(said.returncode == max([STATUSES[it] for it in told["wrong"]], default=0), f"status {said.returncode}: {told['wrong']}")
     for lock in told["locks"] or []:
-        expect(list(lock) == ["name", "lock", "client", "host", "held", "wanted", "sign"], f"keys {list(lock)}")
+        expect(list(lock) == ["name", "lock", "client", "host", "held", "wanted", "has_for", "waits_for", "sign"], f"keys {list(lock)}")
+        expect([lock[it] is None for it in ("held", "wanted")] == [lock[it] is None for it in ("has_for", "waits_for")], f"ages: {lock}")
+    for disk in told["disks"]:
+        took = disk.pop("microseconds")
+        expect(took is None or took >= 0 and disk["refusal"] is None, f"a read took {took}: {disk}")
     return told
 
 
+def locks_of(told):
+    """The locks without their ages, which have a test of their own."""
+    return [{key: value for key, value in it.items() if key not in ("has_for", "waits_for")} for it in told["locks"]]
+
+
 METRIC = re.compile(r"midgegalena_([a-z_]+)")
-SAMPLE = re.compile(r"midgegalena_([a-z_]+)\{([^\n]*)\} ([0-9]+)")
+SAMPLE = re.compile(r"midgegalena_([a-z_]+)\{([^\n]*)\} ([0-9]+(?:\.[0-9]{6})?)")
 LABEL = re.compile(r'([a-z_]+)="((?:[^"\\\n]|\\["\\n])*)"(,|$)')
 
 
@@ -94,14 +108,14 @@ def parse(text):
         if expect(labels is not None and metrics and metrics[-1] == found[1], f"no sample: {line}"):
             key = (found[1], frozenset(labels.items()))
             expect(key not in samples, f"twice: {line}")
-            samples[key] = int(found[3])
+            samples[key] = float(found[3]) if "." in found[3] else int(found[3])
     expect(len(set(metrics)) == len(metrics), f"a metric comes again: {metrics}")
     printed.update(metrics)
     return samples
 
 
-def samples_of(status, folder, in_epoch):
-    """What Prometheus is to read where a program reads this. How much of an epoch is used is told to people alone."""
+def samples_of(status, folder):
+    """What Prometheus is to read where a program reads this. How long a read takes is another time at each look."""
     samples = {}
 
     def put(metric, value, **labels):
@@ -114,13 +128,11 @@ def samples_of(status, folder, in_epoch):
     put("up", int(status["refusal"] is None))
     put("cluster_info", 1, cluster=status["cluster"])
     put("log_endless", int(status["endless"]))
-    for metric, key in (("slots", "slots"), ("slots_used", "used"), ("slots_left", "left"), ("epoch", "epoch"), ("clients", "clients"),
-                        ("disks_answering", "answering"), ("disks_may_fail", "may_fail")):
+    for metric, key in (("slots", "slots"), ("slots_used", "used"), ("slots_left", "left"), ("epoch", "epoch"), ("epoch_slots_used", "epoch_used"),
+                        ("clients", "clients"), ("disks_answering", "answering"), ("disks_may_fail", "may_fail")):
         if status[key] is not None:
             put(metric, status[key])
     put("disks", len(status["disks"]))
-    if in_epoch is not None:
-        put("epoch_slots_used", in_epoch)
     for disk in status["disks"]:
         put("disk_answering", int(disk["refusal"] is None), disk=str(disk["disk"]))
         put("disk_read_only", int(disk["read_only"]), disk=str(disk["disk"]))
@@ -128,6 +140,8 @@ def samples_of(status, folder, in_epoch):
             put("disk_refusal_info", 1, disk=str(disk["disk"]), number=str(disk["refusal"]["number"]), name=disk["refusal"]["name"])
     if status["refusal"]:
         put("refusal_info", 1, number=str(status["refusal"]["number"]), name=status["refusal"]["name"])
+    for it in status["machines"]:
+        put("host_machine_info", 1, host=str(it["host"]), machine=it["machine"])
     for host in range(16) if status["hosts"] is not None else []:
         put("host_in_use", int(host in status["hosts"]), host=str(host))
     locks = status["locks"]
@@ -138,6 +152,11 @@ def samples_of(status, folder, in_epoch):
         put(f"locks_{metric}", sum(it[key] is not None for it in locks))
         for name, mode in {(it["name"], it[key]) for it in locks} - {(it["name"], None) for it in locks}:
             put_count(f"name_locks_{metric}", [it for it in locks if (it["name"], it[key]) == (name, mode)], name=name, mode=mode)
+    for metric, key in (("granted", "has_for"), ("waiting", "waits_for")):
+        for name in {it["name"] for it in locks if it[key]}:
+            put(f"name_{metric}_slots", max(it[key]["slots"] for it in locks if it["name"] == name and it[key]), name=name)
+    for seen in status["hosts_seen"]:
+        put("host_seen_slots", seen["asked"]["slots"], host=str(seen["host"]))
     if all(it["sign"] for it in locks):
         put("locks_left_over", sum(it["sign"] == "free" for it in locks))
     for host in range(16):
@@ -149,13 +168,17 @@ def show(*words, shows=(mg_lock,)):
     return subprocess.run([*shows, "--status", *words], capture_output=True, timeout=300)
 
 
-def measured(what, status=0, named=images, label=None, shows=(mg_lock,)):
+def measured(what, named=images, label=None, shows=(mg_lock,)):
     """Compares what it tells Prometheus with what it tells programs. `named` is the folder's name, and `label` what stands in its place."""
-    said, json_of, people = (show(*words, named, shows=shows) for words in (["--prometheus"], ["--json"], []))
-    expect((said.returncode, said.stderr) == (status, json_of.stderr), f"{what}: {said}")
-    in_epoch = re.search(r"([0-9]+) of [0-9]+ in this epoch", people.stdout.decode())
-    wanted = samples_of(json.loads(json_of.stdout), label or named, in_epoch and int(in_epoch[1]))
+    said, json_of = (show(*words, named, shows=shows) for words in (["--prometheus"], ["--json"]))
+    status = json.loads(json_of.stdout)
     samples = parse(said.stdout.decode())
+    times = {dict(labels)["disk"]: value for (metric, labels), value in samples.items() if metric == "disk_read_seconds"}
+    is_slow = "disk_slow" in status["wrong"] or any(it >= 0.5 for it in times.values())
+    expect(said.stderr == json_of.stderr and (is_slow or said.returncode == json_of.returncode), f"{what}: {said} {json_of}")
+    expect(list(times) == [str(it["disk"]) for it in status["disks"] if it["microseconds"] is not None], f"{what}: {times}")
+    samples = {(metric, labels): value for (metric, labels), value in samples.items() if metric != "disk_read_seconds"}
+    wanted = samples_of(status, label or named)
     expect(samples == wanted, f"{what}: {set(samples.items()) ^ set(wanted.items())}")
     return {it: value for (it, labels), value in samples.items() if len(labels) == 1}
 
@@ -179,9 +202,11 @@ def lock(name, number, client, host, held, wanted, sign="none"):
 def empty():
     folder()
     used = [{"disk": disk, "refusal": None, "kind": "file", "read_only": False} for disk in range(3)]
-    log = {"epoch": 0, "slots": 320, "used": 0, "left": None} if endless else {"epoch": None, "slots": 64, "used": 0, "left": 64}
-    expect(told() == {"cluster": "7", "refusal": None, "endless": endless, **log, "disks": used, "answering": 3, "may_fail": 1, "hosts": [], "clients": 0, "locks": []},
-           f"empty: {told()}")
+    log = {"epoch": 0, "epoch_used": 0, "slots": 320, "used": 0, "left": None} if endless else {"epoch": None, "epoch_used": None, "slots": 64, "used": 0, "left": 64}
+    now = told()
+    now.pop("wrong")
+    expect(now == {"cluster": "7", "refusal": None, "endless": endless, **log, "disks": used, "answering": 3, "may_fail": 1, "hosts": [], "machines": [], "hosts_seen": [], "clients": 0,
+                   "locks": []}, f"empty: {now}")
     slots = "epoch: 0, of a log without an end\nslots: 0 are used, 0 of 320 in this epoch\n" if endless else "slots: 0 of 64 are used, 64 are left\n"
     text = f"cluster: 7\n{slots}disks: 3 of 3 answer, 1 more may fail\nhost numbers in use on this machine: none\nlocks: 0\n"
     expect(run("--status", images).stdout == text, f"empty: {run('--status', images).stdout}")
@@ -224,14 +249,83 @@ def queues():
     for host, line in ((0, "enqueue 1 1 1 PR db"), (1, "enqueue 2 1 2 PR db"), (0, "convert 1 2 1 EX"), (2, "enqueue 3 1 3 CW db"), (2, "enqueue 3 2 4 EX a")):
         submit(host, line)
     wanted = [lock("a", 4, 3, 2, "EX", None), lock("db", 2, 2, 1, "PR", None), lock("db", 1, 1, 0, "PR", "EX"), lock("db", 3, 3, 2, None, "CW")]
-    expect(told()["locks"] == wanted and (told()["used"], told()["left"]) == (5, None if endless else 59), f"queues: {told()}")
+    expect(locks_of(told()) == wanted and (told()["used"], told()["left"]) == (5, None if endless else 59), f"queues: {told()}")
     expect(run("--status", images).stdout.split("\n")[5 if endless else 4 : -1] == [
-        "locks: 4", "a", "  lock 4 of client 3, host 2: has EX", "db", "  lock 2 of client 2, host 1: has PR",
-        "  lock 1 of client 1, host 0: has PR, waits for EX", "  lock 3 of client 3, host 2: waits for CW"], "queues, for people")
+        "host numbers in the log: 0 (4 slots ago), 1 (3 slots ago), 2 (0 slots ago)", "locks: 4", "a", "  lock 4 of client 3, host 2: has EX for 0 slots", "db",
+        "  lock 2 of client 2, host 1: has PR for 3 slots", "  lock 1 of client 1, host 0: has PR for 4 slots, waits for EX for 2 slots",
+        "  lock 3 of client 3, host 2: waits for CW for 1 slot"], "queues, for people")
     submit(3, "enqueue 3 3 5 CW db")
     samples = measured("queues")
     counts = [samples[it] for it in ("locks", "locks_granted", "locks_waiting", "locks_left_over", "clients", "slots_used")]
     expect(counts == [5, 3, 3, 0, 3, 6], f"queues, for Prometheus: {samples}")
+
+
+def age(slots, or_more=False):
+    return {"slots": slots, "or_more": or_more}
+
+
+def ages_are(what, wanted, seen):
+    """Of each lock how many slots ago it got what it has, and began to wait; of each host how many slots ago a lock last came through it."""
+    now = told()
+    found = {it["lock"]: (it["has_for"], it["waits_for"]) for it in now["locks"]}
+    expect(found == wanted, f"{what}: {found}, not {wanted}")
+    hosts = {it["host"]: it["asked"] for it in now["hosts_seen"]}
+    expect(hosts == seen, f"{what}, hosts: {hosts}, not {seen}")
+
+
+def ages():
+    folder()
+    for host, line in ((0, "enqueue 1 1 1 PR db"), (1, "enqueue 2 1 2 EX db"), (0, "enqueue 1 2 3 EX db"), (3, "enqueue 4 1 5 EX db noqueue")):
+        submit(host, line)
+    ages_are("two wait, and one is refused", {1: (age(3), None), 2: (None, age(2)), 3: (None, age(1))}, {0: age(1), 1: age(2)})
+    submit(0, "release 1 3 1")  # lock 2 is granted by this command
+    ages_are("one is granted", {2: (age(0), None), 3: (None, age(2))}, {0: age(2), 1: age(3)})
+    submit(1, "convert 2 2 2 CR")
+    submit(0, "status 1 4 3")  # changes nothing
+    ages_are("one is converted, and still in the way", {2: (age(1), None), 3: (None, age(4))}, {0: age(4), 1: age(5)})
+    submit(0, "cancel 1 5 3")
+    submit(0, "enqueue 1 6 3 CR db")  # the same number again is another lock
+    submit(1, "convert 2 3 2 EX")
+    ages_are("one converts", {2: (age(4), age(0)), 3: (age(1), None)}, {0: age(1), 1: age(8)})
+    submit(0, "purge 1 7 0")
+    ages_are("one is purged", {2: (age(0), None)}, {0: age(2), 1: age(9)})
+    measured("ages")
+
+
+def ages_over_epochs():
+    """What an epoch began with is older than can be told."""
+    folder()
+    submit(0, "enqueue 1 1 1 EX db")
+    submit(1, "enqueue 2 1 2 EX db")
+    for request in range(2, 330):
+        if told()["epoch"] == 1:
+            break
+        submit(0, f"status 1 {request} 1")
+    expect(told()["epoch"] == 1, "another epoch has begun")
+    used = told()["used"]
+    submit(2, "enqueue 3 1 3 EX other")
+    since = told()["used"] - used
+    found = {it["lock"]: (it["has_for"], it["waits_for"]) for it in told()["locks"]}
+    expect(since == 1 and found[3] == (age(0), None), f"a lock of this epoch: {since} {found}")
+    expect(found[1][0]["or_more"] and found[1][1] is None and found[2][1]["or_more"] and found[2][0] is None, f"locks of the epoch before: {found}")
+    expect(0 < found[1][0]["slots"] < 320, f"locks of the epoch before: {found}")
+    expect(re.search(r" has EX for \d+ slots? or more\n", run("--status", images).stdout), "locks of the epoch before, for people")
+    measured("another epoch")
+
+
+def slow():
+    """A disk whose reads past the cache take six tenths of a second."""
+    folder()
+    shim = os.path.join(work, "slow.so")
+    subprocess.run(["cc", "-shared", "-fPIC", "-O1", "-o", shim, os.path.join(top, "capi", "tests", "slow_disk.c"), "-ldl"], check=True)
+    if any(it["microseconds"] is None for it in json.loads(run("--status", "--json", images).stdout)["disks"]):
+        print("left out: --status of a slow disk: the file system reads nothing past the cache")
+        return
+    said = run("--status", "--json", images, env={**os.environ, "LD_PRELOAD": shim, "SLOW_DISK": "disk1.img"})
+    status = json.loads(said.stdout)
+    expect((said.returncode, status["wrong"]) == (1, ["disk_slow"]) and 600000 <= status["disks"][1]["microseconds"] < 60000000, f"slow: {said}")
+    said = run("--status", images, env={**os.environ, "LD_PRELOAD": shim, "SLOW_DISK": "disk1.img"})
+    expect(re.search(r"\n  disk1 is slow: a read took [0-9.]+ seconds\n", said.stdout) and "\nwrong: a disk is slow\n" in said.stdout, f"slow, for people: {said}")
 
 
 def take(path):
@@ -277,11 +371,12 @@ def killed():
     expect([it["sign"] for it in told()["locks"]] == ["held"], f"mg-lock is killed alone: {told()['locks']}")
     expect("sign of life" not in run("--status", images).stdout, "mg-lock is killed alone, for people")
     os.killpg(holder.pid, signal.SIGKILL)
-    expect(until(lambda: [it["sign"] for it in told()["locks"]] == ["free"]), f"killed: {told()['locks']}")
-    expect(": has EX; no process here has its sign of life\n" in run("--status", images).stdout, "killed, for people")
+    expect(until(lambda: json.loads(run("--status", "--json", images).stdout)["locks"][0]["sign"] == "free"), "killed")
+    left = told("locks_left_over")
+    shown = run("--status", images).stdout
+    expect(re.search(r": has EX for [0-9]+ slots; no process here has its sign of life\n", shown) and "killed processes left locks" in shown, "killed, for people")
     expect(measured("killed")["locks_left_over"] == 1, "killed, for Prometheus")
-    used = told()["used"]
-    expect(told()["used"] == used and len(told()["locks"]) == 1, "to look releases nothing, and takes no slot")
+    expect(told("locks_left_over")["used"] == left["used"] and len(left["locks"]) == 1, "to look releases nothing, and takes no slot")
     expect(run("--recover", images, 0).returncode == 0 and told()["locks"] == [], "recovered")
 
 
@@ -304,6 +399,26 @@ def without_proc():
     expect("locks_left_over" not in measured("without /proc", shows=(*hides, mg_lock)), "without /proc, for Prometheus")
     os.killpg(holder.pid, signal.SIGTERM)
     holder.wait(120)
+
+
+def machines():
+    """Devices that several machines use, here files: which machine has a number."""
+    shutil.rmtree(images, ignore_errors=True)
+    os.mkdir(images)
+    one, other = "0" * 31 + "a", "0" * 31 + "b"
+    shared = os.path.join(os.path.dirname(mg_lock), "dlm-shared")
+    made = subprocess.run([shared, "format", images, "3", "-" if endless else "64", "7", "4", "512", "files"], capture_output=True, text=True)
+    if made.returncode != 0:
+        print(f"left out: --status of devices of several machines, as files: {made.stderr.strip()}")
+        printed.add("host_machine_info")
+        return
+    for host, name in ((0, one), (2, other)):
+        with open(os.path.join(images, "machine-id"), "w", encoding="ascii") as file:
+            file.write(f"{name}\n")
+        expect(run(images, host, "db", "true").returncode == 0, f"host {host} is of {name}")
+    expect(told()["machines"] == [{"host": 0, "machine": one}, {"host": 2, "machine": other}], f"machines: {told()['machines']}")
+    expect(f"\nhost numbers of machines: 0 of {one}, 2 of {other}\n" in run("--status", images).stdout, "machines, for people")
+    measured("machines")
 
 
 def facts():
@@ -358,7 +473,7 @@ def named(disk):
     """The number and name that `dlm check` has for a disk, and that --status has."""
     lines = subprocess.run([dlm, "check", images], capture_output=True, text=True).stdout.split("\n")
     checked = [line.split()[1:] for line in lines if line.startswith(f"disk{disk} ")]
-    refusal = told()["disks"][disk]["refusal"]
+    refusal = told("disk_lost")["disks"][disk]["refusal"]
     return checked, refusal and [[str(refusal["number"]), refusal["name"]]]
 
 
@@ -378,17 +493,18 @@ def damaged():
                 file.write(text)
         checked, shown = named(1)
         expect(checked == shown and shown[0][1] == name, f"{what}: dlm check {checked}, mg-lock {shown}")
-        status = told()
+        status = told("disk_lost")
         expect((status["answering"], status["may_fail"], len(status["locks"])) == (2, 0, 1), f"{what}: {status}")
         text = run("--status", images).stdout
         expect(f"disks: 2 of 3 answer, 0 more may fail\n  disk1 {shown[0][0]} {name}\n" in text, f"{what}, for people: {text}")
+        expect("\nwrong: a disk does not answer" in text, f"{what}, for people: {text}")
         measured(what)
         if not os.path.exists(path):
             with open(path, "wb") as file:
                 file.write(b"")
     # No majority is left.
     os.rename(os.path.join(images, "disk0.img"), os.path.join(images, "lost"))
-    status = told(125)
+    status = told("refused", "disk_lost")
     expect(status["refusal"] == {"number": 7, "name": "NoMajority"}, f"no majority: {status}")
     expect((status["used"], status["left"], status["locks"]) == (None, None, None), f"no majority: {status}")
     expect((status["answering"], status["may_fail"], status["slots"]) == (1, 0, 320 if endless else 64), f"no majority: {status}")
@@ -396,8 +512,8 @@ def damaged():
     expect(said.returncode == 125 and said.stderr.startswith("mg-lock: 7 NoMajority "), f"no majority: {said}")
     slots = "320 in each epoch" if endless else "64"
     expect(f"\nslots: {slots}\ndisks: 1 of 3 answer, which is no majority\n  disk0 26 Unreadable\n" in said.stdout, f"no majority: {said}")
-    expect("locks" not in said.stdout, f"no majority: {said}")
-    expect(measured("no majority", 125)["up"] == 0, "no majority, for Prometheus")
+    expect("locks" not in said.stdout and "\nwrong: the table cannot be read; a disk does not answer" in said.stdout, f"no majority: {said}")
+    expect(measured("no majority")["up"] == 0, "no majority, for Prometheus")
     # No image at all.
     for name in os.listdir(images):
         os.unlink(os.path.join(images, name))
@@ -418,18 +534,24 @@ def read_only():
     said = subprocess.run([*shows, mg_lock, "--status", "--json", images], capture_output=True, text=True)
     status = json.loads(said.stdout)
     expect([it["read_only"] for it in status["disks"]] == [True] * 3 and (status["answering"], status["may_fail"]) == (3, 0), f"read only: {said}")
+    expect(said.returncode == 3 and status["wrong"][:2] == ["not_writable", "disk_read_only"], f"read only: {said}")
     said = subprocess.run([*shows, mg_lock, "--status", images], capture_output=True, text=True)
     text = "disks: 3 of 3 answer, and no majority may be written\n  disk0 is read only\n  disk1 is read only\n  disk2 is read only\n"
-    expect(said.returncode == 0 and text in said.stdout, f"read only, for people: {said}")
+    expect(said.returncode == 3 and text in said.stdout, f"read only, for people: {said}")
     measured("read only", shows=(*shows, mg_lock))
 
 
 def full():
+    folder(slots=21)
+    for request in range(1, 21):
+        expect(len(told()["locks"]) == (request > 1), "not nearly full")
+        submit(0, f"enqueue 1 {request} 1 EX db")
+    expect(told("log_nearly_full")["left"] == 1, "one slot of 21 is left")
     folder(slots=5)
     submit(0, "enqueue 1 1 1 EX db")
     do("fill", images, 1)
     do("mark", images, 1)
-    status = told()
+    status = told("log_full")
     expect((status["slots"], status["used"], status["left"], len(status["locks"])) == (5, 5, 0, 1), f"full: {status}")
     expect("slots: 5 of 5 are used, 0 are left: the log is full\n" in run("--status", images).stdout, "full, for people")
     expect(measured("full")["slots_left"] == 0, "full, for Prometheus")
@@ -460,7 +582,7 @@ def named_elsewhere():
     expect(used and used <= named, f"rules.yml names {used - named}")
 
 
-only = [] if endless else [full]
-for test in (empty, names, queues, hosts, killed, without_proc, damaged, wrong_use, only_looks, read_only, *only, named_elsewhere):
+only = [ages_over_epochs] if endless else [full]
+for test in (empty, names, queues, ages, slow, hosts, machines, killed, without_proc, damaged, wrong_use, only_looks, read_only, *only, named_elsewhere):
     test()
 finish("status.py")
