@@ -28,6 +28,7 @@ try check.sh "$tests/scripts" "$top/examples"
 try epoch_scripts.py
 try program.py
 try closed.py
+[[ ! -x $top/crates/mg/out/mg ]] || try mg_folder.py
 try race.sh
 try faults.sh
 try check_images.sh

@@ -100,7 +100,13 @@ HANDED = [
     ("submit images --host 3 enqueue 1 1 1 EX db noqueue", "mg-folder: [submit] [images] [--host] [3] [enqueue] [1] [1] [1] [EX] [db] [noqueue]"),
     ("submit --host=15 images enqueue 1 1 1 EX --json", "mg-folder: [submit] [images] [--host] [15] [enqueue] [1] [1] [1] [EX] [--json]"),
     ("submit images -- purge 1 2 0", "mg-folder: [submit] [images] [--host] [0] [purge] [1] [2] [0]"),
-    ("submit images forget 1", "mg-folder: [submit] [images] [--host] [0] [forget] [1]"),
+    ("submit images forget 1 2 3", "mg-folder: [submit] [images] [--host] [0] [forget] [1] [2] [3]"),
+    ("submit images convert 0 4611686018427387904 65535 NL", "mg-folder: [submit] [images] [--host] [0] [convert] [0] [4611686018427387904] [65535] [NL]"),
+    ("submit images convert 1 1 1 PR noqueue value 0123456789abcdef0123456789abcdef",
+     "mg-folder: [submit] [images] [--host] [0] [convert] [1] [1] [1] [PR] [noqueue] [value] [0123456789abcdef0123456789abcdef]"),
+    ("submit images release 255 1 1 value 0123456789abcdef0123456789abcdef",
+     "mg-folder: [submit] [images] [--host] [0] [release] [255] [1] [1] [value] [0123456789abcdef0123456789abcdef]"),
+    ("submit images cancel 1 1 1", "mg-folder: [submit] [images] [--host] [0] [cancel] [1] [1] [1]"),
     ("table images", "mg-folder: [table] [images] [--host] [0]"),
     ("table images --host 0", "mg-folder: [table] [images] [--host] [0]"),
     ("table -- images", "mg-folder: [table] [images] [--host] [0]"),
@@ -215,6 +221,8 @@ def by_dlm():
         expect((told.returncode, told.stdout, told.stderr) == (0, wanted + "\n", ""), f"{words}, by dlm: {told}")
     told = mg("check", "images", "--json")
     expect((told.returncode, told.stderr) == (1, "mg: --json is by mg-folder, which is not installed (see man mg, DIAGNOSTICS)\n"), f"--json, by dlm: {told}")
+    told = mg("create", "anew", "--json")
+    expect(told.returncode == 1 and not os.path.exists("anew"), f"create --json, by dlm: {told}")
     os.makedirs("path", exist_ok=True)
     os.rename("usr/bin/dlm", "path/dlm")
     told = mg("check", "images", env={**os.environ, "PATH": f"path:{os.environ['PATH']}"})
@@ -309,6 +317,30 @@ WRONG = [
     (["submit", "images", "--host", "0"], 2, "COMMAND is missing: mg submit FOLDER "),
     (["submit", "images", "--hots", "0", "enqueue"], 2, "--hots is no option of submit: --host"),
     (["submit", "images", "--host", "00", "enqueue"], 2, "--host is 00: 0 to 15"),
+    (["submit", "images", "enqeue", "1", "1", "1", "EX", "db"], 2, "no command is called enqeue: enqueue, convert, release, cancel, status, purge, forget"),
+    (["submit", "images", "enqueue"], 2, "CLIENT is missing: mg submit FOLDER [--host N] enqueue CLIENT REQUEST LOCK MODE NAME [noqueue]"),
+    (["submit", "images", "enqueue", "256", "1", "1", "EX", "db"], 2, "CLIENT is 256: 0 to 255"),
+    (["submit", "images", "enqueue", "1", "0", "1", "EX", "db"], 2, "REQUEST is 0: 1 to 4611686018427387904"),
+    (["submit", "images", "enqueue", "1", "4611686018427387905", "1", "EX", "db"], 2, "REQUEST is 4611686018427387905: 1 to 4611686018427387904"),
+    (["submit", "images", "enqueue", "1", "1", "0", "EX", "db"], 2, "LOCK is 0: 1 to 65535"),
+    (["submit", "images", "enqueue", "1", "1", "65536", "EX", "db"], 2, "LOCK is 65536: 1 to 65535"),
+    (["submit", "images", "enqueue", "1", "1", "1", "ex", "db"], 2, "MODE is ex: NL, CR, CW, PR, PW, EX"),
+    (["submit", "images", "enqueue", "1", "1", "1", "EX"], 2, "NAME is missing: mg submit FOLDER [--host N] enqueue CLIENT "),
+    (["submit", "images", "enqueue", "1", "1", "1", "EX", "sixteen-letters-"], 2, "NAME is sixteen-letters-: 1 to 15 bytes"),
+    (["submit", "images", "enqueue", "1", "1", "1", "EX", "db", "nowait"], 2, "nowait is a word too many: mg submit FOLDER [--host N] enqueue CLIENT "),
+    (["submit", "images", "enqueue", "1", "1", "1", "EX", "db", "noqueue", "noqueue"], 2, "noqueue is a word too many: mg submit FOLDER "),
+    (["submit", "images", "convert", "1", "+1", "1", "EX"], 2, "REQUEST is +1: 1 to 4611686018427387904"),
+    (["submit", "images", "convert", "1", "1", "1"], 2, "MODE is missing: mg submit FOLDER [--host N] convert CLIENT "),
+    (["submit", "images", "convert", "1", "1", "1", "NL", "value"], 2, "VALUE is missing: mg submit FOLDER [--host N] convert CLIENT "),
+    (["submit", "images", "convert", "1", "1", "1", "NL", "value", "0" * 32, "noqueue"], 2, "noqueue is a word too many: mg submit FOLDER "),
+    (["submit", "images", "release", "1", "1", "1", "value", "12"], 2, "VALUE is 12: 32 digits, 0 to 9 and a to f"),
+    (["submit", "images", "release", "1", "1", "1", "value", "A" * 32], 2, f"VALUE is {'A' * 32}: 32 digits, 0 to 9 and a to f"),
+    (["submit", "images", "release", "1", "1", "1", "values"], 2, "values is a word too many: mg submit FOLDER "),
+    (["submit", "images", "cancel", "01", "1", "1"], 2, "CLIENT is 01: 0 to 255"),
+    (["submit", "images", "status", "1", "1"], 2, "LOCK is missing: mg submit FOLDER [--host N] status CLIENT REQUEST LOCK"),
+    (["submit", "images", "purge", "1", "1", "16"], 2, "HOST is 16: 0 to 15"),
+    (["submit", "images", "forget", "1", "1", "256"], 2, "FORGOTTEN is 256: 0 to 255"),
+    (["submit", "images", "forget", "1", ""], 2, "REQUEST is '': 1 to 4611686018427387904"),
     (["table", "images", "--jsn"], 2, "--jsn is no option of table: --host"),
     (["table", "images", "--"], 0, ""),
     (["table", "images", "0"], 2, "0 is a word too many: mg table FOLDER "),
@@ -481,7 +513,7 @@ def at_once():
     """None is refused, and none has a number while another one has it."""
     folder()
     locks = {**os.environ, "LOCKS": "0.02"}
-    started = [begin("submit", "images", "status", "1", str(number), "1", env=locks) for number in range(12)]
+    started = [begin("submit", "images", "status", "1", str(number), "1", env=locks) for number in range(1, 13)]
     started += [begin("lock", "images", "db", "--", "ls", env=locks) for _ in range(12)]
     for one in started:
         out, err = one.communicate(timeout=600)

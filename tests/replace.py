@@ -1,7 +1,8 @@
 #!/usr/bin/env python3
 """replace.py [--program PATH] [--calls N] [--seed N]: folders of logs without an end that have lost an image, and `dlm replace FOLDER DISK`, which puts a new one in its place.
 The first epoch in which the new disk takes part is the second one after the newest. Before, it stays as it was made; from then on it is like any other, and
-another disk may be lost. Refused folders stay as they were. At so many calls (none given: 40) of a replacing its process is killed, and at so many one call fails.
+another disk may be lost. Refused folders stay as they were. At so many calls (none given: 40) of a replacing its process is killed, at so many one call fails, and at so
+many places power is lost.
 
 Images are written and worked out here byte by byte, by docs/FORMAT.md. It prints each difference, and how many there were; the status is 1 where there was one.
 The program has to be built: `./dlm` does so."""
@@ -11,15 +12,19 @@ import fcntl
 import os
 import random
 import shutil
+import subprocess
 import sys
 
 import endless
 import endless_log
 import folder_tests
+import in_place
+import lock_log
+import power_loss
 from endless import SLOTS, at_some_calls, built_failing, bytes_of, calls_of, checks, end_of, images_in, put, put_alone, put_bytes
 from folder_tests import TESTS, prints, refused, run, run_tests, usage, wants
 
-# The tests of endless.py are its own.
+# The tests of these are their own.
 TESTS.clear()
 from folder_tests import test
 
@@ -274,6 +279,76 @@ def calls_that_fail():
         if not is_there:
             replaced("d", 1, 4)
         is_new("d", 1, 3, 4, rows, f"where {call} fails")
+
+
+# Of an image that tests/shim/calls.c writes down the number there, where its name ends with .new.
+EARLY = 20 + 1
+NAMES = {EARLY: "disk1.img.new", 1: "disk1.img"}
+
+
+def left_by_losses(found):
+    """What a loss of power may leave at each place of a record: the place, whether the run has told its end, and the bytes of the new file under the name that it
+    has. The changes since the last sync of the folder are a beginning of what was done."""
+    file, lasting, changed, told = in_place.Image(b""), {}, [], False
+    for place, record in enumerate([*found, None]):
+        for names in [lasting, *changed]:
+            ways = ["new", "old", None, None] if names else ["new"]
+            for way in ways:
+                data = file.after(lambda way=way: way or random.choice(["old", "new", "front", "ones"]))
+                yield place, told, {name: data for name in names}
+        if record:
+            kind, image, _, at, given = record
+            names = (changed or [lasting])[-1]
+            if kind == "C" and image in NAMES:
+                changed.append({**names, NAMES[image]: True})
+            elif kind == "U" and image in NAMES:
+                changed.append({name: True for name in names if name != NAMES[image]})
+            elif kind == "R":
+                changed.append({**{name: True for name in names if name != NAMES[at]}, NAMES[image]: True})
+            elif kind in "WT" and image in NAMES:
+                file.waiting.append((at, given if kind == "W" else None))
+            elif kind == "S" and image in NAMES:
+                file.sync()
+            elif kind == "N" and changed:
+                lasting, changed = changed[-1], []
+            told = told or kind == "P"
+
+
+@test
+def losses_of_power():
+    """The folder has no new image, or a whole one. The same words make it then, unless it is there. Once the end is told it is."""
+    shim = lock_log.built_shim(os.getcwd())
+    if not shim:
+        print("left out: replace.py, losses of power: no C compiler (cc)")
+        return
+    put_alone("d", 2, 5)
+    lose("d", 1)
+    before, rows = images_in("d"), newest_rows("d")
+    table = run("table d 9")
+    put("d", before)
+    env = {**os.environ, "LD_PRELOAD": shim, "DLM_LOG": "log"}
+    out = subprocess.run([folder_tests.PROGRAM, "replace", "d", "1"], env=env, capture_output=True, check=False, text=True)
+    wants("the run", (out.returncode, out.stdout, out.stderr), (0, "replaced disk1: it takes part from epoch 4 on\n", ""))
+    is_new("d", 1, 3, 4, rows, "as it was made")
+    found = power_loss.records("log")
+    wants("what is done in the folder", [(kind, image) for kind, image, *_ in found if kind in "CURN"], [("C", EARLY), ("N", 0), ("R", 1), ("N", 0)])
+    places = {*range(3), *range(len(found) - 12, len(found) + 1), *random.sample(range(len(found)), min(CALLS, len(found)))}
+    counts = {"there": 0, "none": 0}
+    for place, told, left in left_by_losses(found):
+        if place not in places:
+            continue
+        is_there = "disk1.img" in left
+        counts["there" if is_there else "none"] += 1
+        wants(f"the image at place {place} of {len(found)}", (is_there or not told, left.get("disk1.img") in (None, new_image(1, 3, 4, rows))), (True, True))
+        put("e", {**before, **left})
+        wants(f"the table at place {place}", run("table e 9"), table)
+        put("e", {**before, **left})
+        if is_there:
+            refused("replace e 1", "dlm: 29 AlreadyThere\n")
+        else:
+            replaced("e", 1, 4)
+        is_new("e", 1, 3, 4, rows, f"after a loss at {place}")
+    wants(f"each case, {counts}", all(counts.values()), True)
 
 
 def main():

@@ -112,14 +112,15 @@ static void turns(const char *folder, long many) {
 }
 
 int main(int argc, char **argv) {
-    if (argc != 4)
+    long count = argc == 4 ? atol(argv[3]) : 0;
+    if (count < 1)
         return 2;
     if (strcmp(argv[1], "many") == 0)
-        many(argv[2], atol(argv[3]));
+        many(argv[2], count);
     else if (strcmp(argv[1], "held") == 0)
-        held(argv[2], (unsigned)atoi(argv[3]));
+        held(argv[2], (unsigned)count);
     else if (strcmp(argv[1], "turns") == 0)
-        turns(argv[2], atol(argv[3]));
+        turns(argv[2], count);
     else
         return 2;
     return 0;

@@ -2,8 +2,8 @@
  * tests/at_once.py build it with `cc -shared -fPIC`.
  *
  * DLM_LOG=FILE   each image that is made, each write, cut, sync and printed line goes into FILE, in the order in which they took
- *                effect: of the processes with the same FILE one makes a call at a time. So does each sync of a folder. A sync
- *                makes no system call then.
+ *                effect: of the processes with the same FILE one makes a call at a time. So does each sync of a folder, and each
+ *                image that is removed or gets another name. A sync makes no system call then. diskK.img.new is image K + 20
  * DLM_OLD=PATH   to the numbers of the images in this folder 10 is added there
  * DLM_READ=N     a read is made in pieces of N bytes, each at a moment of its own; -N: the last piece first
  * DLM_WRITE=N    a write, likewise
@@ -28,6 +28,7 @@
 #define MOST_FILES 1024
 #define PART 4096 /* a longer write is several records */
 #define OLD 10
+#define NEW 20
 
 static int (*real_open)(const char *, int, ...);
 static ssize_t (*real_pread)(int, void *, size_t, off_t);
@@ -36,6 +37,8 @@ static ssize_t (*real_write)(int, const void *, size_t);
 static int (*real_fdatasync)(int);
 static int (*real_fsync)(int);
 static int (*real_ftruncate)(int, off_t);
+static int (*real_unlink)(const char *);
+static int (*real_rename)(const char *, const char *);
 
 /* By descriptor: the number of the image, with OLD if it is in the old folder, and 1; or 0. And whether it is the old folder. */
 static int images[MOST_FILES], is_old_folder[MOST_FILES];
@@ -78,6 +81,8 @@ __attribute__((constructor)) static void begin(void) {
     real_fdatasync = dlsym(RTLD_NEXT, "fdatasync");
     real_fsync = dlsym(RTLD_NEXT, "fsync");
     real_ftruncate = dlsym(RTLD_NEXT, "ftruncate");
+    real_unlink = dlsym(RTLD_NEXT, "unlink");
+    real_rename = dlsym(RTLD_NEXT, "rename");
     struct timespec now;
     clock_gettime(CLOCK_MONOTONIC, &now);
     state = (uint64_t)now.tv_nsec * 2654435761u + (uint64_t)getpid() * 40503u + 88172645463325252u;
@@ -123,15 +128,21 @@ static int is_in_old(const char *path) {
     return length && !strncmp(path, old_folder, length) && path[length] == '/';
 }
 
+/* The number of the image of this name, and 1; or 0. */
+static int image_at(const char *path) {
+    const char *slash = strrchr(path, '/');
+    const char *name = slash ? slash + 1 : path;
+    if (strlen(name) < 9 || strncmp(name, "disk", 4) || strncmp(name + 5, ".img", 4) || (name[9] && strcmp(name + 9, ".new")))
+        return 0;
+    return name[4] - '0' + 1 + (name[9] ? NEW : is_in_old(path) ? OLD : 0);
+}
+
 int open(const char *path, int flags, ...) {
     va_list rest;
     va_start(rest, flags);
     int mode = flags & O_CREAT ? va_arg(rest, int) : 0;
     va_end(rest);
-    const char *slash = strrchr(path, '/');
-    const char *name = slash ? slash + 1 : path;
-    int is_image = strlen(name) == 9 && !strncmp(name, "disk", 4) && !strcmp(name + 5, ".img");
-    int image = is_image ? name[4] - '0' + 1 + (is_in_old(path) ? OLD : 0) : 0;
+    int image = image_at(path);
     if (image && through_pages)
         flags &= ~(O_DIRECT | O_DSYNC);
     int makes = image && flags & O_CREAT && log_fd >= 0;
@@ -248,6 +259,31 @@ ssize_t write(int fd, const void *from, size_t length) {
     else if (notes && done > 0)
         note('W', image - 1, (uint64_t)(lseek(fd, 0, SEEK_CUR) - done), from, (uint32_t)done);
     if (notes)
+        one_at_a_time(0);
+    return done;
+}
+
+int unlink(const char *path) {
+    int image = log_fd >= 0 ? image_at(path) : 0;
+    if (image)
+        one_at_a_time(1);
+    int done = real_unlink(path);
+    if (image && done == 0)
+        note('U', image - 1, 0, "", 0);
+    if (image)
+        one_at_a_time(0);
+    return done;
+}
+
+/* Its place is the image that it was. */
+int rename(const char *from, const char *to) {
+    int image = log_fd >= 0 ? image_at(to) : 0;
+    if (image)
+        one_at_a_time(1);
+    int done = real_rename(from, to);
+    if (image && done == 0)
+        note('R', image - 1, (uint64_t)(image_at(from) - 1), "", 0);
+    if (image)
         one_at_a_time(0);
     return done;
 }
