@@ -921,7 +921,8 @@ static int open_once(const char *folder, unsigned number, enum way way, struct m
 
 enum { OPENINGS = 3 };
 
-/* A lost image may be replaced after the images were opened, and before the number is locked: nobody does so while it is. Then all are opened anew. */
+/* A lost image may be replaced after the images were opened, and before the number is locked: nobody does so while it is. Then all are opened anew. Who replaces so
+ * often that they are others once more has not ended every process before, as is asked of him. */
 static int open_folder(const char *folder, unsigned number, enum way way, struct mg_host **out, int *disk) {
     int status = open_once(folder, number, way, out, disk);
     for (unsigned i = 1; i < OPENINGS && status == MG_OK && (way == WORKS || way == TAKES) && !has_images_of(*out, folder); i++) {
