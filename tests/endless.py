@@ -414,6 +414,22 @@ def images_that_disagree():
 
 
 @test
+def newer_versions():
+    """Where all images are of a version that is not known each task refuses the folder, and writes nothing: so did a program from before logs without an end."""
+    put_alone("d", 1, 5)
+    os.mkdir("e")
+    for version in (5, 6, 255):
+        put("d", {name: bytes([0xA5, version]) + data[2:] for name, data in images_in("d").items()})
+        before = images_in("d")
+        for text in ("submit d 0 enqueue 2 1 2 EX db", "table d 0", "mark d 0", "check d", "fill d 0", "migrate d", "migrate d e 4096", "renew d 0 e 3 16 8", "replace d 1"):
+            refused(text, "dlm: 25 WrongHeader disk0\n")
+        for text in ("format d 3 7", "format d 3 16 7"):
+            refused(text, "dlm: 29 AlreadyThere\n")
+        as_it_was("d", before, f"images of version {version}")
+        wants("new images", images_in("e"), {})
+
+
+@test
 def tasks_for_logs_that_end():
     """They refuse such a folder, and write nothing."""
     put_alone("d", 1, SLOTS)
