@@ -112,6 +112,7 @@ WORDS = [
     word("recover", "FOLDER", [
         number("host", "N", 0, 15, "of this host number alone; without it of each one that is in use by nobody"),
         option("all", "FLAG", "also locks without a sign of life: only when the machine has just started"),
+        JSON,
     ], "release what killed processes left",
         ["Releases the locks of each `mg lock` that was killed, once its COMMAND has ended, too.", "It prints how many, for each host number that had some."],
         ["mg recover images", "mg recover images --all"]),
@@ -137,9 +138,10 @@ WORDS = [
          ["mg sweep examples/first_reply.dlm"]),
 ]
 
-# The names in the objects that mg-folder prints, with what they stand for, as lines of mdoc.
+# The names in the objects that are printed, with what they stand for, as lines of mdoc. mg-lock.1 has those of take and status.
 OBJECTS = [
     ("create", [".Ar folder ;", ".Ar cluster ,", "a string;", ".Ar disks ;", ".Ar slots ,", "null without an end;", ".Ar kind :", "ending or endless"]),
+    ("recover", [".Ar released ;", ".Ar hosts ,", "of each host number that had some:", ".Ar host , released"]),
     ("check", [".Ar folder ;", ".Ar sound ,", "true or false;", ".Ar lines :", "those that are printed without", ".Fl -json ,", "but for sound"]),
     ("migrate", [".Ar folder ;", ".Ar disks ;", ".Ar made ,", "false where the log was endless before;", ".Ar slots_an_epoch ,", "null where it was"]),
     ("replace", [".Ar folder ;", ".Ar disk ;", ".Ar first_epoch ,", "from which on the new image takes part"]),

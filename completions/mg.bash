@@ -15,7 +15,7 @@ _mg() {
         give) options="--help" takes=2 ;;
         status) options="--json --prometheus --help" takes=1 ;;
         watch) options="--every --help" takes=1 ;;
-        recover) options="--host --all --help" takes=1 ;;
+        recover) options="--host --all --json --help" takes=1 ;;
         submit) options="--host --help" takes=1 ;;
         table) options="--host --help" takes=1 ;;
         mark) options="--host --help" takes=1 ;;

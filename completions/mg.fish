@@ -79,6 +79,7 @@ complete -c mg -n '__mg_word watch' -l every -x -d 'the pause between two looks;
 complete -c mg -n '__mg_at recover 0' -a '(__fish_complete_directories)'
 complete -c mg -n '__mg_word recover' -l host -x -a '(seq 0 15)' -d 'of this host number alone; without it of each one that is in use by nobody'
 complete -c mg -n '__mg_word recover' -l all -d 'also locks without a sign of life: only when the machine has just started'
+complete -c mg -n '__mg_word recover' -l json -d 'for programs: one object'
 complete -c mg -n '__mg_at submit 0' -a '(__fish_complete_directories)'
 complete -c mg -n '__mg_word submit' -l host -x -a '(seq 0 15)' -d 'the host number; without it mg chooses one'
 complete -c mg -n '__mg_at table 0' -a '(__fish_complete_directories)'

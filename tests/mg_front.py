@@ -3,6 +3,7 @@
 mg-folder and dlm that print their words. What it hands on; the host and cluster numbers that it chooses; what it says of wrong words, in one write, and its statuses;
 help, signals, `watch` and `recover`. And what capi/mg_pages.py makes is what is there. It needs `cc`. It prints each difference, and how many checks there were."""
 import fcntl
+import json
 import os
 import pty
 import re
@@ -310,7 +311,7 @@ WRONG = [
     (["watch", "images", "--every", "0"], 2, "--every is 0: a number of seconds, 0.1 to 86400"),
     (["watch", "images", "--every", "0.05"], 2, "--every is 0.05: a number of seconds, 0.1 to 86400"),
     (["watch", "images", "--json"], 2, "--json is no option of watch: --every"),
-    (["recover", "images", "0"], 2, "0 is a word too many: mg recover FOLDER [--host N] [--all]"),
+    (["recover", "images", "0"], 2, "0 is a word too many: mg recover FOLDER [--host N] [--all] [--json]"),
     (["recover", "images", "--host", "a"], 2, "--host is a: 0 to 15"),
     (["submit"], 2, "FOLDER is missing: mg submit FOLDER [--host N] COMMAND.."),
     (["submit", "images"], 2, "COMMAND is missing: mg submit FOLDER [--host N] COMMAND.."),
@@ -565,9 +566,16 @@ def recovers():
         calls = file.read()
     expect(told.stdout == "host 5: released 1\nhost 6: released 2\n" and told.returncode == 0, f"recover: {told}")
     expect(calls == "".join(f"recover --recover --all images {host}\n" for host in (0, 5, 6)), f"recover: {calls}")
+    told = mg("recover", "images", "--json", env={**os.environ, "TOLD": "told"})
+    wanted = {"released": 3, "hosts": [{"host": 5, "released": 1}, {"host": 6, "released": 2}]}
+    expect(told.returncode == 0 and told.stdout.count("\n") == 1 and json.loads(told.stdout) == wanted, f"recover --json: {told}")
+    told = mg("recover", "images", "--json", "--host", "6", env={**os.environ, "TOLD": "told"})
+    expect(told.returncode == 0 and json.loads(told.stdout) == {"released": 2, "hosts": [{"host": 6, "released": 2}]}, f"recover --json of one host: {told}")
     kept.close()
     os.remove("images/locks")
     expect(mg("recover", "images", env={**os.environ, "TOLD": "told"}).stdout == "released 0\n", "nothing to recover")
+    told = mg("recover", "images", "--json", env={**os.environ, "TOLD": "told"})
+    expect(told.returncode == 0 and json.loads(told.stdout) == {"released": 0, "hosts": []}, f"nothing to recover, by --json: {told}")
     told = mg("recover", "images", env={**os.environ, "RECOVER_FAILS": "1"})
     expect((told.returncode, told.stdout, told.stderr) == (125, "", "mg-lock: 9 LogFull\n"), f"recover that fails: {told}")
 

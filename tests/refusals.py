@@ -20,6 +20,7 @@ SPECS = {
 PROGRAM = "crates/dlm_tasks/src/fault.rt"
 THREADS = "crates/dlm/specs/RaceText.antt"
 REFUSALS = "docs/REFUSALS.md"
+SCRIPTS = "docs/SCRIPTS.md"
 HEADER = "capi/include/midgegalena.h"
 ROW = r"^\| (?P<number>\d+) \| `(?P<name>\w+)[^`]*` \|"
 TEXT = r'"(?P<number>\d+) (?P<name>[A-Z]\w+)'
@@ -116,7 +117,7 @@ def lists_of(tree):
     lists["folder"] = [it for it in lists["operation"] if it[1] not in SCRIPTS_ALONE]
     lists["no memory"] = [it for it in lists["program"] if it[1] == "NoMemory"]
     pairs = {pair for kind in (*SPECS, "program") for pair in lists[kind]}
-    device = tree.read(REFUSALS).partition("## A device call")[2]
+    device = tree.read(SCRIPTS).partition("## A device call")[2]
     pairs |= {(int(it["number"]), it["name"]) for it in re.finditer(ROW, device, re.M)}
     told += [f"the number {n} has several names" for n, times in Counter(n for n, _ in pairs).items() if times > 1]
     told += [f"{name} has several numbers" for name, times in Counter(name for _, name in pairs).items() if times > 1]
@@ -132,8 +133,8 @@ C_TEXTS = Place("capi/src/midgegalena.c", r'\{MG_(?P<symbol>[A-Z_]+), "(?P<name>
 PLACES = (
     Place(REFUSALS, ROW, ["operation"], begin="## An operation of a host", end="\n## "),
     Place(REFUSALS, ROW, ["table"], begin="## The lock table", end="\n## "),
-    Place(REFUSALS, ROW, ["own", "image"], begin="## The program", end="\n## "),
-    Place(REFUSALS, ROW, ["threads"], begin="## Host threads", end="\n## "),
+    Place(REFUSALS, ROW, ["own", "image"], begin="## The program"),
+    Place(SCRIPTS, ROW, ["threads"], begin="## Host threads", end="\n## "),
     Place("man/dlm.1", r"^\.It Li (?P<number>\d+) (?P<name>\w+)", ["table", "folder", "program", "image"], begin=".Sh DIAGNOSTICS"),
     C_ENUM,
     C_TEXTS,

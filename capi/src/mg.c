@@ -679,37 +679,72 @@ static int create_numbered(void) {
     return 0;
 }
 
-/* How many locks of a host were released; a line says so if it is some. Ends where mg-lock fails. */
-static unsigned recover_host(unsigned host) {
-    char text[64], line[64];
+static unsigned released_by[MG_HOSTS]; /* how many locks of each host number were released */
+
+static unsigned released_by_all(void) {
     unsigned released = 0;
+    for (unsigned host = 0; host < MG_HOSTS; host++)
+        released += released_by[host];
+    return released;
+}
+
+/* Releases what a host has left; a line says how much, if it is some. Ends where mg-lock fails. */
+static void recover_host(unsigned host) {
+    char text[64], line[64];
     int status;
     begin_recovery(number_text(host));
     status = run_and_read(text, sizeof text, false);
     if (status != 0)
         exit(status);
-    (void)sscanf(text, "released %u", &released);
-    snprintf(line, sizeof line, "host %u: released %u\n", host, released);
-    if (released > 0)
+    (void)sscanf(text, "released %u", &released_by[host]);
+    snprintf(line, sizeof line, "host %u: released %u\n", host, released_by[host]);
+    if (released_by[host] > 0 && !asked.given[O_JSON])
         print(line);
-    return released;
 }
 
 /* The first recovery learns the whole log and marks it, so a look knows then which other host numbers have locks. Those that are in use are passed. */
-static int recover_all(void) {
+static void recover_all(void) {
     bool has[MG_HOSTS] = {false};
-    unsigned first, released;
+    unsigned first;
     int status, disk = -1;
     find_host();
     first = (unsigned)atoi(asked.given[O_HOST]);
-    released = recover_host(first);
+    recover_host(first);
     status = find_hosts(asked.taken[0], has, &disk);
     if (status != MG_OK)
         refuse_folder(status, disk);
     for (unsigned host = 0; host < MG_HOSTS; host++)
         if (has[host] && host != first && is_free(asked.taken[0], host))
-            released += recover_host(host);
-    if (released == 0)
+            recover_host(host);
+}
+
+/* One object: how many locks were released, and of each host number that had some. */
+static void tell_released(void) {
+    char text[64 + 40 * MG_HOSTS];
+    const char *before = "";
+    size_t length = (size_t)sprintf(text, "{\"released\":%u,\"hosts\":[", released_by_all());
+    for (unsigned host = 0; host < MG_HOSTS; host++)
+        if (released_by[host] > 0) {
+            length += (size_t)sprintf(text + length, "%s{\"host\":%u,\"released\":%u}", before, host, released_by[host]);
+            before = ",";
+        }
+    strcpy(text + length, "]}\n");
+    print(text);
+}
+
+/* With a host number mg-lock itself says what it released. */
+static int recover(void) {
+    if (asked.given[O_HOST] && !asked.given[O_JSON]) {
+        begin_recovery(asked.given[O_HOST]);
+        become_it();
+    }
+    if (asked.given[O_HOST])
+        recover_host((unsigned)atoi(asked.given[O_HOST]));
+    else
+        recover_all();
+    if (asked.given[O_JSON])
+        tell_released();
+    else if (released_by_all() == 0)
         print("released 0\n");
     return 0;
 }
@@ -751,11 +786,7 @@ static int carry_out(void) {
     case W_GIVE: become_giving();
     case W_STATUS: begin_status(); become_it();
     case W_WATCH: watch();
-    case W_RECOVER:
-        if (!asked.given[O_HOST])
-            return recover_all();
-        begin_recovery(asked.given[O_HOST]);
-        become_it();
+    case W_RECOVER: return recover();
     case W_CREATE:
         if (!asked.given[O_CLUSTER])
             return create_numbered();

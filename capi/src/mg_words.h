@@ -236,16 +236,18 @@ static const struct word ALL_WORDS[WORDS] = {
         .needs_more = false,
         .options =
             {{"host", O_HOST, 0, NUMBER, 0u, 15u, "0 to 15"},
-             {"all", O_ALL, 0, FLAG, 0u, 0u, ""}},
+             {"all", O_ALL, 0, FLAG, 0u, 0u, ""},
+             {"json", O_JSON, 0, FLAG, 0u, 0u, ""}},
         .one_of = {{OPTIONS, OPTIONS, OPTIONS}, {OPTIONS, OPTIONS, OPTIONS}},
-        .usage = "mg recover FOLDER [--host N] [--all]",
+        .usage = "mg recover FOLDER [--host N] [--all] [--json]",
         .help =
-        "usage: mg recover FOLDER [--host N] [--all]\n"
+        "usage: mg recover FOLDER [--host N] [--all] [--json]\n"
         "Releases the locks of each mg lock that was killed, once its COMMAND has ended, too. It prints\n"
         "how many, for each host number that had some.\n"
         "\n"
         "  --host N  of this host number alone; without it of each one that is in use by nobody\n"
         "  --all     also locks without a sign of life: only when the machine has just started\n"
+        "  --json    for programs: one object\n"
         "\n"
         "Examples:\n"
         "  mg recover images\n"
