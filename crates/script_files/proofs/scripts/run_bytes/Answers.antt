@@ -4,7 +4,7 @@ use Rattle.std.proofs.lemmas.Result.{on_ok_weaker}
 use Rattle.lock_script.specs.Lines.{lines_of}
 use Rattle.epoch_script.specs.Scripts.{IsAnyScript}
 use Rattle.dlm_tasks.proofs.Shown.{flushed_any, room_of}
-use Rattle.mg.proofs.scripts.run_bytes.Goals as goal
+use Rattle.script_files.proofs.scripts.run_bytes.Goals as goal
 
 pub returns : goal.returns
 returns g c =
