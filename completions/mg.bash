@@ -16,9 +16,9 @@ _mg() {
         status) options="--json --prometheus --help" takes=1 ;;
         watch) options="--every --help" takes=1 ;;
         recover) options="--host --all --json --help" takes=1 ;;
-        submit) options="--host --help" takes=1 ;;
-        table) options="--host --help" takes=1 ;;
-        mark) options="--host --help" takes=1 ;;
+        submit) options="--host --json --help" takes=1 ;;
+        table) options="--host --json --help" takes=1 ;;
+        mark) options="--host --json --help" takes=1 ;;
         check) options="--json --help" takes=1 ;;
         migrate) options="--json --help" takes=1 ;;
         replace) options="--json --help" takes=2 ;;

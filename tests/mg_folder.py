@@ -2,6 +2,7 @@
 """mg_folder.py: the program of crates/mg, which is installed as mg-folder: what no clause says. Its lines on standard error, each by one write; its statuses; that what it
 prints with `--json` is one object; and that `dlm` finds what it made. The programs have to be built: `rt ci mg` and `./dlm` do so. It prints each difference, and how many
 checks there were."""
+import fcntl
 import json
 import os
 import socket
@@ -47,12 +48,16 @@ WRONG = [
     (["table", "images", "--host", "16"], "HOST is 16: 0 to 15"),
     (["table", "images", "--host", "007"], "HOST is 007: 0 to 15"),
     (["table", "images", "--host", "a b"], "HOST is ..: 0 to 15"),
-    (["table", "images", "--host", "1", "--json"], "--json is a word too many"),
+    (["table", "images", "--host", "1", "--json", "all"], "all is a word too many"),
+    (["table", "images", "--json", "--host", "1"], "OPTION is --json: --host"),
+    (["mark", "images", "--host", "1", "--jsn"], "--jsn is a word too many"),
     (["create", "images", "--cluster", "7", "--disks", "8"], "DISKS is 8: 1 to 7"),
     (["create", "images", "--cluster", "7", "--slots", "4097"], "SLOTS is 4097: 1 to 4096"),
     (["create", "images", "--cluster", "18446744073709551616"], "CLUSTER is 18446744073709551616: 0 to 18446744073709551615"),
     (["submit", "images", "--host", "1"], "COMMAND is missing: enqueue, convert, release, cancel, status, purge, forget"),
     (["submit", "images", "--host", "1", "enqeue", "1", "1", "1", "EX", "db"], "COMMAND is enqeue: enqueue, convert, release, cancel, status, purge, forget"),
+    (["submit", "images", "--host", "1", "--json"], "COMMAND is missing: enqueue, convert, release, cancel, status, purge, forget"),
+    (["submit", "images", "--host", "1", "--json", "release", "1", "1"], "COMMAND is release: enqueue, convert, release, cancel, status, purge, forget"),
     (["replace", "images"], "DISK is missing: 0 to 6"),
     (["replace", "images", "7"], "DISK is 7: 0 to 6"),
     (["replace", "images", "-1"], "DISK is -1: 0 to 6"),
@@ -91,6 +96,15 @@ def over_folders():
     ends(["submit", "plain", "--host", "0", "enqueue", "1", "1", "1", "EX", "db"], "ack 0 Granted\n")
     ends(["table", "plain", "--host", "1"], "recovered 1\ndb\n  granted 1 1 0 EX\n")
     ends(["mark", "plain", "--host", "1"], "recovered 1\nmarked 0 slots\n")
+    ends_in_json(["table", "plain", "--host", "1", "--json"], {"folder": "plain", "recovered": 1, "lines": ["db", "  granted 1 1 0 EX"]})
+    ends_in_json(["mark", "plain", "--host", "1", "--json"], {"folder": "plain", "recovered": 1, "marked": 0})
+    ends_in_json(["submit", "plain", "--host", "0", "--json", "status", "1", "2", "1"], {"folder": "plain", "place": 1, "reply": "State(held=EX, wanted=-)"})
+    ends_in_json(["submit", "plain", "--host", "2", "--json", "enqueue", "2", "1", "2", "EX", "db", "noqueue"], {"folder": "plain", "place": 2, "reply": "16 NotQueued"})
+    with open("plain/host3.lock", "w", encoding="ascii") as kept:
+        fcntl.flock(kept, fcntl.LOCK_EX)
+        refused(["submit", "plain", "--host", "3", "--json", "status", "1", "3", "1"], "plain: 36 HostInUse host3")
+        refused(["table", "plain", "--host", "3", "--json"], "plain: 36 HostInUse host3")
+        refused(["mark", "plain", "--host", "3", "--json"], "plain: 36 HostInUse host3")
     ends(["check", "plain"], "sound\n")
     refused(["create", "plain", "--cluster", "8", "--json"], "plain: 29 AlreadyThere")
     ends_in_json(["check", "plain", "--json"], {"folder": "plain", "sound": True, "lines": []})
@@ -106,6 +120,9 @@ def over_logs_without_an_end():
     ends_in_json(["create", name, "--cluster", "18446744073709551615", "--disks", "5", "--json"],
                  {"folder": name, "cluster": "18446744073709551615", "disks": 5, "slots": None, "kind": "endless"})
     ends_in_json(["migrate", name, "--json"], {"folder": name, "disks": 5, "made": False, "slots_an_epoch": None})
+    ends_in_json(["table", name, "--host", "0", "--json"], {"folder": name, "recovered": 0, "lines": ["empty"]})
+    ends_in_json(["submit", name, "--host", "0", "--json", "enqueue", "1", "1", "1", "EX", "db"], {"folder": name, "place": 0, "reply": "Granted"})
+    ends_in_json(["mark", name, "--host", "0", "--json"], {"folder": name, "recovered": 1, "marked": 0})
     epochs = [f"disk{disk} epoch 0" for disk in range(5)]
     ends_in_json(["check", name, "--json"], {"folder": name, "sound": True, "lines": epochs})
     told = run("check", name, program=DLM)

@@ -316,14 +316,14 @@ static void see_command(void) {
         if (name[0] == '[')
             is_left_out = !*word || strcmp(*word, ++name) != 0;
         if (!is_left_out && !*word)
-            wrong("%s is missing: mg submit FOLDER [--host N] %s %s", name, command->name, command->words);
+            wrong("%s is missing: mg submit FOLDER [--host N] [--json] %s %s", name, command->name, command->words);
         if (!is_left_out && isupper((unsigned char)name[0]))
             see_part(name, *word);
         word += !is_left_out;
         is_left_out &= !ends;
     }
     if (*word)
-        wrong("%s is a word too many: mg submit FOLDER [--host N] %s %s", shown(*word), command->name, command->words);
+        wrong("%s is a word too many: mg submit FOLDER [--host N] [--json] %s %s", shown(*word), command->name, command->words);
 }
 
 /* Sees whether all is there. */

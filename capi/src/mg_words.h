@@ -259,16 +259,18 @@ static const struct word ALL_WORDS[WORDS] = {
         .is_followed = true,
         .needs_more = true,
         .options =
-            {{"host", O_HOST, 0, NUMBER, 0u, 15u, "0 to 15"}},
+            {{"host", O_HOST, 0, NUMBER, 0u, 15u, "0 to 15"},
+             {"json", O_JSON, 0, FLAG, 0u, 0u, ""}},
         .one_of = {{OPTIONS, OPTIONS, OPTIONS}, {OPTIONS, OPTIONS, OPTIONS}},
-        .usage = "mg submit FOLDER [--host N] COMMAND..",
+        .usage = "mg submit FOLDER [--host N] [--json] COMMAND..",
         .help =
-        "usage: mg submit FOLDER [--host N] COMMAND..\n"
+        "usage: mg submit FOLDER [--host N] [--json] COMMAND..\n"
         "Puts COMMAND into the log, and prints its place and the reply of the lock table. The client, its\n"
         "request and the lock are numbers that you choose. A request counts once: each new one needs a\n"
         "greater number than the client's last.\n"
         "\n"
         "  --host N  the host number; without it mg chooses one\n"
+        "  --json    for programs: one object\n"
         "\n"
         "COMMAND is one of these:\n"
         "  enqueue CLIENT REQUEST LOCK MODE NAME [noqueue]\n"
@@ -288,14 +290,16 @@ static const struct word ALL_WORDS[WORDS] = {
         .is_followed = false,
         .needs_more = false,
         .options =
-            {{"host", O_HOST, 0, NUMBER, 0u, 15u, "0 to 15"}},
+            {{"host", O_HOST, 0, NUMBER, 0u, 15u, "0 to 15"},
+             {"json", O_JSON, 0, FLAG, 0u, 0u, ""}},
         .one_of = {{OPTIONS, OPTIONS, OPTIONS}, {OPTIONS, OPTIONS, OPTIONS}},
-        .usage = "mg table FOLDER [--host N]",
+        .usage = "mg table FOLDER [--host N] [--json]",
         .help =
-        "usage: mg table FOLDER [--host N]\n"
+        "usage: mg table FOLDER [--host N] [--json]\n"
         "Learns the whole log, and prints the locks of each name.\n"
         "\n"
         "  --host N  the host number; without it mg chooses one\n"
+        "  --json    for programs: one object\n"
         "\n"
         "Example:\n"
         "  mg table images\n",
@@ -306,15 +310,17 @@ static const struct word ALL_WORDS[WORDS] = {
         .is_followed = false,
         .needs_more = false,
         .options =
-            {{"host", O_HOST, 0, NUMBER, 0u, 15u, "0 to 15"}},
+            {{"host", O_HOST, 0, NUMBER, 0u, 15u, "0 to 15"},
+             {"json", O_JSON, 0, FLAG, 0u, 0u, ""}},
         .one_of = {{OPTIONS, OPTIONS, OPTIONS}, {OPTIONS, OPTIONS, OPTIONS}},
-        .usage = "mg mark FOLDER [--host N]",
+        .usage = "mg mark FOLDER [--host N] [--json]",
         .help =
-        "usage: mg mark FOLDER [--host N]\n"
+        "usage: mg mark FOLDER [--host N] [--json]\n"
         "Learns the whole log, and marks each command that has no mark, so that looks pass it. Run it\n"
         "after a crash.\n"
         "\n"
         "  --host N  the host number; without it mg chooses one\n"
+        "  --json    for programs: one object\n"
         "\n"
         "Example:\n"
         "  mg mark images\n",

@@ -1,6 +1,7 @@
 -- What a task has printed that ended well.
 use Rattle.std.specs.Prelude.{◌+◌, ℕ, List, Option, None}
 use Rattle.std.specs.Io.KnownBytes.{Appends}
+use Rattle.dlm_words.specs.Asked.{MayBeAsked}
 use Rattle.dlm_words.specs.declared.words.Subcommand.{Subcommand}
 use Rattle.dlm_words.specs.declared.words.Subcommand.TheVariants.{Run, Sweep, Format, Submit, Table, Mark, Check, Migrate, MakeEndless, Replace, Fill, Renew, Race}
 use Rattle.dlm_tasks.specs.Checking.{EndsIn, IsFound}
@@ -27,3 +28,9 @@ HasPrinted (Replace folder disk) before after = WritesReplacing disk before afte
 HasPrinted (Fill folder host) before after = WritesFilling host before after
 HasPrinted (Renew old host new config cluster leave) before after = WritesRenewal host config cluster leave.items before after
 HasPrinted (Race last) before after = WritesRace (last + 1) before after
+
+-- Some task that may be asked for was done, and its own text was written.
+pub record HasDoneATask (before after : Option (List ℕ)) : Type 0 where
+  pub task : Subcommand
+  pub may : MayBeAsked task
+  pub printed : HasPrinted task before after

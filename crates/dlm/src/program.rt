@@ -1,28 +1,22 @@
-ghost use Rattle.std.specs.Prelude.{◌≡◌, ◌≢◌, ◌≤◌, ◌↔◌, ℕ, List, OnOk, is_ok, if◌then◌else◌};
+ghost use Rattle.std.specs.Prelude.{◌≡◌, ◌≢◌, ◌≤◌, ◌↔◌, OnOk, is_ok, if◌then◌else◌};
 ghost use Rattle.std.specs.Io.KnownBytes.{Keeps};
 ghost use Rattle.dlm_words.specs.Asked.{MayBeAsked};
-ghost use Rattle.dlm_tasks.specs.AnyRun.{WritesRun};
-ghost use Rattle.dlm_tasks.specs.AnySweep.{WritesSweep};
-ghost use Rattle.dlm.specs.Tasks.{HasPrinted};
+ghost use Rattle.dlm.specs.Tasks.{HasDoneATask, HasPrinted};
 
 use crate::racing;
 use crate::refusal_line::refusal_line;
-use dlm_tasks::{
-    CommandFailure, Fault, images, made_endless, replaced, run_any_script, sweep_any_script,
-};
+use dlm_tasks::{CommandFailure, Fault, images, made_endless, replaced};
 use dlm_words::{Subcommand, WordsFault, task_of};
-use epoch_script::read_any_script;
 use folders::TryLock;
-use std::alloc::Global;
+use script_files::{run_file, sweep_file};
 use std::fs::OpenFile;
-use std::io::{Read, Write};
+use std::io::Write;
 use std::os::unix::fs::FileExt;
 use std::random::RandomSource;
 use std::rt::Files;
 use std::sync::Wait;
 use std::thread::Threads;
 use std::time::Clock;
-use std::{fs, io};
 
 /// Does what the words ask for, prints on `out` and a refusal on `err`, and returns the status.
 pub fn run_words<
@@ -33,6 +27,7 @@ pub fn run_words<
 where
     R::File: FileExt + OpenFile + TryLock + Drop,
     ensures status { result ≤ 2 }
+    ensures done { result ≡ 0 → HasDoneATask (O.contents out.old) (O.contents out.new) }
     ensures quiet { result ≡ 0 → err.new ≡ err.old }
     ensures usage { result ≡ 2 → Keeps (O.contents out.old) (O.contents out.new) }
 {
@@ -82,6 +77,7 @@ where
 
 /// Tells why the words are no task, and returns the status.
 pub fn decline<E: Write>(fault: WordsFault, err: &mut E) -> u8
+    ensures some { 1 ≤ result }
     ensures usage { result ≡ 2 ↔ (fault ≢ WordsFault.NoMemory) }
     ensures refusal { result ≡ 1 ↔ (fault ≡ WordsFault.NoMemory) }
 {
@@ -116,62 +112,4 @@ pub fn refuse<E: Write>(fault: Fault, err: &mut E) -> u8
 {
     let _ = err.write_all(refusal_line(fault).as_str().as_bytes());
     1
-}
-
-fn run_file<R: Files + Input + AllocGlobal, O: Write>(
-    rt: &R,
-    path: &str,
-    out: &mut O,
-) -> Result<(), CommandFailure>
-    ensures { OnOk result ((bytes : List ℕ) × WritesRun bytes (O.contents out.old) (O.contents out.new)) }
-{
-    let bytes = read_source(rt, path)?;
-    run_bytes(rt.alloc(), bytes.as_slice(), out)
-}
-
-/// Reads the whole script and runs it. What it printed goes out also where it is refused later on.
-fn run_bytes<O: Write>(alloc: Global, bytes: &[u8], out: &mut O) -> Result<(), CommandFailure>
-    ensures { OnOk result (WritesRun bytes.now (O.contents out.old) (O.contents out.new)) }
-{
-    let script = read_any_script(alloc, bytes).map_err(Fault::from)?;
-    let end = run_any_script(alloc, &script, out);
-    out.flush()?;
-    end
-}
-
-fn sweep_file<R: Files + Input + AllocGlobal, O: Write>(
-    rt: &R,
-    path: &str,
-    out: &mut O,
-) -> Result<(), CommandFailure>
-    ensures { OnOk result ((bytes : List ℕ) × WritesSweep bytes (O.contents out.old) (O.contents out.new)) }
-{
-    let bytes = read_source(rt, path)?;
-    sweep_bytes(rt.alloc(), bytes.as_slice(), out)
-}
-
-/// Reads the whole script and runs its variants.
-fn sweep_bytes<O: Write>(alloc: Global, bytes: &[u8], out: &mut O) -> Result<(), CommandFailure>
-    ensures { OnOk result (WritesSweep bytes.now (O.contents out.old) (O.contents out.new)) }
-{
-    let script = read_any_script(alloc, bytes).map_err(Fault::from)?;
-    sweep_any_script(alloc, &script, out)
-}
-
-/// The bytes of the file, or of the standard input.
-fn read_source<R: Files + Input + AllocGlobal>(rt: &R, path: &str) -> Result<Vec<u8>, Fault> {
-    let read = match path {
-        "/dev/stdin" => read_input(rt),
-        _ => fs::read(rt, path),
-    };
-    match read {
-        Ok(bytes) => Ok(bytes),
-        Err(error) => Err(Fault::of_reading(&error)),
-    }
-}
-
-fn read_input<R: Input + AllocGlobal>(rt: &R) -> io::Result<Vec<u8>> {
-    let mut bytes = Vec::new(rt.alloc());
-    rt.reader().read_to_end(&mut bytes)?;
-    Ok(bytes)
 }

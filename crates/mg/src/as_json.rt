@@ -49,9 +49,7 @@ fn print_checked<O: Write>(
 ) -> Result<(), CommandFailure>
     ensures { OnOk result (WritesChecked folder.now sound (O.contents out.old) (O.contents out.new)) }
 {
-    let Ok(printed) = str::from_utf8(printed) else {
-        return Err(CommandFailure::Output(io::Error::from(ErrorKind::InvalidData)));
-    };
+    let printed = text_in(printed)?;
     let lines = printed.strip_suffix("sound\n").unwrap_or(printed);
     let object = mg_words::checked(alloc, folder, sound, lines).map_err(no_memory)?;
     print_object(object.as_slice(), out)?;
@@ -112,4 +110,19 @@ pub fn no_memory(_: AllocError) -> Fault
     ensures { result ≡ Fault.NoMemory }
 {
     Fault::NoMemory
+}
+
+/// What people are told, as text.
+pub fn text_in(told: &[u8]) -> Result<&str, CommandFailure>
+    ensures { IfOk result (λ text. text.now ≡ told.now) }
+{
+    match str::from_utf8(told) {
+        Ok(text) => Ok(text),
+        Err(_) => Err(garbled()),
+    }
+}
+
+/// No task tells such a text.
+pub fn garbled() -> CommandFailure {
+    CommandFailure::Output(io::Error::from(ErrorKind::InvalidData))
 }

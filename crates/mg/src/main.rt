@@ -4,8 +4,8 @@
 mod as_json;
 mod creating;
 mod error_line;
+mod log_as_json;
 mod program;
-mod scripts;
 mod tasks;
 
 use dlm_tasks::Fault;

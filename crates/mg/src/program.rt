@@ -5,21 +5,18 @@ ghost use Rattle.mg.specs.Tasks.{AskForNothing, DoesAsAsked, HasDone};
 
 use crate::creating::create;
 use crate::error_line::{refusal_line, wrong_line};
-use crate::scripts::{run_file, sweep_file};
-use crate::tasks::{check, migrate, replace};
-use dlm_tasks::{CommandFailure, Fault, images};
+use crate::tasks::{check, mark, migrate, replace, submit, table};
+use dlm_tasks::{CommandFailure, Fault};
 use folders::TryLock;
 use lock_command::ValueBytes;
 use mg_words::{Request, Slot, WordFault, WrongText, request_of};
+use script_files::{run_file, sweep_file};
 use std::fs::OpenFile;
 use std::io::Write;
 use std::os::unix::fs::FileExt;
 use std::random::RandomSource;
 use std::rt::Files;
 use std::time::Clock;
-
-/// Where the words of a command begin.
-const COMMAND: usize = 4;
 
 /// Does what the words ask for, prints on `out` and what is wrong or refused on `err`, and returns the status.
 pub fn run_words<R: Files + Input + Clock + RandomSource + AllocGlobal, O: Write, E: Write>(
@@ -60,14 +57,18 @@ where
             slots,
             json,
         } => create(rt, folder, *cluster, *disks, *slots, *json, out),
-        Request::Submit { folder, command } => {
+        Request::Submit {
+            folder,
+            command,
+            json,
+        } => {
             // These two lines do nothing when they run. Without them the checker does not load the types inside `Command`, and the proof fails.
             let _action = &command.action;
             let _no_value: Option<ValueBytes> = None;
-            images::submit(rt, folder, *command, out)
+            submit(rt, folder, *command, *json, out)
         }
-        Request::Table { folder, host } => images::table(rt, folder, *host, out),
-        Request::Mark { folder, host } => images::mark(rt, folder, *host, out),
+        Request::Table { folder, host, json } => table(rt, folder, *host, *json, out),
+        Request::Mark { folder, host, json } => mark(rt, folder, *host, *json, out),
         Request::Check { folder, json } => check(rt, folder, *json, out),
         Request::Migrate { folder, json } => migrate(rt, folder, *json, out),
         Request::Replace { folder, disk, json } => replace(rt, folder, *disk, *json, out),
@@ -84,7 +85,9 @@ fn decline<E: Write>(words: &[&str], fault: WordFault, err: &mut E) -> u8
 {
     match fault {
         WordFault::NoMemory => refuse("words", Fault::NoMemory, err),
-        WordFault::NoCommand => tell(words.get(COMMAND).copied(), Some(Slot::Command), err),
+        WordFault::NoCommand { place } => {
+            tell(words.get(place).copied(), Some(Slot::Command), err)
+        }
         WordFault::Bad { place, wanted } => tell(words.get(place).copied(), wanted, err),
     }
 }

@@ -60,17 +60,19 @@ IsCreate words disks_at slots_at json other = ⊥
 abbrev pub IsOver : List (List ℕ) → (folder : List ℕ) → (host : ℕ) → Type 0
 IsOver words folder host = (folder ≡ word_at words 1) × Spells words 3 0 15 host
 
-abbrev pub IsSubmit : List (List ℕ) → Request → Type 0
-IsSubmit words (Submit folder command) = (host : ℕ) × IsOver words folder.now host × (command_said host (drop 4 words) ≡ Some command)
-IsSubmit words other = ⊥
+-- the command begins at this place
+abbrev pub IsSubmit : List (List ℕ) → (place : ℕ) → (json : Bool) → Request → Type 0
+IsSubmit words place json (Submit folder command as_json) =
+    (host : ℕ) × IsOver words folder.now host × (command_said host (drop place words) ≡ Some command) × (as_json ≡ json)
+IsSubmit words place json other = ⊥
 
-abbrev pub IsTable : List (List ℕ) → Request → Type 0
-IsTable words (Table folder host) = IsOver words folder.now host
-IsTable words other = ⊥
+abbrev pub IsTable : List (List ℕ) → (json : Bool) → Request → Type 0
+IsTable words json (Table folder host as_json) = IsOver words folder.now host × (as_json ≡ json)
+IsTable words json other = ⊥
 
-abbrev pub IsMark : List (List ℕ) → Request → Type 0
-IsMark words (Mark folder host) = IsOver words folder.now host
-IsMark words other = ⊥
+abbrev pub IsMark : List (List ℕ) → (json : Bool) → Request → Type 0
+IsMark words json (Mark folder host as_json) = IsOver words folder.now host × (as_json ≡ json)
+IsMark words json other = ⊥
 
 abbrev pub IsCheck : List (List ℕ) → (json : Bool) → Request → Type 0
 IsCheck words json (Check folder as_json) = (folder.now ≡ word_at words 1) × (as_json ≡ json)
@@ -103,9 +105,12 @@ Says kind.CreateJson words request = IsCreate words None None true request
 Says kind.CreateDisksJson words request = IsCreate words (Some 5) None true request
 Says kind.CreateSlotsJson words request = IsCreate words None (Some 5) true request
 Says kind.CreateBothJson words request = IsCreate words (Some 5) (Some 7) true request
-Says kind.Submit words request = IsSubmit words request
-Says kind.Table words request = IsTable words request
-Says kind.Mark words request = IsMark words request
+Says kind.Submit words request = IsSubmit words 4 false request
+Says kind.SubmitJson words request = IsSubmit words 5 true request
+Says kind.Table words request = IsTable words false request
+Says kind.TableJson words request = IsTable words true request
+Says kind.Mark words request = IsMark words false request
+Says kind.MarkJson words request = IsMark words true request
 Says kind.Check words request = IsCheck words false request
 Says kind.CheckJson words request = IsCheck words true request
 Says kind.Migrate words request = IsMigrate words false request
@@ -126,6 +131,6 @@ pub record Asks (words : List (List ℕ)) (request : Request) : Type 0 where
 -- each number is in its range, and a client may ask for the command
 abbrev pub MayBeAsked : Request → Type 0
 MayBeAsked (Create folder cluster disks slots json) = (1 ≤ disks) × (disks ≤ 7) × IfSome slots (λ count. (1 ≤ count) × (count ≤ 4096))
-MayBeAsked (Submit folder command) = is_submittable command ≡ true
+MayBeAsked (Submit folder command json) = is_submittable command ≡ true
 MayBeAsked (Replace folder disk json) = disk ≤ 6
 MayBeAsked other = Unit {0}

@@ -1,5 +1,5 @@
 -- The forms that a line of words may have: what stands at each place.
-use Rattle.std.specs.Prelude.{ℕ, Bool, true, false, List, [], ◌∷◌, bytes_eq, codes, is_some, slice_index_or, zip}
+use Rattle.std.specs.Prelude.{ℕ, Bool, true, false, not, List, [], ◌∷◌, bytes_eq, codes, is_some, slice_index_or, zip}
 use Rattle.std.specs.List.{prefix_len}
 use Rattle.lock_script.specs.Reading.{number_in}
 use Rattle.mg_words.specs.declared.form.Form.{Form}
@@ -35,7 +35,7 @@ is_option Host = true
 is_option Json = true
 is_option other = false
 
--- whether a word may stand there: paths and commands are any words
+-- whether a word may stand there: paths are any words, and commands all but the option that may stand in their place
 abbrev pub fits : Slot → List ℕ → Bool
 fits (Word keyword) word = bytes_eq word (keyword_text keyword)
 fits number.Cluster word = is_some (number_in 0 18446744073709551615 word)
@@ -45,7 +45,7 @@ fits number.Disk word = is_some (number_in 0 6 word)
 fits number.Host word = is_some (number_in 0 15 word)
 fits Folder word = true
 fits Script word = true
-fits Command word = true
+fits Command word = not (bytes_eq word (keyword_text Json))
 
 -- THE FORMS
 
@@ -59,8 +59,11 @@ slots kind.CreateDisksJson = Word Create ∷ Folder ∷ Word Cluster ∷ number.
 slots kind.CreateSlotsJson = Word Create ∷ Folder ∷ Word Cluster ∷ number.Cluster ∷ Word Slots ∷ number.Slots ∷ Word Json ∷ []
 slots kind.CreateBothJson = Word Create ∷ Folder ∷ Word Cluster ∷ number.Cluster ∷ Word Disks ∷ number.Disks ∷ Word Slots ∷ number.Slots ∷ Word Json ∷ []
 slots kind.Submit = Word Submit ∷ Folder ∷ Word Host ∷ number.Host ∷ Command ∷ []
+slots kind.SubmitJson = Word Submit ∷ Folder ∷ Word Host ∷ number.Host ∷ Word Json ∷ Command ∷ []
 slots kind.Table = Word Table ∷ Folder ∷ Word Host ∷ number.Host ∷ []
+slots kind.TableJson = Word Table ∷ Folder ∷ Word Host ∷ number.Host ∷ Word Json ∷ []
 slots kind.Mark = Word Mark ∷ Folder ∷ Word Host ∷ number.Host ∷ []
+slots kind.MarkJson = Word Mark ∷ Folder ∷ Word Host ∷ number.Host ∷ Word Json ∷ []
 slots kind.Check = Word Check ∷ Folder ∷ []
 slots kind.CheckJson = Word Check ∷ Folder ∷ Word Json ∷ []
 slots kind.Migrate = Word Migrate ∷ Folder ∷ []
@@ -74,7 +77,7 @@ slots kind.Sweep = Word Sweep ∷ Script ∷ []
 abbrev pub forms : List Form
 forms =
     kind.Create ∷ kind.CreateDisks ∷ kind.CreateSlots ∷ kind.CreateBoth ∷ kind.CreateJson ∷ kind.CreateDisksJson ∷ kind.CreateSlotsJson ∷ kind.CreateBothJson
-    ∷ kind.Submit ∷ kind.Table ∷ kind.Mark ∷ kind.Check ∷ kind.CheckJson ∷ kind.Migrate ∷ kind.MigrateJson ∷ kind.Replace ∷ kind.ReplaceJson ∷ kind.Run ∷ kind.Sweep ∷ []
+    ∷ kind.Submit ∷ kind.SubmitJson ∷ kind.Table ∷ kind.TableJson ∷ kind.Mark ∷ kind.MarkJson ∷ kind.Check ∷ kind.CheckJson ∷ kind.Migrate ∷ kind.MigrateJson ∷ kind.Replace ∷ kind.ReplaceJson ∷ kind.Run ∷ kind.Sweep ∷ []
 
 -- whether the word at a place fits what stands there
 abbrev pub fits_at : List Slot → List (List ℕ) → (place : ℕ) → Bool
@@ -91,4 +94,5 @@ fitting form words = prefix_len fits_pair (zip (slots form) words)
 -- a command may have further words
 abbrev pub may_go_on : Form → Bool
 may_go_on kind.Submit = true
+may_go_on kind.SubmitJson = true
 may_go_on other = false

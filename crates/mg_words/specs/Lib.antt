@@ -3,4 +3,5 @@ pub mod Forms
 pub mod Objects
 pub mod Results
 pub mod Texts
+pub mod Told
 pub mod Wrong

@@ -20,6 +20,32 @@ created folder cluster disks slots =
     ∷ key (codes "kind") ∷ string (kind_name slots)
     ∷ end_object ∷ []
 
+-- where a command stands in the log, and what people are told that the lock table replied to it
+abbrev pub submitted : (folder : List ℕ) → (place : ℕ) → (reply : List ℕ) → List Token
+submitted folder place reply =
+    begin_object
+    ∷ key (codes "folder") ∷ string folder
+    ∷ key (codes "place") ∷ number (decimal place)
+    ∷ key (codes "reply") ∷ string reply
+    ∷ end_object ∷ []
+
+-- how many commands were recovered, and the lines that people are told of the lock table after them
+abbrev pub tabled : (folder : List ℕ) → (recovered : ℕ) → (lines : List ℕ) → List Token
+tabled folder recovered lines =
+    begin_object
+    ∷ key (codes "folder") ∷ string folder
+    ∷ key (codes "recovered") ∷ number (decimal recovered)
+    ∷ key (codes "lines") ∷ begin_array ∷ (map string (lines_of lines) ++ end_array ∷ end_object ∷ [])
+
+-- how many commands were recovered, and how many were marked
+abbrev pub marked : (folder : List ℕ) → (recovered count : ℕ) → List Token
+marked folder recovered count =
+    begin_object
+    ∷ key (codes "folder") ∷ string folder
+    ∷ key (codes "recovered") ∷ number (decimal recovered)
+    ∷ key (codes "marked") ∷ number (decimal count)
+    ∷ end_object ∷ []
+
 -- whether images are sound, and the lines that people are told
 abbrev pub checked : (folder : List ℕ) → (sound : Bool) → (lines : List ℕ) → List Token
 checked folder sound lines =

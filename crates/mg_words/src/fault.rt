@@ -6,8 +6,8 @@ use std::alloc::AllocError;
 pub enum WordFault {
     /// The word at this place, from 0, is bad: this could stand there. With `None` the line could end before it. Where there is no such word, it is missing.
     Bad { place: usize, wanted: Option<Slot> },
-    /// The words behind the host's number are no command.
-    NoCommand,
+    /// The words from this place on are no command.
+    NoCommand { place: usize },
     NoMemory,
 }
 

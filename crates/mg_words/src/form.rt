@@ -16,8 +16,11 @@ pub enum Form {
     CreateSlotsJson,
     CreateBothJson,
     Submit,
+    SubmitJson,
     Table,
+    TableJson,
     Mark,
+    MarkJson,
     Check,
     CheckJson,
     Migrate,
@@ -29,8 +32,8 @@ pub enum Form {
 }
 
 impl Form {
-    /// All forms.
-    pub const ALL: [Form; 19] = [
+    /// All forms. Of two that have room for as many words, the first says what is wanted behind them.
+    pub const ALL: [Form; 22] = [
         Form::Create,
         Form::CreateDisks,
         Form::CreateSlots,
@@ -40,8 +43,11 @@ impl Form {
         Form::CreateSlotsJson,
         Form::CreateBothJson,
         Form::Submit,
+        Form::SubmitJson,
         Form::Table,
+        Form::TableJson,
         Form::Mark,
+        Form::MarkJson,
         Form::Check,
         Form::CheckJson,
         Form::Migrate,
@@ -56,7 +62,7 @@ impl Form {
     pub fn may_go_on(self) -> bool
         ensures { result ≡ may_go_on self }
     {
-        matches!(self, Form::Submit)
+        matches!(self, Form::Submit | Form::SubmitJson)
     }
 
     /// What stands at each place of such a line.
@@ -139,17 +145,39 @@ impl Form {
                 Slot::Host,
                 Slot::Command,
             ],
+            Form::SubmitJson => &[
+                Slot::Word(Keyword::Submit),
+                Slot::Folder,
+                Slot::Word(Keyword::Host),
+                Slot::Host,
+                Slot::Word(Keyword::Json),
+                Slot::Command,
+            ],
             Form::Table => &[
                 Slot::Word(Keyword::Table),
                 Slot::Folder,
                 Slot::Word(Keyword::Host),
                 Slot::Host,
             ],
+            Form::TableJson => &[
+                Slot::Word(Keyword::Table),
+                Slot::Folder,
+                Slot::Word(Keyword::Host),
+                Slot::Host,
+                Slot::Word(Keyword::Json),
+            ],
             Form::Mark => &[
                 Slot::Word(Keyword::Mark),
                 Slot::Folder,
                 Slot::Word(Keyword::Host),
                 Slot::Host,
+            ],
+            Form::MarkJson => &[
+                Slot::Word(Keyword::Mark),
+                Slot::Folder,
+                Slot::Word(Keyword::Host),
+                Slot::Host,
+                Slot::Word(Keyword::Json),
             ],
             Form::Check => &[Slot::Word(Keyword::Check), Slot::Folder],
             Form::CheckJson => &[

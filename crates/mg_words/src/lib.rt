@@ -9,6 +9,7 @@ mod object;
 mod request;
 mod results;
 mod slot;
+mod told;
 mod wrong_text;
 
 pub use fault::WordFault;
@@ -16,6 +17,9 @@ pub use form::Form;
 pub use keyword::Keyword;
 pub use object::{Member, Value, object_of};
 pub use request::{Request, request_of};
-pub use results::{already_endless, checked, created, made_endless, replaced};
+pub use results::{
+    already_endless, checked, created, made_endless, marked, replaced, submitted, tabled,
+};
 pub use slot::Slot;
+pub use told::{AckTold, MarksTold, TableTold, ack_in, marks_in, table_in};
 pub use wrong_text::{WrongText, shown};

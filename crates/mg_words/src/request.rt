@@ -1,7 +1,7 @@
-ghost use Rattle.std.specs.Prelude.{◌≡◌, ◌<◌, ◌≤◌, drop, length, map, string_bytes, true, IfErr, IfOk, IfSome};
+ghost use Rattle.std.specs.Prelude.{◌≡◌, ◌<◌, ◌≤◌, ◌+◌, drop, length, map, string_bytes, true, IfErr, IfOk, IfSome};
 ghost use Rattle.lock_command.specs.Command.{is_submittable};
-ghost use Rattle.mg_words.specs.Asking.{AreDisks, AreSlots, Asks, IsCreate, IsReplace, IsSubmit, MayBeAsked, Says, Spells, Reads, command_said, spaced, takes, word_at};
-ghost use Rattle.mg_words.specs.Forms.{slots};
+ghost use Rattle.mg_words.specs.Asking.{AreDisks, AreSlots, Asks, IsCreate, IsMark, IsReplace, IsSubmit, IsTable, MayBeAsked, Says, Spells, Reads, command_said, spaced, takes, word_at};
+ghost use Rattle.mg_words.specs.Forms.{may_go_on, slots};
 ghost use Rattle.mg_words.specs.Wrong.{IsWrong};
 
 use crate::fault::WordFault;
@@ -29,16 +29,19 @@ pub enum Request<'a> {
     Submit {
         folder: &'a str,
         command: Command,
+        json: bool,
     },
     /// Show the lock table, as a host learns it from the images of this folder.
     Table {
         folder: &'a str,
         host: HostNumber,
+        json: bool,
     },
     /// Mark the slots that no mark tells.
     Mark {
         folder: &'a str,
         host: HostNumber,
+        json: bool,
     },
     /// Look for damage in the images of this folder.
     Check {
@@ -110,17 +113,12 @@ fn request_in<'a>(alloc: Global, form: Form, words: &'a [&'a str]) -> Result<Req
         Form::CreateDisksJson => Ok(create(form, words, Some(5), None, true)),
         Form::CreateSlotsJson => Ok(create(form, words, None, Some(5), true)),
         Form::CreateBothJson => Ok(create(form, words, Some(5), Some(7), true)),
-        Form::Submit => submit(alloc, words),
-        Form::Table => {
-            let folder = word_in(form, words, 1);
-            let host = host_in(form, words);
-            Ok(Request::Table { folder, host })
-        }
-        Form::Mark => {
-            let folder = word_in(form, words, 1);
-            let host = host_in(form, words);
-            Ok(Request::Mark { folder, host })
-        }
+        Form::Submit => submit(alloc, form, words, 4, false),
+        Form::SubmitJson => submit(alloc, form, words, 5, true),
+        Form::Table => Ok(table(form, words, false)),
+        Form::TableJson => Ok(table(form, words, true)),
+        Form::Mark => Ok(mark(form, words, false)),
+        Form::MarkJson => Ok(mark(form, words, true)),
         Form::Check => {
             let folder = word_in(form, words, 1);
             Ok(Request::Check {
@@ -222,28 +220,65 @@ fn slots_in(form: Form, words: &[&str], at: Option<usize>) -> Option<u16>
     }
 }
 
-/// A command that is to be submitted.
-fn submit<'a>(alloc: Global, words: &'a [&'a str]) -> Result<Request<'a>, WordFault>
-    requires { takes Form.Submit (map (λ word. word.now) words.now) ≡ true }
-    ensures said { IfOk result (IsSubmit (map (λ word. word.now) words.entry.now)) }
+/// A command that is to be submitted: it begins at this place, the last one of the form.
+fn submit<'a>(
+    alloc: Global,
+    form: Form,
+    words: &'a [&'a str],
+    place: usize,
+    json: bool,
+) -> Result<Request<'a>, WordFault>
+    requires taken { takes form (map (λ word. word.now) words.now) ≡ true }
+    requires host { Reads (slots form) 3 0 15 }
+    requires goes_on { may_go_on form ≡ true }
+    requires last { length (slots form) ≡ place + 1 }
+    ensures said { IfOk result (IsSubmit (map (λ word. word.now) words.entry.now) place json) }
     ensures may { IfOk result MayBeAsked }
     ensures wrong { IfErr result (λ fault. IsWrong (map (λ word. word.now) words.entry.now) fault) }
 {
-    let folder = word_in(Form::Submit, words, 1);
-    let host = host_in(Form::Submit, words);
-    match command_of(alloc, host, command_in(words))? {
-        Some(command) => Ok(Request::Submit { folder, command }),
-        None => Err(WordFault::NoCommand),
+    let folder = word_in(form, words, 1);
+    let host = host_in(form, words);
+    match command_of(alloc, host, command_in(words, place))? {
+        Some(command) => Ok(Request::Submit {
+            folder,
+            command,
+            json,
+        }),
+        None => Err(WordFault::NoCommand { place }),
     }
 }
 
-/// The words from the fifth on.
+/// The words from this place on.
 #[tactic(auto, using(crate::proofs::Lines::parts))]
-fn command_in<'a, 'b>(words: &'b [&'a str]) -> &'b [&'a str]
-    requires { 4 ≤ length words.now }
-    ensures { map (λ word. word.now) result.now ≡ drop 4 (map (λ word. word.now) words.entry.now) }
+fn command_in<'a, 'b>(words: &'b [&'a str], place: usize) -> &'b [&'a str]
+    requires { place ≤ length words.now }
+    ensures { map (λ word. word.now) result.now ≡ drop place (map (λ word. word.now) words.entry.now) }
 {
-    &words[4..]
+    &words[place..]
+}
+
+/// The lock table that is to be shown, as this host learns it.
+fn table<'a>(form: Form, words: &'a [&'a str], json: bool) -> Request<'a>
+    requires taken { takes form (map (λ word. word.now) words.now) ≡ true }
+    requires host { Reads (slots form) 3 0 15 }
+    ensures said { IsTable (map (λ word. word.now) words.entry.now) json result }
+    ensures may { MayBeAsked result }
+{
+    let folder = word_in(form, words, 1);
+    let host = host_in(form, words);
+    Request::Table { folder, host, json }
+}
+
+/// Slots that are to be marked, by this host.
+fn mark<'a>(form: Form, words: &'a [&'a str], json: bool) -> Request<'a>
+    requires taken { takes form (map (λ word. word.now) words.now) ≡ true }
+    requires host { Reads (slots form) 3 0 15 }
+    ensures said { IsMark (map (λ word. word.now) words.entry.now) json result }
+    ensures may { MayBeAsked result }
+{
+    let folder = word_in(form, words, 1);
+    let host = host_in(form, words);
+    Request::Mark { folder, host, json }
 }
 
 /// The command that the words are, if they are one that a client may ask for.

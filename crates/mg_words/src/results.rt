@@ -1,7 +1,7 @@
 ghost use Rattle.std.specs.Prelude.{◌≡◌, IfOk};
 ghost use Rattle.json.specs.Lex.{tokens};
 ghost use Rattle.json.specs.Print.{print};
-ghost use Rattle.mg_words.specs.Results.{already_endless, checked, created, kind_name, made_endless, replaced};
+ghost use Rattle.mg_words.specs.Results.{already_endless, checked, created, kind_name, made_endless, marked, replaced, submitted, tabled};
 
 use crate::object::{Member, Value, object_of};
 use std::alloc::{AllocError, Global};
@@ -41,6 +41,93 @@ pub fn created(
             Member {
                 name: "kind",
                 value: Value::Text(kind_name(slots)),
+            },
+        ],
+    )
+}
+
+/// A command was put into the log: its place there, and the reply in the words for people.
+pub fn submitted<'a>(
+    alloc: Global,
+    folder: &'a str,
+    place: u64,
+    reply: &'a str,
+) -> Result<Vec<u8>, AllocError>
+    ensures text { IfOk result (λ object. object.items ≡ print (submitted folder.now place reply.now)) }
+    ensures read { IfOk result (λ object. tokens object.items ≡ submitted folder.now place reply.now) }
+{
+    object_of(
+        alloc,
+        &[
+            Member {
+                name: "folder",
+                value: Value::Text(folder),
+            },
+            Member {
+                name: "place",
+                value: Value::Number(place),
+            },
+            Member {
+                name: "reply",
+                value: Value::Text(reply),
+            },
+        ],
+    )
+}
+
+/// The log was recovered: how many commands it has, and the lines that people are told of the lock table.
+pub fn tabled<'a>(
+    alloc: Global,
+    folder: &'a str,
+    recovered: u64,
+    lines: &'a str,
+) -> Result<Vec<u8>, AllocError>
+    ensures text { IfOk result (λ object. object.items ≡ print (tabled folder.now recovered lines.now)) }
+    ensures read { IfOk result (λ object. tokens object.items ≡ tabled folder.now recovered lines.now) }
+{
+    object_of(
+        alloc,
+        &[
+            Member {
+                name: "folder",
+                value: Value::Text(folder),
+            },
+            Member {
+                name: "recovered",
+                value: Value::Number(recovered),
+            },
+            Member {
+                name: "lines",
+                value: Value::Lines(lines),
+            },
+        ],
+    )
+}
+
+/// The log was recovered: how many commands it has, and how many of them got their mark now.
+pub fn marked(
+    alloc: Global,
+    folder: &str,
+    recovered: u64,
+    count: u64,
+) -> Result<Vec<u8>, AllocError>
+    ensures text { IfOk result (λ object. object.items ≡ print (marked folder.now recovered count)) }
+    ensures read { IfOk result (λ object. tokens object.items ≡ marked folder.now recovered count) }
+{
+    object_of(
+        alloc,
+        &[
+            Member {
+                name: "folder",
+                value: Value::Text(folder),
+            },
+            Member {
+                name: "recovered",
+                value: Value::Number(recovered),
+            },
+            Member {
+                name: "marked",
+                value: Value::Number(count),
             },
         ],
     )

@@ -24,7 +24,7 @@ pub enum Slot {
     Disk,
     /// The number of a host.
     Host,
-    /// The first word of a command. Others may follow.
+    /// The first word of a command, which is no option. Others may follow.
     Command,
 }
 
@@ -41,7 +41,8 @@ impl Slot {
             Slot::Slots => number_in(bytes, 1, 4096).is_some(),
             Slot::Disk => number_in(bytes, 0, 6).is_some(),
             Slot::Host => number_in(bytes, 0, 15).is_some(),
-            Slot::Folder | Slot::Script | Slot::Command => true,
+            Slot::Command => bytes != Keyword::Json.text().as_bytes(),
+            Slot::Folder | Slot::Script => true,
         }
     }
 

@@ -1,6 +1,6 @@
 -- Status 0 is that of a task that ended well, and 2 that of wrong words.
 use Rattle.std.proofs.Common.{arith}
-use Rattle.mg.proofs.Ending.{ended, never_two}
+use Rattle.script_files.proofs.Ending.{ended, never_two}
 use Rattle.mg.proofs.program.run_words.Goals as goal
 
 pub returns-in-Ok-clause-done : goal.returns-in-Ok-clause-done

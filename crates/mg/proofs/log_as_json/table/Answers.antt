@@ -1,0 +1,14 @@
+-- What is told begins with nothing, and is printed so.
+use Rattle.std.proofs.Common.{ℕ, List, [], Some, subst, sym}
+use Rattle.std.proofs.lemmas.Result.{on_ok_weaker}
+use Rattle.dlm_tasks.specs.Folders.{WritesLog}
+use Rattle.dlm_tasks.specs.declared.images.TheConstants.{TRIES}
+use Rattle.mg.proofs.log_as_json.table.Goals as goal
+
+pub returns : goal.returns
+returns g c =
+    let told = c.as_slice.result.now in
+    let does : WritesLog TRIES c.args.host (Some []) (Some told) =
+    subst (λ (text : List ℕ). WritesLog TRIES c.args.host (Some []) (Some text)) (sym c.as_slice.ensures.value)
+    (subst (λ (text : List ℕ). WritesLog TRIES c.args.host (Some text) (Some c.table.new.out.items)) c.new-told.ensures.items c.in_ok-table.ensures.written) in
+    on_ok_weaker c.print_tabled.result (λ printed. (told, does, printed)) c.print_tabled.ensures

@@ -1,5 +1,0 @@
-use Rattle.std.proofs.lemmas.Result.{on_ok_weaker}
-use Rattle.mg.proofs.scripts.sweep_file.Goals as goal
-
-pub returns : goal.returns
-returns g c = on_ok_weaker c.sweep_bytes.result (λ written. (c.as_slice.result.now, written)) c.sweep_bytes.ensures
