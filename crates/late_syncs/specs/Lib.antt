@@ -1,0 +1,5 @@
+pub mod Devices
+pub mod Epochs
+pub mod Files
+pub mod Late
+pub mod LateDevice
