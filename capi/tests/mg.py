@@ -91,7 +91,14 @@ def words():
     expect(run("check", images).stdout.endswith("sound\n") or "epoch" in run("check", images).stdout, f"check: {run('check', images)}")
     expect("\ndb\n" in run("status", images).stdout, "status")
     told = run("submit", images, "--json", "release", 1, 2, 1)
-    expect(told.returncode == 2 and run("submit", images, "release", 1, 2, 1).returncode == 0, f"submit --json: {told}")
+    if has_folder:
+        expect(told.returncode == 0 and json.loads(told.stdout)["reply"] == "Released", f"submit --json: {told}")
+    else:
+        expect(told.returncode == 1 and "which is not installed" in told.stderr, f"submit --json: {told}")
+    # Where that has released the lock, the same request gets the same reply.
+    expect(run("submit", images, "release", 1, 2, 1).stdout.endswith(" Released\n"), "the release once more")
+    told = run("recover", images, "--json")
+    expect(told.returncode == 0 and json.loads(told.stdout) == {"released": 0, "hosts": []}, f"recover --json: {told}")
     told = run("check", images, "--json")
     if has_folder:
         expect(told.returncode == 0 and json.loads(told.stdout)["sound"] is True, f"check --json: {told}")
