@@ -1,6 +1,6 @@
 -- What C is told of the name of a lock's sign of life.
 use Rattle.std.specs.Prelude.{◌≡◌, ◌≤◌, ◌<◌, ◌+◌, ◌⊎◌, ℕ, List, ◌∷◌, ◌++◌, drop, length}
-use Rattle.torn_block.specs.declared.layout.TheConstants.{HOSTS}
+use Rattle.lock_command.specs.declared.number.TheConstants.{HOSTS}
 use Rattle.lock_command.specs.Command.{IsLock}
 use Rattle.lock_command.specs.Signs.{sign_name}
 use Rattle.c_host.specs.declared.fault.Fault.{Fault}

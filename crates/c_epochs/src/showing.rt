@@ -1,18 +1,16 @@
-ghost use Rattle.std.specs.Prelude.{◌≡◌, ℕ, IfOk, IfErr, MatchOption, drop, length};
-ghost use Rattle.lock_command.specs.declared.record.LockRecord.{LockRecord};
+ghost use Rattle.std.specs.Prelude.{◌≡◌, IfOk, IfErr};
 ghost use Rattle.lock_table.specs.Apply.{table_after};
 ghost use Rattle.lock_table.specs.Picture.{IsPictureOf};
 ghost use Rattle.epoch_host.specs.Knowing.{where_is};
-ghost use Rattle.c_host.specs.Views.{FindsLock, FindsValue, IsAt, ShowBelow, ShowsClient, ShowsClients, ShowsLock, ShowsLocks, ShowsText};
+ghost use Rattle.c_host.specs.Views.{FindsLock, FindsValue, ShowsClients, ShowsLocks, ShowsText};
 ghost use Rattle.c_epochs.specs.Views.{AreAway, KnowsTable, LacksTable, MayLack, ShowsHost};
 
 use crate::call::is_before;
 use crate::fault::ShowFault;
 use crate::open_epochs::OpenEpochs;
 use crate::view::EpochsView;
-use c_host::{ClientView, LockView, ValueView};
-use inspect::queues;
-use lock_table::{KnownClient, LockRecord, Picture};
+use c_host::{ClientView, LockView, ValueView, place_of, put_text, show_clients, show_locks};
+use lock_table::Picture;
 use std::alloc::Global;
 use torn_block::DISKS;
 
@@ -122,13 +120,7 @@ impl OpenEpochs {
         ensures unshown { IfErr result (λ _. (into.new ≡ into.old) × (length.new ≡ length.old)) }
     {
         let picture = self.picture(alloc)?;
-        let mut text = Vec::new(alloc);
-        if queues(&picture, &mut text).is_err() {
-            return Err(ShowFault::NoMemory);
-        }
-        *length = text.len();
-        let shown = text.len().min(into.len());
-        into[..shown].copy_from_slice(&text[..shown]);
+        *length = put_text(alloc, &picture, into)?;
         Ok(())
     }
 
@@ -152,37 +144,4 @@ fn away_at(epoch: Option<u64>, firsts: &[u64; DISKS as usize]) -> [u32; DISKS as
         away[disk] = u32::from(is_before(epoch, firsts[disk]));
     }
     away
-}
-
-/// Where the first lock of this number stands.
-fn place_of(locks: &[LockRecord], lock: u32) -> Option<usize>
-    ensures { MatchOption result ((at : ℕ) (found : LockRecord) → IsAt locks.now lock at found → ⊥)
-        (λ at. (found : LockRecord) × IsAt locks.now lock at found) }
-{
-    for place in 0..locks.len() {
-        if u32::from(locks[place].lock.get()) == lock {
-            return Some(place);
-        }
-    }
-    None
-}
-
-/// Shows locks, as many as there is room for.
-fn show_locks(locks: &[LockRecord], into: &mut [LockView])
-    ensures shown { ShowBelow ShowsLock into.new locks.now (length into.new) }
-    ensures rest { drop (length locks.now) into.new ≡ drop (length locks.now) into.old }
-{
-    for place in 0..locks.len().min(into.len()) {
-        into[place] = LockView::of(&locks[place]);
-    }
-}
-
-/// Shows clients, as many as there is room for.
-fn show_clients(clients: &[KnownClient], into: &mut [ClientView])
-    ensures shown { ShowBelow ShowsClient into.new clients.now (length into.new) }
-    ensures rest { drop (length clients.now) into.new ≡ drop (length clients.now) into.old }
-{
-    for place in 0..clients.len().min(into.len()) {
-        into[place] = ClientView::of(&clients[place]);
-    }
 }

@@ -12,6 +12,7 @@ use Rattle.lock_command.specs.declared.reply.Refusal as refused
 use Rattle.lock_command.specs.declared.reply.Refusal.TheVariants.{NoSuchLock}
 use Rattle.lock_command.specs.Refusals as of_table
 use Rattle.attempt.specs.declared.refusal.Refusal as operation
+use Rattle.attempt.specs.declared.refusal.Refusal.TheVariants.{NoMajority}
 use Rattle.attempt.specs.Refusals as of_operation
 use Rattle.disk.specs.declared.fault.ImageFault.{ImageFault}
 use Rattle.folders.specs.ImageFaults.{image_fault_number}
@@ -70,6 +71,10 @@ no_such_lock = table_number NoSuchLock
 -- memory was refused
 abbrev pub no_memory : ℤ
 no_memory = pos 21
+
+-- too few disks were heard
+abbrev pub no_majority : ℤ
+no_majority = operation_number NoMajority
 
 -- the host number is another machine's
 abbrev pub host_in_use : ℤ

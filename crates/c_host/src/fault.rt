@@ -29,6 +29,9 @@ pub const DIFFERENT: i32 = -8;
 /// The sector's stamp is the last that there is.
 pub const STAMP_SPENT: i32 = -9;
 
+/// Too few disks were heard.
+pub const NO_MAJORITY: i32 = 7;
+
 /// The host number is another machine's.
 pub const HOST_IN_USE: i32 = 36;
 

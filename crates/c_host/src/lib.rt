@@ -16,8 +16,8 @@ mod view;
 pub use answer::Answer;
 pub use call::{DueCall, Row, ToldAnswer, Written};
 pub use fault::{
-    BAD_ARGUMENT, BUSY, CLOSED, DIFFERENT, Fault, HOST_IN_USE, NO_ROOM, NOTHING_DUE, NOTHING_SAID,
-    STAMP_SPENT, operation_number, table_number,
+    BAD_ARGUMENT, BUSY, CLOSED, DIFFERENT, Fault, HOST_IN_USE, NO_MAJORITY, NO_ROOM, NOTHING_DUE,
+    NOTHING_SAID, STAMP_SPENT, operation_number, table_number,
 };
 pub use header::{HeaderBytes, lay_out};
 pub use images::{Image, Images, Opened};
@@ -25,4 +25,5 @@ pub use law::{calls_make_operations, ends_are_told};
 pub use mode_number::mode_of;
 pub use open_host::OpenHost;
 pub use request::{Request, host_of, lock_of};
+pub use showing::{place_of, put_text, show_clients, show_locks};
 pub use view::{ClientView, HostView, LockView, ValueView};

@@ -1,14 +1,15 @@
-ghost use Rattle.std.specs.Prelude.{◌≡◌, ◌⊎◌, ℕ, IfOk, IfErr, MatchOption, drop, length};
+ghost use Rattle.std.specs.Prelude.{◌≡◌, ◌⊎◌, ◌++◌, ℕ, IfOk, IfErr, MatchOption, drop, length, min, take};
 ghost use Rattle.lock_command.specs.declared.record.LockRecord.{LockRecord};
 ghost use Rattle.lock_table.specs.Apply.{table_after};
 ghost use Rattle.lock_table.specs.Picture.{IsPictureOf};
+ghost use Rattle.inspect.specs.Text.{queues_text};
 ghost use Rattle.c_host.specs.Views.{ShowsHost, ShowsLock, ShowsClient, FindsLock, FindsValue, LacksLock, IsAt, ShowBelow, ShowsLocks, ShowsClients, ShowsText};
 
 use crate::fault::Fault;
 use crate::open_host::OpenHost;
 use crate::view::{ClientView, HostView, LockView, ValueView};
 use inspect::queues;
-use lock_table::{KnownClient, LockRecord, Picture};
+use lock_table::{KnownClient, LockRecord, NoMemory, Picture};
 use std::alloc::Global;
 
 impl OpenHost {
@@ -99,13 +100,7 @@ impl OpenHost {
         ensures unshown { IfErr result (λ _. (into.new ≡ into.old) × (length.new ≡ length.old)) }
     {
         let picture = self.picture(alloc)?;
-        let mut text = Vec::new(alloc);
-        if queues(&picture, &mut text).is_err() {
-            return Err(Fault::NoMemory);
-        }
-        *length = text.len();
-        let shown = text.len().min(into.len());
-        into[..shown].copy_from_slice(&text[..shown]);
+        *length = put_text(alloc, &picture, into)?;
         Ok(())
     }
 
@@ -117,8 +112,24 @@ impl OpenHost {
     }
 }
 
+/// Puts the text of a table into a buffer, as much as there is room for, and returns how long it is.
+pub fn put_text(alloc: Global, picture: &Picture, into: &mut [u8]) -> Result<usize, NoMemory>
+    ensures sized { IfOk result (λ size. size ≡ length (queues_text picture.now)) }
+    ensures shown { IfOk result (λ size. into.new ≡
+        take (min size (length into.old)) (queues_text picture.now) ++ drop (min size (length into.old)) into.old) }
+    ensures unshown { IfErr result (λ _. into.new ≡ into.old) }
+{
+    let mut text = Vec::new(alloc);
+    if queues(picture, &mut text).is_err() {
+        return Err(NoMemory);
+    }
+    let shown = text.len().min(into.len());
+    into[..shown].copy_from_slice(&text[..shown]);
+    Ok(text.len())
+}
+
 /// Where the first lock of this number stands.
-fn place_of(locks: &[LockRecord], lock: u32) -> Option<usize>
+pub fn place_of(locks: &[LockRecord], lock: u32) -> Option<usize>
     ensures { MatchOption result ((at : ℕ) (found : LockRecord) → IsAt locks.now lock at found → ⊥)
         (λ at. (found : LockRecord) × IsAt locks.now lock at found) }
 {
@@ -131,7 +142,7 @@ fn place_of(locks: &[LockRecord], lock: u32) -> Option<usize>
 }
 
 /// Shows locks, as many as there is room for.
-fn show_locks(locks: &[LockRecord], into: &mut [LockView])
+pub fn show_locks(locks: &[LockRecord], into: &mut [LockView])
     ensures shown { ShowBelow ShowsLock into.new locks.now (length into.new) }
     ensures rest { drop (length locks.now) into.new ≡ drop (length locks.now) into.old }
 {
@@ -141,7 +152,7 @@ fn show_locks(locks: &[LockRecord], into: &mut [LockView])
 }
 
 /// Shows clients, as many as there is room for.
-fn show_clients(clients: &[KnownClient], into: &mut [ClientView])
+pub fn show_clients(clients: &[KnownClient], into: &mut [ClientView])
     ensures shown { ShowBelow ShowsClient into.new clients.now (length into.new) }
     ensures rest { drop (length clients.now) into.new ≡ drop (length clients.now) into.old }
 {

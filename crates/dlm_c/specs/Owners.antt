@@ -1,7 +1,6 @@
 -- What C hears of the machine that has a host number, and what it is told.
 use Rattle.std.specs.Prelude.{◌≡◌, ◌==◌, ◌<◌, ◌≤◌, ◌-◌, ◌^◌, ◌⊎◌, ℕ, ℤ, List, length, map, take, Option, Some, None, if◌then◌else◌}
 use Rattle.torn_block.specs.declared.layout.TheConstants.{DISKS}
-use Rattle.attempt.specs.declared.refusal.Refusal.TheVariants.{NoMajority}
 use Rattle.sectors.specs.declared.name.MachineName.{MachineName}
 use Rattle.sectors.specs.declared.name.TheConstants.{NAMED_LENGTH}
 use Rattle.sectors.specs.declared.owner.Owner.TheVariants.{Ours, Others, Unheard}
@@ -12,7 +11,7 @@ use Rattle.sectors.specs.Sector.{stamp_of}
 use Rattle.dlm_c.specs.declared.owner.NameBytes.{NameBytes}
 use Rattle.dlm_c.specs.declared.owner.Heard.{Heard}
 use Rattle.dlm_c.specs.declared.owner.AllHeard.{AllHeard}
-use Rattle.c_host.specs.Numbers.{done, bad_argument, stamp_spent, host_in_use, operation_number}
+use Rattle.c_host.specs.Numbers.{done, bad_argument, no_majority, stamp_spent, host_in_use}
 
 -- the name as C has it
 abbrev pub name_of : NameBytes → MachineName
@@ -44,7 +43,7 @@ abbrev pub TellsWhose : AllHeard → NameBytes → (old new : NameBytes) → ℤ
 TellsWhose heard machine old new status =
     ((status ≡ done) × IsOwner (name_of machine) (said_to heard) Ours × (new ≡ old))
     ⊎ ((status ≡ host_in_use) × IsOwner (name_of machine) (said_to heard) (Others (name_of new)))
-    ⊎ ((status ≡ operation_number NoMajority) × IsOwner (name_of machine) (said_to heard) Unheard × (new ≡ old))
+    ⊎ ((status ≡ no_majority) × IsOwner (name_of machine) (said_to heard) Unheard × (new ≡ old))
 
 -- It is; or it is told that a set has no so many disks.
 abbrev pub TellsOwner : AllHeard → NameBytes → (old new : NameBytes) → ℤ → Type 0

@@ -2,8 +2,7 @@
 ghost use Rattle.std.specs.Prelude.{◌≡◌, map};
 ghost use Rattle.dlm_c.specs.Owners.{FindsName, PutsName, TellsOwner, name_of, said_by};
 
-use c_host::{BAD_ARGUMENT, HOST_IN_USE, STAMP_SPENT, operation_number};
-use host::Refusal;
+use c_host::{BAD_ARGUMENT, HOST_IN_USE, NO_MAJORITY, STAMP_SPENT};
 use sectors::{MachineName, NAME_LENGTH, NAMED_LENGTH, Owner, name_in, owner_of, put_name};
 use torn_block::DISKS;
 
@@ -79,7 +78,7 @@ pub extern "C" fn dlm_c_device_owner(
             other.bytes = told;
             HOST_IN_USE
         }
-        Owner::Unheard => operation_number(Refusal::NoMajority),
+        Owner::Unheard => NO_MAJORITY,
     }
 }
 
