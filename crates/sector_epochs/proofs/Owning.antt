@@ -4,14 +4,12 @@ use Rattle.std.proofs.Common.{ℕ, zero, suc, ◌≡◌, ◌+◌, ◌<◌, ◌�
 use Rattle.std.proofs.lemmas.Bool.{cases_eq, cases_Bool}
 use Rattle.disk.specs.Disk.{Call, Attach, Read, Write, Sync, Answer}
 use Rattle.torn_block.specs.Layout.{cluster_version}
-use Rattle.torn_block.specs.Damage.{block_of}
 use Rattle.torn_block.specs.declared.layout.TheConstants.{HOSTS}
-use Rattle.heartbeat.specs.Beat.{beat_body}
 use Rattle.paxos_block.specs.Places.{Spot, BeatOf, VoteOf, place_of}
 use Rattle.paxos_block.specs.Shape.{Shape}
 use Rattle.standings.specs.Epochs.{epoch_of, base_of, number_place}
 use Rattle.standings.specs.Reading.{moved}
-use Rattle.standings.specs.Past.{Made, Past, IsRow, block_at, MayCall}
+use Rattle.standings.specs.Past.{Made, Past, IsRow, block_at, number_write, MayCall}
 use Rattle.world.specs.Entry.{Filled}
 use Rattle.sector_runs.specs.Owning.{host_of, IsOfHost, IsOwn, AllOwn}
 use Rattle.sector_runs.proofs.Owning.{puts_own, doing_own}
@@ -71,8 +69,8 @@ module _ (c : Shape) (h : ℕ) (number : h < HOSTS) where
   called past (Sync boot) may nothing = tt
   called past (Write boot at from) (inl clears) nothing = cleared clears.area clears.row at boot from clears.is_row clears.within nothing
   called past (Write boot at from) (inr beat) nothing =
-      subst (IsOwn h) (sym beat.is)
-      (puts_own (number_place n beat.area h) h (VoteOf (c.slots + beat.area) h) (omega arith) refl number (block_of cluster_version h beat.row) beat_body beat.boot beat.due)
+      let write = number_write n beat.area h beat.row in
+      subst (IsOwn h) (sym beat.is) (puts_own (number_place n beat.area h) h (VoteOf (c.slots + beat.area) h) (omega arith) refl number write.block write.body beat.boot beat.due)
 
   -- A CALL OF A CORE, WHERE IT IS MADE
 
