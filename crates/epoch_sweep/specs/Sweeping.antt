@@ -1,7 +1,7 @@
 -- The variants of a script over a log without an end: before each step that applies, each way in which the host or the disk may be interrupted there; and behind them two recoveries.
 use Rattle.std.specs.Prelude.{◌≡◌, ◌⊎◌, ◌↔◌, ◌+◌, ◌-◌, ◌≤◌, ℕ, Bool, List, [], ◌∷◌, ◌++◌, map, take, drop, replicate, slice_get, Option, Some, None, IsTrue, is_some, if◌then◌else◌}
 use Rattle.std.specs.List.{range_with_len}
-use Rattle.torn_block.specs.declared.layout.TheConstants.{HOSTS}
+use Rattle.lock_command.specs.declared.number.TheConstants.{HOSTS}
 use Rattle.paxos_block.specs.Shape.{Shape}
 use Rattle.lock_script.specs.declared.event.Event.{Event}
 use Rattle.lock_script.specs.declared.event.Event.TheVariants.{Stop, Recover, Step, Tear, DiskCrash, DiskGone}

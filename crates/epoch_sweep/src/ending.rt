@@ -1,5 +1,5 @@
 ghost use Rattle.std.specs.Prelude.{◌≡◌, ◌≤◌, ◌<◌, ◌++◌, ◌∷◌, [], Some, IfOk, OnOk};
-ghost use Rattle.torn_block.specs.declared.layout.TheConstants.{HOSTS};
+ghost use Rattle.lock_command.specs.declared.number.TheConstants.{HOSTS};
 ghost use Rattle.epoch_simulator.specs.Doing.{OfHost};
 ghost use Rattle.epoch_sweep.specs.Sweeping.{EndsSo, HappenOn, Recovers, Works, one_if, stops};
 ghost use Rattle.epoch_sweep.specs.Judging.{IsFound, told_by};

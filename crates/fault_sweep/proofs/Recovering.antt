@@ -17,7 +17,7 @@ use Rattle.host.specs.declared.answer.HostAnswer.{HostAnswer}
 use Rattle.host.specs.declared.answer.HostAnswer.TheVariants.{Ack, Recovered, Looked, Beaten, Marked, Refused}
 use Rattle.host.specs.declared.task.Task.TheVariants.{Recover}
 use Rattle.host.specs.Host.{Recovering, Attempt, Doing, Attempts, Memory, Host, Stopped, Running, fresh, says, does, with_floor, learns, begins, goes_on, takes, ended, by_status, hears, hears_from, tries_again, idles, next_of, next_doing, is_stopped, said_of}
-use Rattle.torn_block.specs.declared.layout.TheConstants.{HOSTS}
+use Rattle.lock_command.specs.declared.number.TheConstants.{HOSTS}
 use Rattle.world.specs.Entry as entries
 use Rattle.world.specs.Entry.{Filled, Called, is_of, host_step}
 use Rattle.world.specs.World.{World, world}

@@ -1,5 +1,5 @@
 ghost use Rattle.std.specs.Prelude.{◌≡◌, ◌≢◌, ◌<◌, ◌≤◌, ◌+◌, ◌^◌, ◌∷◌, [], Some, None, length, slice_get, slice_index_or, take, replicate, is_some, IsSome, IfOk, IfSome, OnOk, true, false, IsTrue, ◌↔◌};
-ghost use Rattle.torn_block.specs.declared.layout.TheConstants.{HOSTS};
+ghost use Rattle.lock_command.specs.declared.number.TheConstants.{HOSTS};
 ghost use Rattle.std.specs.Option.{option_map};
 ghost use Rattle.host.specs.Host.{learned_of};
 ghost use Rattle.world.specs.Happens as happens;

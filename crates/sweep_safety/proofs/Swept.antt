@@ -3,7 +3,7 @@ use Rattle.std.specs.Prelude.{All, IsTrue, not}
 use Rattle.std.specs.List.{position_from}
 use Rattle.std.proofs.Common.{ℕ, ◌+◌, ◌-◌, ◌≤◌, ◌≡◌, Bool, true, cond, Some, None, List, [], ◌∷◌, ◌++◌, refl, sym, ap, ◌∙◌, subst}
 use Rattle.std.proofs.lemmas.List.Elements.{All-nil, All-cons, All-head, All-tail, All-append}
-use Rattle.torn_block.specs.declared.layout.TheConstants.{HOSTS}
+use Rattle.lock_command.specs.declared.number.TheConstants.{HOSTS}
 use Rattle.lock_command.specs.declared.record.TheConstants.{LOCKS}
 use Rattle.lock_table.specs.declared.clients.TheConstants.{CLIENTS}
 use Rattle.paxos_block.specs.Shape.{Shape}

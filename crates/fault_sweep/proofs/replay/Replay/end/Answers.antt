@@ -1,5 +1,5 @@
 use Rattle.std.proofs.Common.{ℕ, ◌+◌, ap₂, ◌≡◌, ◌≤◌, ◌⊎◌, ◌-◌, inl, inr, List, length, refl, sym, ap, ◌∙◌, subst, arith}
-use Rattle.torn_block.specs.declared.layout.TheConstants.{HOSTS}
+use Rattle.lock_command.specs.declared.number.TheConstants.{HOSTS}
 use Rattle.lock_command.specs.declared.command.Command.{Command}
 use Rattle.fault_sweep.specs.Judging.{AllGoBy}
 use Rattle.simulator.specs.Past.{Past}
