@@ -5,9 +5,8 @@ mod program;
 mod racing;
 mod refusal_line;
 
-use dlm_tasks::Fault;
+use dlm_tasks::{Fault, TryLock};
 use dlm_words::WordsFault;
-use folders::TryLock;
 use program::{decline, refuse, run_words};
 use std::env;
 use std::fs::{File, OpenFile};

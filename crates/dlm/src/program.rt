@@ -8,11 +8,11 @@ ghost use Rattle.dlm.specs.Tasks.{HasPrinted};
 use crate::racing;
 use crate::refusal_line::refusal_line;
 use dlm_tasks::{
-    CommandFailure, Fault, images, made_endless, replaced, run_any_script, sweep_any_script,
+    CommandFailure, Fault, TryLock, images, made_endless, replaced, run_any_script,
+    sweep_any_script,
 };
 use dlm_words::{Subcommand, WordsFault, task_of};
 use epoch_script::read_any_script;
-use folders::TryLock;
 use std::alloc::Global;
 use std::fs::OpenFile;
 use std::io::{Read, Write};

@@ -18,4 +18,5 @@ pub use any_run::run_any_script;
 pub use any_sweep::sweep_any_script;
 pub use command_failure::CommandFailure;
 pub use fault::Fault;
+pub use folders::TryLock;
 pub use run::run_script;

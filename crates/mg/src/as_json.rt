@@ -4,8 +4,7 @@ ghost use Rattle.json.specs.Print.{print};
 ghost use Rattle.dlm_tasks.specs.Checking.{IsFound};
 ghost use Rattle.mg.specs.Json.{WritesChecked, WritesMaking, WritesReplacing, making};
 
-use dlm_tasks::{CommandFailure, Fault, images};
-use folders::TryLock;
+use dlm_tasks::{CommandFailure, Fault, TryLock, images};
 use in_place::{MadeEndless, make_folder_endless, replace_disk};
 use std::alloc::{AllocError, Global};
 use std::fs::OpenFile;

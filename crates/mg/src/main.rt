@@ -8,8 +8,7 @@ mod program;
 mod scripts;
 mod tasks;
 
-use dlm_tasks::Fault;
-use folders::TryLock;
+use dlm_tasks::{Fault, TryLock};
 use program::{refuse, run_words};
 use std::env;
 use std::fs::{File, OpenFile};

@@ -3,8 +3,7 @@ ghost use Rattle.dlm_tasks.specs.Checking.{IsFound};
 ghost use Rattle.mg.specs.Tasks.{Migrates, Replaces, WritesSound};
 
 use crate::as_json;
-use dlm_tasks::{CommandFailure, images, made_endless, replaced};
-use folders::TryLock;
+use dlm_tasks::{CommandFailure, TryLock, images, made_endless, replaced};
 use std::fs::OpenFile;
 use std::io::Write;
 use std::os::unix::fs::FileExt;

@@ -13,4 +13,5 @@ mod seats;
 pub use answer::Answer;
 pub use cluster::HostFault;
 pub use laws::{bids_are_spelled, races_agree};
+pub use lock_command::HostNumber;
 pub use race::{Race, run_race};
