@@ -3,9 +3,9 @@ use crate::benchmark::Benchmark;
 use crate::first_path::{SLOTS, command_at};
 use disk::SimDisk;
 use dlm_images::DiskHost;
-use host::Config;
 use lock_command::HostNumber;
 use lock_table::Answer;
+use paxos_block::Config;
 use std::alloc::{AllocError, Global};
 
 /// The submissions of the first path to a host that calls its disk itself: with no lock, no journal and no token.

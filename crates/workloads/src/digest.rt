@@ -1,6 +1,5 @@
-use cluster::{Entry, Receipt};
+use cluster::{Entry, Receipt, Refusal};
 use disk::DiskFault;
-use host::Refusal;
 use lock_command::{Answer, Command, LockState, LockValue, Reply};
 use lock_table::{LockRecord, Picture};
 use std::fmt::{self, Display, Formatter};

@@ -4,9 +4,9 @@ use crate::failure::Failure;
 use crate::lookers::{blank_disks, start_over, submit_next};
 use crate::numbers::Numbers;
 use crate::words::Size;
+use cluster::Config;
 use disk::{Disk, SimDisk};
 use dlm_images::DiskHost;
-use host::Config;
 use std::alloc::Global;
 
 /// How many clusters there are.

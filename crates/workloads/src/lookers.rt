@@ -6,9 +6,9 @@ use crate::digest::Digest;
 use crate::failure::Failure;
 use crate::numbers::Numbers;
 use crate::words::Size;
+use cluster::Config;
 use disk::{Disk, SimDisk};
 use dlm_images::DiskHost;
-use host::Config;
 use lock_command::HostNumber;
 use std::alloc::{AllocError, Global};
 
