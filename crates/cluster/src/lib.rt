@@ -24,6 +24,7 @@ pub use cluster::Cluster;
 pub use cluster_name::ClusterName;
 pub use cluster_tie::Ties;
 pub use commit::commit_step;
+pub use disk::SimDisk;
 pub use examples::{first_receipt_stands, first_record};
 pub use fault::HostFault;
 pub use finish::Record;

@@ -7,12 +7,12 @@ use Rattle.disk.proofs.ListLemmas.{run_is}
 use Rattle.torn_block.specs.Block.{value_of}
 use Rattle.torn_block.specs.Layout.{cluster_version, Version2}
 use Rattle.torn_block.specs.Place.{block_in}
-use Rattle.heartbeat.specs.Beat.{counter_at}
 use Rattle.paxos_block.specs.Places.{Spot, BeatOf, VoteOf, place_of}
 use Rattle.paxos_block.specs.Saying.{zeros}
 use Rattle.paxos_block.proofs.PlaceLemmas.{spot_fits}
 use Rattle.paxos_block.proofs.SayingLemmas.{length-zeros}
 use Rattle.standings.specs.Epochs.{base_of, number_place, epoch_by}
+use Rattle.standings.proofs.Numbers.{none_said}
 use Rattle.endless_image.specs.declared.header.EndlessHeader.{EndlessHeader}
 use Rattle.endless_image.specs.Headers.{IsEndlessHeader, IsRight, header_saying}
 use Rattle.endless_image.specs.Holding.{new_image, IsBlank, numbers_of, IsAtFirst}
@@ -53,7 +53,8 @@ module _ (slots : ℕ) (bytes : List ℕ) (long : length bytes ≡ size_of slots
 
   none_yet : (area host : ℕ) → area < 2 → host < 16 → numbers_of slots area bytes host ≡ 0
   none_yet area host is_area is_host =
-      ap counter_at (blank_at (number_place (area_size slots) area host) (omega arith) (area_of_two area host is_area is_host))
+      let place = number_place (area_size slots) area host in
+      none_said place bytes (blank_at place (omega arith) (area_of_two area host is_area is_host))
 
   newest_is : (host : ℕ) → host < 16 → epoch_by 0 (numbers_of slots 0 bytes host) ≡ Some 0
   newest_is host below = ap (epoch_by 0) (none_yet 0 host (omega arith) below)

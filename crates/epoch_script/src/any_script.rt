@@ -1,5 +1,4 @@
-use lock_script::{Events, Script, Show};
-use paxos_block::Config;
+use lock_script::{Config, Events, Script, Show};
 
 /// What is to happen to a cluster whose log has no end, and when its tables are to be shown.
 #[derive(Drop)]

@@ -6,7 +6,6 @@ use Rattle.disk.specs.Disk.{DiskState, Call, Attach, Read, Write, Sync, Answer, 
 use Rattle.disk.specs.Simulated.{fresh_disk}
 use Rattle.disk.specs.Cut.{cut}
 use Rattle.disk.proofs.StepLemmas.{shape_fresh}
-use Rattle.heartbeat.specs.Beat.{counter_of}
 use Rattle.torn_block.specs.Layout.{cluster_version, block_length}
 use Rattle.torn_block.specs.declared.layout.TheConstants.{HEADER_LENGTH, HOSTS}
 use Rattle.paxos_block.specs.Places.{image_length}
@@ -15,6 +14,7 @@ use Rattle.paxos_block.specs.Shape.{Shape}
 use Rattle.paxos_block.proofs.SayingLemmas.{length-zeros}
 use Rattle.standings.specs.Epochs.{epoch_of, epoch_by, base_of, number_place, number_of, whole_length}
 use Rattle.standings.specs.Reading.{moved}
+use Rattle.standings.proofs.Numbers.{same_said}
 use Rattle.world.specs.World.{Tears}
 use Rattle.at_once.specs.Images.{headed, headless, used, laid_out}
 use Rattle.at_once.specs.Power.{LosesPower}
@@ -91,7 +91,7 @@ module _ (c : Shape) where
         let by = used_steps (slots_of c) new new (Read new.boot place len) told new_there (omega arith, (let size = as_long in omega (arith, size, is_area, is_host))) step in
         let told_same : told ≡ Told (slice_range (used_of new).bytes place (place + len)) = by.2.0 in
         let same : slice_range new.bytes place (place + len) ≡ slice_range (used_of new).bytes place (place + len) = cc in
-        ap counter_of (sym same)
+        same_said place (used_of new).bytes new.bytes (sym same)
 
     new_used : IsNewDisk (image_of c) newest (used_of old) (used_of new)
     new_used =

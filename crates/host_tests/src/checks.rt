@@ -1,5 +1,5 @@
+use dlm_images::Config;
 use folders::{Finding, check_folder, format_folder, open_folder_to_read};
-use host::Config;
 use std::fs;
 use std::test::Fail;
 use torn_block::{BLOCK_LENGTH, ClusterLayout, Layout, ROW_LENGTH};

@@ -1,10 +1,8 @@
 ghost use Rattle.std.specs.Prelude.{◌≡◌, true, IfSome};
 ghost use Rattle.lock_command.specs.Command.{is_submittable};
 
-use disk::Disk;
-use dlm_images::{DiskHost, start_host};
+use dlm_images::{Config, Disk, DiskHost, Refusal, start_host};
 use folders::{format_folder, open_folder, open_folder_to_read};
-use host::{Config, Refusal};
 use lock_command::{
     Action, ClientNumber, Command, HostNumber, LockName, LockNumber, Mode, RequestNumber,
 };

@@ -23,6 +23,7 @@ pub use event::Event;
 pub use events::{Events, MOST_EVENTS, Run};
 pub use fault_bytes::FaultBytes;
 pub use number::number_in;
+pub use paxos_block::Config;
 pub use reading::read_script;
 pub use script::{Script, ScriptFault};
 pub use show::{Show, View};

@@ -10,9 +10,8 @@ ghost use Rattle.race.specs.Bids.{bid_of, HasBeaten, HasBid};
 use crate::answer::Answer;
 use crate::bid::bid;
 use crate::host_outcome::{HostOutcome, answer_of};
-use cluster::{Cluster, ClusterName, HostFault, HostSeat, OpenGate, Receipt};
+use cluster::{Cluster, ClusterName, HostFault, HostSeat, OpenGate, Receipt, SimDisk};
 use crossbeam_channel::Sender;
-use disk::SimDisk;
 use std::alloc::{AllocError, Global};
 use std::sync::Wait;
 

@@ -4,8 +4,7 @@ ghost use Rattle.host.specs.Host.{idles};
 ghost use Rattle.cluster.specs.Seat.{host_in};
 ghost use Rattle.race.specs.Race.{AreByHost};
 
-use cluster::{Cluster, ClusterName, HostFault, HostSeat};
-use disk::SimDisk;
+use cluster::{Cluster, ClusterName, HostFault, HostSeat, SimDisk};
 use lock_command::HostNumber;
 use std::alloc::Global;
 use std::sync::Wait;

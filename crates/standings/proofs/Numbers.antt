@@ -1,16 +1,26 @@
--- A sound row of standings says no number above the last one.
+-- What numbers blocks say. A sound row of standings says none above the last one.
 use Rattle.std.specs.Prelude.{◌^◌, nat_lt, drop, slice_index}
-use Rattle.std.proofs.Common.{ℕ, ◌≡◌, ◌<◌, ◌≤◌, Bool, true, false, List, refl, ap, arith}
+use Rattle.std.proofs.Common.{ℕ, ◌≡◌, ◌<◌, ◌≤◌, Bool, true, false, List, None, refl, ap, arith}
 use Rattle.std.proofs.lemmas.List.FromFn.{get_or-map-range_with_len}
 use Rattle.torn_block.specs.Layout.{cluster_version}
 use Rattle.torn_block.specs.declared.layout.TheConstants.{HOSTS}
 use Rattle.torn_block.specs.declared.block.Half.TheVariants.{First, Second}
-use Rattle.torn_block.specs.Block.{choice, value_at, copy_of, is_open, sequence_of}
+use Rattle.torn_block.specs.Block.{choice, value_at, value_of, copy_of, is_open, sequence_of}
 use Rattle.torn_block.specs.Damage.{IsSoundBlock, block_of}
+use Rattle.torn_block.specs.Place.{block_in}
 use Rattle.torn_block.proofs.PlaceLaws.{reads_sequence}
 use Rattle.heartbeat.specs.Beat.{IsBeat, beat_body, counter_at, counter_of, counters_in}
 use Rattle.heartbeat.proofs.BeatLaws.{length-beat_body}
+use Rattle.standings.specs.Epochs.{number_at}
 use Rattle.standings.specs.Reading.{numbers_in}
+
+-- a block that has no value says 0
+pub none_said : (place : ℕ) (bytes : List ℕ) → value_of cluster_version (block_in cluster_version place bytes) ≡ None → number_at place bytes ≡ 0
+none_said place bytes none = ap counter_at none
+
+-- and the same block says the same number
+pub same_said : (place : ℕ) (bytes other : List ℕ) → block_in cluster_version place bytes ≡ block_in cluster_version place other → number_at place bytes ≡ number_at place other
+same_said place bytes other same = ap counter_of same
 
 beat_sequence : (copy : List ℕ) → IsBeat copy → sequence_of copy ≤ 2 ^ 62
 beat_sequence copy is =
