@@ -141,8 +141,9 @@ def one_after_the_other():
     put_bytes("d/disk4.img", endless_log.standing_place(SLOTS, 0, 9), endless.copy_of(5))
     lose("d", 0)
     replaced("d", 0, 8)
+    # Of the others only disks 3 and 4 take part in epoch 6.
     lose("d", 2)
-    replaced("d", 2, 9)
+    stays("replace d 2", "dlm: 7 NoMajority\n")
     refused("table d 2", "dlm: 7 NoMajority\n")
 
 
@@ -190,7 +191,7 @@ def refusals():
     os.rmdir("d/disk1.img")
     replaced("d", 1, 5)
     stays("replace d 1", "dlm: 29 AlreadyThere\n")
-    # Less than half of the disks tell their epochs.
+    # No majority tells its epochs.
     put("d", {"disk2.img": whole["disk2.img"]})
     stays("replace d 1", "dlm: 7 NoMajority\n")
     put("d", {name: whole[name] for name in ("disk0.img", "disk2.img")})
@@ -206,14 +207,30 @@ def refusals():
 
 
 @test
-def half_of_the_disks():
-    """Of two disks one is enough, and of four two. More than half have to be left for commands."""
-    for disks, gone in ((2, 1), (4, 2), (7, 3)):
+def no_majority_is_left():
+    """More than half of the disks have to take part in the newest epoch, without the lost one. Else nothing changes, and a lost image may still come back."""
+    for disks, gone, is_made in ((2, 1, False), (3, 1, True), (3, 2, False), (4, 1, True), (4, 2, False), (5, 2, True), (7, 3, True), (7, 4, False)):
         put_alone("d", 2, 5, disks=disks)
         for disk in range(gone):
             lose("d", disk)
-        replaced("d", 0, 4)
+        if is_made:
+            replaced("d", 0, 4)
+        else:
+            stays("replace d 0", "dlm: 7 NoMajority\n")
         shutil.rmtree("d")
+    # A disk that waits for its first epoch is none of them, until that has come.
+    plain = put_alone("d", 2, 5)
+    lose("d", 1)
+    replaced("d", 1, 4)
+    os.rename("d/disk2.img", "away")
+    stays("replace d 2", "dlm: 7 NoMajority\n")
+    os.rename("away", "d/disk2.img")
+    plain.submits(3, "enqueue 2 1 2 EX db")
+    fills(plain, 4 * SLOTS + 20)
+    lose("d", 2)
+    plain.shows()
+    replaced("d", 2, 6)
+    plain.shows()
 
 
 @test

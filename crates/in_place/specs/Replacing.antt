@@ -1,5 +1,5 @@
 -- A new image in the place of a lost one: from which epoch on it takes part, and how it is made.
-use Rattle.std.specs.Prelude.{◌≡◌, ◌≢◌, ◌⊎◌, ◌<◌, ◌≤◌, ◌+◌, ◌-◌, ◌*◌, ℕ, zero, suc, List, max, nat_lt, replicate, unwrap_or, slice_get, slice_index, Option, Some, None, Err, if◌then◌else◌}
+use Rattle.std.specs.Prelude.{◌≡◌, ◌≢◌, ◌⊎◌, ◌<◌, ◌≤◌, ◌+◌, ◌-◌, ◌*◌, ℕ, zero, suc, List, max, nat_le, nat_lt, replicate, unwrap_or, slice_get, slice_index, Option, Some, None, Err, if◌then◌else◌}
 use Rattle.disk.specs.Disk.{Call, Attach, Read, Write, Sync, Answer, Booted, Told, Done, Fault}
 use Rattle.disk.specs.FileStates.{FileState, FileGives}
 use Rattle.disk.specs.declared.fault.DiskFault.{DiskFault}
@@ -103,9 +103,33 @@ pub record TakesPartFrom (disks : ℕ) (tellings : Tellings) (first : ℕ) : Typ
   pub half : disks ≤ 2 * how_many tellings disks
   pub below : (k : ℕ) (told : EpochsTold) → k < disks → slice_get tellings k ≡ Some (Some told) → IsBelow epoch told
 
--- Less than half told something; or there are no two epochs after the newest one that was told.
+-- WHO TAKES PART NOW
+
+-- the newest epoch to which a number of one of the first n disks belongs
+abbrev pub seen_by : Option (Option EpochsTold) → ℕ
+seen_by (Some (Some told)) = told.newest
+seen_by other = 0
+
+abbrev pub newest_seen : Tellings → ℕ → ℕ
+newest_seen tellings zero = 0
+newest_seen tellings (suc n) = max (seen_by (slice_get tellings n)) (newest_seen tellings n)
+
+-- how many of the first n disks told something, and take part in an epoch
+abbrev pub one_if_in : ℕ → Option (Option EpochsTold) → ℕ
+one_if_in epoch (Some (Some told)) = if nat_le told.first epoch then 1 else 0
+one_if_in epoch other = 0
+
+abbrev pub how_many_in : ℕ → Tellings → ℕ → ℕ
+how_many_in epoch tellings zero = 0
+how_many_in epoch tellings (suc n) = how_many_in epoch tellings n + one_if_in epoch (slice_get tellings n)
+
+-- More than half of all disks take part in the newest epoch. So the log goes on without the lost one.
+abbrev pub GoOnWithout : (disks : ℕ) → Tellings → Type 0
+GoOnWithout disks tellings = disks < 2 * how_many_in (newest_seen tellings disks) tellings disks
+
+-- They do not; or there are no two epochs after the newest one that was told.
 abbrev pub AreTooFew : (disks : ℕ) → Tellings → Type 0
-AreTooFew disks tellings = (2 * how_many tellings disks < disks) ⊎ (LAST_EPOCH < newest_told tellings disks + 2)
+AreTooFew disks tellings = (2 * how_many_in (newest_seen tellings disks) tellings disks ≤ disks) ⊎ (LAST_EPOCH < newest_told tellings disks + 2)
 
 -- WHICH STANDINGS
 
@@ -198,9 +222,10 @@ pub record IsBy (disk : ℕ) (config : Shape) (cluster : ℕ) (tellings : Tellin
   pub header : image.header ≡ new_header disk config cluster first
   pub rows : AreOfNewest tellings config.disks image.rows
 
--- it is lost, and by what the other disks told its place is taken by this image
+-- it is lost, by what the other disks told its place is taken by this image, and the log goes on without it
 abbrev pub IsDue : (disk : ℕ) → NewImage → Type 0
-IsDue disk image = (config : Shape) × (cluster : ℕ) × (tellings : Tellings) × LacksImage disk config cluster tellings × IsBy disk config cluster tellings image
+IsDue disk image =
+    (config : Shape) × (cluster : ℕ) × (tellings : Tellings) × LacksImage disk config cluster tellings × IsBy disk config cluster tellings image × GoOnWithout config.disks tellings
 
 -- the image was put on a disk that is as long
 abbrev pub WasPut : NewImage → Type 0

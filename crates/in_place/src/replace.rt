@@ -5,7 +5,7 @@ ghost use Rattle.endless_image.specs.Headers.{IsEndlessHeader};
 ghost use Rattle.endless_image.specs.Sizes.{IsSlotCount};
 ghost use Rattle.in_place.specs.InPlaceFolders.{HoldsAll};
 ghost use Rattle.log_folders.specs.EndlessFolders.{IsEndlessOpened};
-ghost use Rattle.in_place.specs.Replacing.{AreTooFew, IsBy, IsDue, MayNotReplace, WasPut, WasReplaced};
+ghost use Rattle.in_place.specs.Replacing.{AreTooFew, GoOnWithout, IsBy, IsDue, MayNotReplace, WasPut, WasReplaced};
 
 use crate::in_place::lock_hosts;
 use crate::replace_epoch::{EpochsTold, epochs_told, first_epoch_after, newest_rows};
@@ -131,7 +131,7 @@ fn image_by(
     requires among { disk < config.disks }
     requires few { config.disks ≤ DISKS }
     requires slots { IsSlotCount config.slots }
-    ensures by { IfOk result (IsBy disk config cluster told.now) }
+    ensures by { IfOk result (λ image. IsBy disk config cluster told.now image × GoOnWithout config.disks told.now) }
     ensures header { IfOk result (λ image. IsEndlessHeader image.header) }
     ensures few { IfErr result (λ fault. (fault ≡ ReplaceFault.NoMajority) × AreTooFew config.disks told.now) }
 {

@@ -3,7 +3,7 @@ ghost use Rattle.std.specs.Prelude.{◌≡◌, ◌≤◌, ◌<◌, ℕ, Some, If
 ghost use Rattle.torn_block.specs.declared.layout.TheConstants.{DISKS};
 ghost use Rattle.standings.specs.declared.epoch.TheConstants.{LAST_EPOCH};
 ghost use Rattle.endless_image.specs.Sizes.{size_of};
-ghost use Rattle.in_place.specs.Replacing.{AreOfNewest, AreToldBy, AreTooFew, IsNewestOfRows, IsNewestTold, IsToldBy, Shows, TakesPartFrom, how_many, later, newest_by, newest_told, one_if_told};
+ghost use Rattle.in_place.specs.Replacing.{AreOfNewest, AreToldBy, AreTooFew, GoOnWithout, IsNewestOfRows, IsNewestTold, IsToldBy, Shows, TakesPartFrom, how_many_in, later, newest_by, newest_seen, newest_told, one_if_in, seen_by};
 
 use crate::replace_rows::Rows;
 use disk::Disk;
@@ -82,18 +82,21 @@ fn epochs_in(rows: &Rows, first: u64) -> Option<EpochsTold>
     })
 }
 
-/// The first epoch in which a new image takes part, by what the disks of its set tell. No host has begun it, nor a later one, on the lost disk. None where less than half
-/// of the disks tell something, or no such epoch is left.
+/// The first epoch in which a new image takes part, by what the disks of its set tell. No host has begun it, nor a later one, on the lost disk. None where no more than half
+/// of the disks take part in the newest epoch, or no such epoch is left.
 ///
 /// None of these disks has a number above some epoch, and all take part in the one after that. A host may have begun that one on the lost disk. It begins the next only once
 /// it has learned that one whole from more than half of all disks, so from one of these; but that one has a number of it then.
+///
+/// Where fewer take part, no command is served until the lost image comes back. A new one in its place would be asked in no epoch.
 pub fn first_epoch_after(disks: u8, told: &[Option<EpochsTold>; DISKS as usize]) -> Option<u64>
     requires { disks ≤ DISKS }
     ensures first { IfSome result (TakesPartFrom disks told.now) }
+    ensures now { IfSome result (λ first. GoOnWithout disks told.now) }
     ensures range { IfSome result (λ first. first ≤ LAST_EPOCH) }
     ensures none { IfNone result (AreTooFew disks told.now) }
 {
-    if 2 * how_many_told(disks, told) < disks {
+    if 2 * how_many_in(newest_seen(disks, told), disks, told) <= disks {
         return None;
     }
     let newest = newest_told(disks, told);
@@ -103,17 +106,49 @@ pub fn first_epoch_after(disks: u8, told: &[Option<EpochsTold>; DISKS as usize])
     Some(newest + 2)
 }
 
-/// How many of the first disks tell something.
-fn how_many_told(disks: u8, told: &[Option<EpochsTold>; DISKS as usize]) -> u8
+/// How many of the first disks take part in an epoch.
+fn how_many_in(epoch: u64, disks: u8, told: &[Option<EpochsTold>; DISKS as usize]) -> u8
     requires { disks ≤ DISKS }
-    ensures value { result ≡ how_many told.now disks }
+    ensures value { result ≡ how_many_in epoch told.now disks }
     ensures range { result ≤ disks }
 {
     let mut count = 0;
     for disk in 0..disks {
-        count += one_if_told(&told[usize::from(disk)]);
+        count += one_if_in(epoch, &told[usize::from(disk)]);
     }
     count
+}
+
+/// The newest epoch to which a number of one of the first disks belongs.
+fn newest_seen(disks: u8, told: &[Option<EpochsTold>; DISKS as usize]) -> u64
+    requires { disks ≤ DISKS }
+    ensures { result ≡ newest_seen told.now disks }
+{
+    let mut newest = 0;
+    for disk in 0..disks {
+        newest = seen_by(&told[usize::from(disk)]).max(newest);
+    }
+    newest
+}
+
+fn one_if_in(epoch: u64, told: &Option<EpochsTold>) -> u8
+    ensures value { result ≡ one_if_in epoch (Some told.now) }
+    ensures range { result ≤ 1 }
+{
+    match told {
+        Some(told) => { if told.first <= epoch { 1 } else { 0 } }
+        None => 0,
+    }
+}
+
+/// The newest epoch to which a number of a disk belongs.
+fn seen_by(told: &Option<EpochsTold>) -> u64
+    ensures { result ≡ seen_by (Some told.now) }
+{
+    match told {
+        Some(told) => told.newest,
+        None => 0,
+    }
 }
 
 /// The least epoch above which none of the first disks has a number, and after which all take part.
@@ -126,16 +161,6 @@ fn newest_told(disks: u8, told: &[Option<EpochsTold>; DISKS as usize]) -> u64
         newest = newest_by(&told[usize::from(disk)]).max(newest);
     }
     newest
-}
-
-fn one_if_told(told: &Option<EpochsTold>) -> u8
-    ensures value { result ≡ one_if_told (Some told.now) }
-    ensures range { result ≤ 1 }
-{
-    match told {
-        Some(_) => 1,
-        None => 0,
-    }
 }
 
 /// The least epoch above which a disk has no number, and after which it takes part.

@@ -15,8 +15,8 @@ pub enum ReplaceFault {
     /// Somebody works under a host's number, or it could not be locked.
     #[error("{0}")]
     Lock(LockFault),
-    /// Less than half of the set's disks, without the lost one, tell which epochs hosts have come to. Or no epoch is left to begin with.
-    #[error("too few of the other disks tell their epochs")]
+    /// No more than half of the set's disks take part in the newest epoch, without the lost one. Or no epoch is left to begin with.
+    #[error("too few of the other disks take part")]
     NoMajority,
 }
 

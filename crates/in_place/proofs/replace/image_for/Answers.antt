@@ -1,7 +1,8 @@
 use Rattle.std.proofs.Common.{◌≡◌, ◌<◌, ℕ, List, arith, rules, subst, sym}
 use Rattle.std.proofs.lemmas.Result.{IfErr-weaker, IfOk-weaker}
 use Rattle.disk.specs.FileStates.{FileState, FileGives}
-use Rattle.in_place.specs.Replacing.{AreTooFew, AreToldBy, IsBy, IsDue, MayNotReplace}
+use Rattle.in_place.specs.Replacing.{AreTooFew, AreToldBy, GoOnWithout, IsBy, IsDue, MayNotReplace}
+use Rattle.in_place.specs.declared.replace_image.NewImage.{NewImage}
 use Rattle.in_place.specs.declared.replace_fault.ReplaceFault.{ReplaceFault}
 use Rattle.in_place.specs.declared.replace_fault.ReplaceFault.TheVariants.{NoMajority}
 use Rattle.in_place.proofs.Replaced.{lacks}
@@ -15,13 +16,14 @@ returns-clause-due g c =
     let same : c.deref_mut.result.now ≡ images.disks.items = search rules in
     let given = subst (λ (n : ℕ). AreToldBy FileGives n c.args.disk c.first_epochs-firsts.result c.deref_mut.result.now told) c.slots-slots.ensures.value c.epochs_told-told.ensures in
     let tells = subst (λ (disks : List FileState). AreToldBy FileGives images.config.slots c.args.disk c.first_epochs-firsts.result disks told) same given in
-    IfOk-weaker c.image_by.result (IsBy c.args.disk images.config images.cluster told) (IsDue c.args.disk)
+    IfOk-weaker c.image_by.result (λ (image : NewImage). IsBy c.args.disk images.config images.cluster told image × GoOnWithout images.config.disks told) (IsDue c.args.disk)
     (λ image by. (
       images.config,
       images.cluster,
       told,
       lacks c.args.disk images.config images.cluster told images.found images.disks.items c.first_epochs-firsts.result c.requires among c.in_ok-refuse_right.ensures.lost c.first_epochs-firsts.ensures tells,
-      by,
+      by.0,
+      by.1,
     ))
     c.image_by.ensures.by
 
