@@ -140,7 +140,7 @@ module _ (c : Shape) (h : ℕ) (deeds : Deeds) (s : Stay) (led : LeadsToStay c h
   -- THE CORE THAT RUNS
 
   -- is the one of its epoch
-  runs_here : (e : ℕ) (memory : Memory) → core_in c h e deeds ≡ Running memory → (e ≡ s.epoch) × (led.memory ≡ memory)
+  pub runs_here : (e : ℕ) (memory : Memory) → core_in c h e deeds ≡ Running memory → (e ≡ s.epoch) × (led.memory ≡ memory)
   runs_here e memory runs = elim (cases_eq e s.epoch) [
     | inl same ↦ (same, running_same led.memory memory (sym led.runs ∙ ap (λ (k : ℕ). core_in c h k deeds) (sym same) ∙ runs))
     | inr apart ↦ absurd (let none : Stopped ≡ Running memory = sym (led.alone e apart) ∙ runs in cc)

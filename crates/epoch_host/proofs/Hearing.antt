@@ -13,7 +13,9 @@ use Rattle.paxos_block.specs.Shape.{Shape}
 use Rattle.standings.specs.declared.epoch.Epoch.{Epoch}
 use Rattle.standings.specs.Epochs.{epoch_of, base_of}
 use Rattle.standings.specs.Past.{Made, Past, made, number_write, MayCall, MayCallIn, IsAnswered, IsShown, IsUnseen}
+use Rattle.attempt.specs.Answers.{heard_as}
 use Rattle.attempt.specs.DeviceCalls.{call_of_need, device_call_of}
+use Rattle.attempt.specs.Heard.{Fits}
 use Rattle.attempt.specs.declared.need.Need.{Need}
 use Rattle.host.specs.Host.{Memory, hears_from, next_in}
 use Rattle.host.specs.Kept.{Kept, LeadsTo, due_call}
@@ -26,7 +28,7 @@ use Rattle.window.specs.declared.step.Step.{Step}
 use Rattle.window.specs.declared.step.Step.TheVariants.{First, Row, Second}
 use Rattle.window.specs.declared.window.Window.{Window}
 use Rattle.window.specs.Calls.{IsOwn, due_for, length_of, sight_of, step_of}
-use Rattle.window.specs.Hearing.{AnswersBy, FollowsOn, HasCause, IsReady, IsUnderWay, MayWant, RestsAfter, ShowsAtOnce, ShowsLast}
+use Rattle.window.specs.Hearing.{AnswersBy, FollowsOn, HasCause, HasOneFewer, IsReady, IsUnderWay, MayWant, RestsAfter, ShowsAtOnce, ShowsLast, SightsGoOn}
 use Rattle.window.specs.Hearing as hearing
 use Rattle.window.specs.Knows.{AddsCall}
 use Rattle.window.specs.Outcomes.{answer_by}
@@ -37,10 +39,12 @@ use Rattle.epoch_host.specs.declared.stay.Stay.{Stay}
 use Rattle.epoch_host.specs.declared.stay.Doing.{Doing}
 use Rattle.epoch_host.specs.declared.stay.Doing.TheVariants.{Nothing, Works, Leaves}
 use Rattle.epoch_host.specs.declared.stay.Work.{Work}
+use Rattle.epoch_host.specs.Bounds.{CallsFew}
 use Rattle.epoch_host.specs.Leading.{DoesSo, EndsInCall, IsReadyFor, LeadsToStay, MakesAndGoesOn, ReadsSo, WorksSo, pasts_of}
 use Rattle.epoch_host.specs.Staying.{IsSound, call_due, due_by, due_on}
 use Rattle.epoch_host.specs.Submitting.{StaysAt}
 use Rattle.epoch_host.proofs.Beginning.{spelled_heard}
+use Rattle.epoch_host.proofs.Bounds.{coming_shown, heard_few, waits_few}
 use Rattle.epoch_host.proofs.Due.{submits_due}
 use Rattle.epoch_host.proofs.Going.{are_open_later, carries_over_later}
 use Rattle.epoch_host.proofs.OneDeed.{makes_by, core_by_call, core_heard, other_heard, past_called, past_called_in, adds_call, adds_call_in}
@@ -115,7 +119,7 @@ module _ (c : Shape) (h : ℕ) (deeds : Deeds) (s : Stay) (led : LeadsToStay c h
   abbrev now : Made
   now = made (due_for w d wanted) answer
 
-  works_so : WorksSo c h deeds s.over s.window what led.memory
+  works_so : WorksSo c h s.epoch deeds s.over s.window what led.memory
   works_so = subst (DoesSo c h deeds s led.memory) works led.doing
 
   -- this call is due
@@ -134,7 +138,8 @@ module _ (c : Shape) (h : ℕ) (deeds : Deeds) (s : Stay) (led : LeadsToStay c h
   -- ANOTHER CALL
 
   -- a read goes on: the host makes one more call by itself
-  module _ (window : Window) (follows : FollowsOn w window d wanted answer) (way : IsUnderWay window d wanted) (below : d < s.config.disks) (ready : (memory : Memory) → LeadsTo c h memory s.core → next_in c h memory ≡ Some (due_call s.core)) where
+  module _ (window : Window) (follows : FollowsOn w window d wanted answer) (way : IsUnderWay window d wanted) (below : d < s.config.disks) (ready : (memory : Memory) → LeadsTo c h memory s.core → next_in c h memory ≡ Some (due_call s.core))
+      (fewer : HasOneFewer w window d wanted None) (sights : SightsGoOn w window d wanted answer None) (caused : HasCause w d wanted answer None) where
     reading_due : due_for w d wanted ≡ due_for w d (Read way.reading.boot.number way.reading.at ROW_LENGTH)
     reading_due = ap (due_for w d) way.own
 
@@ -150,6 +155,18 @@ module _ (c : Shape) (h : ℕ) (deeds : Deeds) (s : Stay) (led : LeadsToStay c h
         let both : (d, wanted) ≡ (k, call) = (let first = ready led.memory led.leads in let same : ◌≡◌ {A = Option (ℕ × Call)} (Some (d, wanted)) (Some (k, call)) = ap Some due ∙ sym first ∙ next in cc) in
         let read : call ≡ Read way.reading.boot.number way.reading.at ROW_LENGTH = sym (ap (λ (q : ℕ × Call). q.1) both) ∙ way.own in
         subst (λ (x : Call). IsReady x (sight_of window k)) (sym read) tt
+
+    -- and few calls were made
+    few_on : CallsFew c h s.epoch (deeds ++ Calls d now ∷ []) led.memory window led.memory.doing
+    few_on =
+        let boot = way.reading.boot.number in
+        let at = way.reading.at in
+        let own : wanted ≡ Read boot at ROW_LENGTH = way.own in
+        let due_read : next_in c h led.memory ≡ Some (d, Read boot at ROW_LENGTH) = ready led.memory led.leads ∙ ap Some (sym due) ∙ ap (λ (x : Call). Some (d, x)) own in
+        let came = coming_shown w c s.epoch d deeds boot at answer led.window (sound.window.1 ∙ ap (λ (k : Shape). k.slots) led.config) sound.window.2 (subst (λ (x : Call). HasCause w d x answer None) own caused) in
+        subst (λ (x : Call). CallsFew c h s.epoch (deeds ++ Calls d (made (due_for w d x) answer) ∷ []) led.memory window led.memory.doing) (sym own)
+        (waits_few c h s.epoch deeds led.memory w window d boot at answer due_read (subst (λ (x : Call). HasOneFewer w window d x None) own fewer)
+        (subst (λ (x : Call). SightsGoOn w window d x answer None) own sights) came led.memory.doing works_so.few)
 
     pub waits_led : MakesAndGoesOn c h deeds (call_due s).0 (made (call_due s).1 answer) (λ after. LeadsToStay c h after (record s { window = window }))
     waits_led =
@@ -172,6 +189,7 @@ module _ (c : Shape) (h : ℕ) (deeds : Deeds) (s : Stay) (led : LeadsToStay c h
                 submits = works_so.submits;
                 spelled = works_so.spelled;
                 ready = ready_on;
+                few = few_on;
                 reads = subst (λ (o : Option Reading). ReadsSo o (deeds ++ more)) (sym way.is) (record { before = deeds; now = now; is = ap (λ (k : ℕ). deeds ++ Calls k now ∷ []) (sym way.here) });
               });
         }))
@@ -298,9 +316,9 @@ module _ (c : Shape) (h : ℕ) (deeds : Deeds) (s : Stay) (led : LeadsToStay c h
       leaves_led = heard_led Leaves rests
 
       -- or it goes on
-      pub works_led : StaysAt what (length core.prefix) → ((c : Shape) (h : ℕ) (m : Memory) → LeadsTo c h m core → IsReadyFor c h m window)
+      pub works_led : Fits wanted (heard_as heard) → SightsGoOn w window d wanted answer (Some told) → StaysAt what (length core.prefix) → ((c : Shape) (h : ℕ) (m : Memory) → LeadsTo c h m core → IsReadyFor c h m window)
           → MakesAndGoesOn c h deeds (call_due s).0 (made (call_due s).1 answer) (λ after. LeadsToStay c h after (record s { window = window; core = core; doing = Works what }))
-      works_led stays sure =
+      works_led fits sights stays sure =
           let led_now : LeadsTo c h later core = leads c h led.memory led.leads in
           let busy = sym (idle_is c h led.memory s.core led.leads) ∙ (works_in s what sound works).busy in
           heard_led (Works what)
@@ -309,5 +327,8 @@ module _ (c : Shape) (h : ℕ) (deeds : Deeds) (s : Stay) (led : LeadsToStay c h
                 heard_submits c s.over what h led.memory led.memory.doing d heard busy works_so.submits (subst (λ (l : List Command). StaysAt what (length l)) led_now.prefix stays);
             spelled = spelled_heard c h led.memory led.memory.doing d heard works_so.spelled works_so.spelled;
             ready = sure c h later led_now;
+            few =
+                heard_few c h s.epoch deeds led.memory later w window d wanted now answer told next cause fits sights rests (core_heard c h deeds s.epoch d now wanted heard led.memory led.runs) led.memory.doing refl refl
+                works_so.few;
             reads = subst (λ (o : Option Reading). ReadsSo o after) (sym rests) tt;
           })

@@ -38,6 +38,7 @@ use Rattle.epoch_host.specs.Staying.{call_due, due_by}
 use Rattle.epoch_host.specs.Submitting.{IsAsked, IsDueIn, MayCarryOut, SubmitsFor}
 use Rattle.epoch_host.specs.Working.{GivesTries, HasRoom, IsSpelled}
 use Rattle.epoch_host.proofs.Beginning.{begun_ready, spelled_begun}
+use Rattle.epoch_host.proofs.Bounds.{begun_now, new_begun}
 use Rattle.epoch_host.proofs.Due.{may_carry, may_give}
 use Rattle.epoch_host.proofs.Going.{are_open_later, carries_over_later, goes_none, makes_as}
 use Rattle.epoch_host.proofs.OneDeed.{goes_by, makes_by, core_by_call, core_started, core_begun, other_started, other_begun, past_by_begin, past_called, adds_call, follows_same, follows_unseen}
@@ -144,6 +145,7 @@ module _ (c : Shape) (h : ℕ) (deeds : Deeds) (s : Stay) (led : LeadsToStay c h
                 submits = submits;
                 spelled = spelled_begun c led.memory given spelled;
                 ready = begun_ready s.window c h led.memory given;
+                few = begun_now c h s.epoch deeds (Begins s.epoch given) (starts c led.memory given) s.window (starts c led.memory given).doing tt (core_begun c h deeds s.epoch led.memory given led.runs) refl (new_begun c led.memory given);
                 reads = subst (λ (o : Option Reading). ReadsSo o (deeds ++ more)) (sym (doing_as Nothing rests)) tt;
               };
         })

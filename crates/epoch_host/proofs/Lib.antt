@@ -1,5 +1,7 @@
 mod Answering
 mod Beginning
+mod Bounded
+mod Bounds
 mod Carrying
 mod Due
 mod Ending
@@ -11,6 +13,7 @@ mod Looking
 mod Moving
 mod OneDeed
 mod Owning
+mod Rows
 mod Spelling
 mod Staying
 mod Submitting

@@ -29,6 +29,7 @@ use Rattle.epoch_host.specs.declared.stay.Arrival.{Arrival}
 use Rattle.epoch_host.specs.declared.walk.Walk.{Walk}
 use Rattle.epoch_host.specs.declared.walk.Whereabouts.{Whereabouts}
 use Rattle.epoch_host.specs.declared.walk.Whereabouts.TheVariants.{Nowhere, Finds, In}
+use Rattle.epoch_host.specs.Bounds.{CallsFew}
 use Rattle.epoch_host.specs.Knowing.{AreOfEpochBefore}
 use Rattle.epoch_host.specs.Submitting.{SubmitsFor}
 
@@ -85,16 +86,17 @@ pub record ComesSo (c : Shape) (h e : ℕ) (deeds : Deeds) (w : Window) (disk : 
 abbrev pub IsReadyFor : Shape → (h : ℕ) → Memory → Window → Type 0
 IsReadyFor c h memory w = (d : ℕ) (call : Call) → next_in c h memory ≡ Some (d, call) → IsReady call (sight_of w d)
 
--- What its core has under way submits what is due, and may be made.
-pub record WorksSo (c : Shape) (h : ℕ) (deeds : Deeds) (over : Over) (w : Window) (work : Work) (memory : Memory) : Type 0 where
+-- What its core has under way submits what is due, may be made, and makes few calls.
+pub record WorksSo (c : Shape) (h e : ℕ) (deeds : Deeds) (over : Over) (w : Window) (work : Work) (memory : Memory) : Type 0 where
   pub submits : SubmitsFor over work memory.learned memory.doing
   pub spelled : IsSpelledBy memory.doing
   pub ready : IsReadyFor c h memory w
   pub reads : ReadsSo w.reading deeds
+  pub few : CallsFew c h e deeds memory w memory.doing
 
 abbrev pub DoesSo : Shape → (h : ℕ) → Deeds → Stay → Memory → stay.Doing → Type 0
 DoesSo c h deeds s memory (Comes disk notes) = ComesSo c h s.epoch deeds s.window disk notes
-DoesSo c h deeds s memory (Works work) = WorksSo c h deeds s.over s.window work memory
+DoesSo c h deeds s memory (Works work) = WorksSo c h s.epoch deeds s.over s.window work memory
 DoesSo c h deeds s memory other = s.window.reading ≡ None
 
 -- What a host did leads to what is kept of an epoch where it is. Its core there is the only one that runs.

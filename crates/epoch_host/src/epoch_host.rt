@@ -9,6 +9,7 @@ ghost use Rattle.lock_table.specs.Apply.{table_after};
 ghost use Rattle.lock_table.specs.Picture.{IsPictureOf};
 ghost use Rattle.host.specs.Host.{Memory, Running};
 ghost use Rattle.epoch_deeds.specs.Deeds.{Deeds, core_in};
+ghost use Rattle.epoch_host.specs.Bounds.{IsBounded};
 ghost use Rattle.epoch_host.specs.Ending.{AreIdle, AreSilent, Ends, HasLearnedUpto, IsDone, IsGivenUp, IsTableOf, IsThere, IsWhereItIs, TableIsThere};
 ghost use Rattle.epoch_host.specs.Knowing.{KnowsBefore, before_of, length_of, prefix_of, where_is};
 ghost use Rattle.epoch_host.specs.Leading.{LeadsTo, WalksBy, WalksOn};
@@ -164,6 +165,8 @@ impl EpochHost {
         ensures silent { IsDone self.new.said → ⊥ }
         // What a core does for a task, it begins after this.
         ensures rests { AreIdle self.old }
+        // By whatever deeds lead to this host, the attempt under way makes few calls.
+        ensures bounded { (c : Shape) (h : _) (deeds : Deeds) → LeadsTo c h deeds self.new → IsBounded c h deeds }
     {
         self.walk.begin(task)
     }
@@ -196,6 +199,8 @@ impl EpochHost {
         ensures there { TableIsThere self.new self.new.said }
         // The answer is a new one: no core had said it before this call.
         ensures fresh { IsDone self.new.said → AreSilent self.old }
+        // By whatever deeds lead to this host, the attempt under way makes few calls.
+        ensures bounded { (c : Shape) (h : _) (deeds : Deeds) → LeadsTo c h deeds self.new → IsBounded c h deeds }
     {
         self.walk.hear(heard)
     }

@@ -5,6 +5,7 @@ use Rattle.torn_block.specs.Layout.{cluster_version}
 use Rattle.paxos_block.specs.Shape.{Shape}
 use Rattle.standings.specs.Past.{made}
 use Rattle.window.specs.declared.outcome.Outcome.{Outcome}
+use Rattle.window.specs.Hearing.{FitsAs, HasCause, HasOneFewer, SightsGoOn}
 use Rattle.window.proofs.Calling.{may_want}
 use Rattle.epoch_deeds.specs.Deeds.{Deeds}
 use Rattle.epoch_host.specs.declared.stay.Doing.TheVariants.{Nothing}
@@ -109,6 +110,9 @@ returns-in_err-outcome-clause-makes c k h deeds led =
     waits_led k h deeds s led c.requires.sound c.args.work c.requires.works need.disk (device_call_of cluster_version need.call) c.wanted.ensures.due (device_answer c.args.heard.now)
     c.hear.new.self c.hear.ensures.follows (c.hear.ensures.last (ap (λ (o : Option Outcome). is_some o) c.in_err-outcome.was))
     (subst (λ (x : Shape). need.disk < x.disks) c.requires.sound.shape c.wanted.ensures.disk) (c.wanted.ensures.next k h)
+    (subst (HasOneFewer s.window c.hear.new.self need.disk (device_call_of cluster_version need.call)) c.in_err-outcome.was c.hear.ensures.fewer)
+    (subst (SightsGoOn s.window c.hear.new.self need.disk (device_call_of cluster_version need.call) (device_answer c.args.heard.now)) c.in_err-outcome.was c.hear.ensures.sights)
+    (subst (HasCause s.window need.disk (device_call_of cluster_version need.call) (device_answer c.args.heard.now)) c.in_err-outcome.was c.hear.ensures.cause)
 
 pub returns-in-Some-2-clause-makes : goal.returns-in-Some-2-clause-makes
 returns-in-Some-2-clause-makes c k h deeds led =
@@ -145,6 +149,7 @@ returns-clause-makes c k h deeds led =
     c.hear.new.self c.in_ok-outcome.outcome c.hear.result c.in_ok-outcome.was c.hear.ensures.follows c.hear.ensures.answered c.hear.ensures.cause c.hear.ensures.at_once c.hear.ensures.rests
     (may_want s.window need.disk need.call (own_here s call c.requires.sound c.wanted.ensures.own)) (c.wanted.ensures.next k h)
     c.hear-2.new.self (leads_by s.core c.hear-2.new.self need.disk call c.wanted.ensures.due (device_answer c.answer-told.result) _ c.answer-told.ensures.device c.hear-2.ensures.leads)
+    (subst (FitsAs c.hear.new.self call answer) c.in_ok-outcome.was c.hear.ensures.fits) (subst (SightsGoOn s.window c.hear.new.self need.disk call answer) c.in_ok-outcome.was c.hear.ensures.sights)
     (c.has_gone_on.ensures.stays c.if-has_gone_on.false) (c.may_call.ensures.ready c.if-not-may_call.false))
 
 -- WHETHER IT MAY CALL
