@@ -517,6 +517,35 @@ def damage_in_later_epochs():
     checks(["disk1 area 0 slot 7 host 0 damaged", "disk1 area 1 heartbeat host 0 damaged", "disk1 area 1 slot 319 host 0 damaged"], "dlm: 5 Damaged\n")
 
 
+@test
+def standings_of_hosts():
+    """A host on its way to an epoch is no damage. A number is, of an epoch where half of the disks at most may have come to the one before."""
+    put_alone("d", 6, 10)
+    whole = images_in("d")
+    standing = {area: endless_log.standing_place(SLOTS, area, 3) for area in (0, 1)}
+    coming = ["disk1 area 1 standing host 3 coming", "sound"]
+    ahead = ["disk1 area 0 standing host 3 ahead"]
+    for area, number, lines in ((1, 7, coming), (1, 8, []), (0, 5, ["disk1 area 0 standing host 3 coming", "sound"]), (0, 7, ahead), (0, 8, ahead), (0, 1 << 61, ahead)):
+        put("d", whole)
+        put_bytes("d/disk1.img", standing[area], copy_of(number))
+        checks(lines, "dlm: 5 Damaged\n" if lines == ahead else "")
+    # A second disk of the three has come to epoch 7, or may have.
+    put_bytes("d/disk1.img", standing[0], copy_of(8))
+    checks(ahead, "dlm: 5 Damaged\n")
+    put_bytes("d/disk0.img", standing[1], copy_of(8))
+    checks([])
+    put_bytes("d/disk0.img", standing[1], b"\xa5")
+    checks(["disk0 area 1 standing host 3 damaged"], "dlm: 5 Damaged\n")
+    os.remove("d/disk0.img")
+    checks(["disk0 26 Unreadable"], "dlm: 26 Unreadable disk0\n")
+    # What is damaged is told first, and both are named.
+    put("d", whole)
+    put_bytes("d/disk1.img", standing[0], copy_of(8))
+    put_bytes("d/disk1.img", standing[1], copy_of(7))
+    put_bytes("d/disk2.img", endless_log.heartbeat_place(SLOTS, 0, 0), b"\xa5")
+    checks(["disk2 area 0 heartbeat host 0 damaged", *ahead, coming[0]], "dlm: 5 Damaged\n")
+
+
 # CALLS THAT ARE THE LAST, OR FAIL
 
 def built_failing():

@@ -1,5 +1,5 @@
 -- What a check of a folder found first, and why it is refused.
-use Rattle.std.specs.Prelude.{◌≡◌, ◌⊎◌, ℕ, List, Option, Some}
+use Rattle.std.specs.Prelude.{◌≡◌, ◌⊎◌, ℕ, Bool, List, Option, Some, None, if◌then◌else◌}
 use Rattle.std.specs.Io.KnownBytes.{Appends}
 use Rattle.disk.specs.FileStates.{FileState, FileGives}
 use Rattle.paxos_block.specs.Shape.{Shape}
@@ -9,12 +9,14 @@ use Rattle.folders.specs.Reading.{AreReadIfSound}
 use Rattle.folders.specs.SetFaults.{MayRefuse}
 use Rattle.folders.specs.Sets.{Found}
 use Rattle.folders.specs.declared.check.Finding.{Finding}
+use Rattle.folders.specs.declared.check.Finding.TheVariants.{Damaged}
 use Rattle.folders.specs.declared.fault.FolderFault.{FolderFault}
 use Rattle.log_folders.specs.AnySets.{AnyFound}
 use Rattle.log_folders.specs.EndlessChecks as endless
 use Rattle.log_folders.specs.EndlessFolders.{IsEndlessOpened}
 use Rattle.log_folders.specs.EndlessReading as endless_reads
 use Rattle.log_folders.specs.LogFolders.{MayRefuseLog}
+use Rattle.in_place.specs.StandingChecks.{SaysStandings}
 use Rattle.dlm_tasks.specs.Faults.{of_finding, of_folder}
 use Rattle.dlm_tasks.specs.declared.fault.Fault.{Fault}
 
@@ -31,7 +33,12 @@ pub record IsFoundOfEnding (finding : Option Finding) : Type 0 where
   pub unread : FailsIfUnread FileGives config.slots found old new finding
   pub read : AreReadIfSound FileGives config.slots old new config.disks finding
 
--- So it is with images of a log without an end.
+-- What the images showed is told first; else, that nobody can have the number of one of their standings.
+abbrev pub or_ahead : Option Finding → Bool → Option Finding
+or_ahead None ahead = if ahead then Some Damaged else None
+or_ahead (Some finding) ahead = Some finding
+
+-- So it is with images of a log without an end. By what their disks told then, a line was printed for each host that comes to an epoch, or has a number that nobody can have.
 pub record IsFoundOfEndless (finding : Option Finding) : Type 0 where
   pub found : AnyFound
   pub config : Shape
@@ -39,9 +46,15 @@ pub record IsFoundOfEndless (finding : Option Finding) : Type 0 where
   pub old : List FileState
   pub new : List FileState
   pub opened : IsEndlessOpened found config cluster old
-  pub told : endless.IsToldOfFolder found config.disks finding
-  pub unread : endless.FailsIfUnread FileGives config.slots found old new finding
-  pub read : endless_reads.AreReadIfSound FileGives config.slots old new config.disks finding
+  pub first : Option Finding
+  pub told : endless.IsToldOfFolder found config.disks first
+  pub unread : endless.FailsIfUnread FileGives config.slots found old new first
+  pub read : endless_reads.AreReadIfSound FileGives config.slots old new config.disks first
+  pub ahead : Bool
+  pub before : Option (List ℕ)
+  pub after : Option (List ℕ)
+  pub standings : SaysStandings config.slots config.disks found new before after ahead
+  pub is : finding ≡ or_ahead first ahead
 
 -- A check of images of either kind found this first, or nothing.
 abbrev pub IsFound : Option Finding → Type 0

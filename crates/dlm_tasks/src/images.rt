@@ -4,8 +4,9 @@ ghost use Rattle.lock_command.specs.Command.{is_submittable};
 ghost use Rattle.endless_image.specs.Kinds.{IsSlotsBy};
 ghost use Rattle.folder_migration.specs.Migrating.{MayFail};
 ghost use Rattle.folder_migration.specs.RenewingFolders.{MayNotRenew};
+ghost use Rattle.log_folders.specs.EndlessFolders.{IsEndlessOpened};
 ghost use Rattle.log_folders.specs.LogFolders.{IsLogOpened};
-ghost use Rattle.dlm_tasks.specs.Checking.{EndsIn, IsFound, IsFoundFault, IsNotOpened};
+ghost use Rattle.dlm_tasks.specs.Checking.{EndsIn, IsFound, IsFoundFault, IsFoundOfEndless, IsNotOpened, or_ahead};
 ghost use Rattle.dlm_tasks.specs.Faults.{IfRefused, IsOf, of_finding, of_move, of_renewal};
 ghost use Rattle.dlm_tasks.specs.Folders.{MakesImages, WritesAck, WritesLog, WritesMarked};
 ghost use Rattle.dlm_tasks.specs.Printed.{WritesFilling, WritesMove, WritesRenewal, formatted_text, sound_text};
@@ -21,10 +22,12 @@ use folders::{
     Access, Finding, Folder, TryLock, check_folder, find_folder, lock_host, open_folder,
 };
 use host::Config;
+use in_place::check_standings;
 use lock_command::{ClientNumber, Command, HostNumber};
-use log_folders::{LogFolder, NewSet, check_endless, format_log, open_log};
+use log_folders::{EndlessFolder, LogFolder, NewSet, check_endless, format_log, open_log};
 use paxos_block::SlotCount;
 use std::fs::OpenFile;
+use std::io;
 use std::io::Write;
 use std::os::unix::fs::FileExt;
 use std::path::PathBuf;
@@ -273,8 +276,37 @@ where
 {
     match opened_to_read(rt, folder)? {
         LogFolder::Ending(mut images) => Ok(check_folder(&mut images, out)?),
-        LogFolder::Endless(mut images) => Ok(check_endless(&mut images, out)?),
+        LogFolder::Endless(images) => Ok(print_of_endless(images, out)?),
     }
+}
+
+/// The same of images of a log without an end. Behind what each of them shows, it prints what is wrong with the standings of all.
+fn print_of_endless<F: FileExt + OpenFile + Drop, O: Write>(
+    mut images: EndlessFolder<F>,
+    out: &mut O,
+) -> io::Result<Option<Finding>>
+    requires { IsEndlessOpened images.found images.config images.cluster images.disks.items }
+    ensures { IfOk result IsFoundOfEndless }
+{
+    let first = check_endless(&mut images, out)?;
+    let ahead = check_standings(images, out)?;
+    Ok(or_ahead(first, ahead))
+}
+
+/// What the images showed; else, that nobody can have the number of one of their standings.
+fn or_ahead(first: Option<Finding>, ahead: bool) -> Option<Finding>
+    ensures { result ≡ or_ahead first ahead }
+{
+    match first {
+        Some(finding) => Some(finding),
+        None => damage_if(ahead),
+    }
+}
+
+fn damage_if(ahead: bool) -> Option<Finding>
+    ensures { result ≡ or_ahead None ahead }
+{
+    if ahead { Some(Finding::Damaged) } else { None }
 }
 
 /// The images of a folder, with either kind of log, to be read alone.

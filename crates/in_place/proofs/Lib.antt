@@ -3,3 +3,4 @@ pub mod InPlaceFiles
 pub mod MadeReady
 pub mod Newest
 pub mod Replaced
+pub mod Standings

@@ -1,3 +1,4 @@
 pub mod InPlaceFolders
 pub mod InPlaceImages
 pub mod Replacing
+pub mod StandingChecks

@@ -1,4 +1,4 @@
-//! Folders that are changed in place: a log that ends is made endless in its own images, and a lost image of one without an end is replaced.
+//! Folders that are changed in place: a log that ends is made endless in its own images, and a lost image of one without an end is replaced. What a check says of standings.
 #![tactic(auto)]
 
 mod in_place;
@@ -12,6 +12,7 @@ mod replace_epoch;
 mod replace_fault;
 mod replace_image;
 mod replace_rows;
+mod standing_check;
 
 pub use in_place::{MadeEndless, make_folder_endless};
 pub use in_place_disk::{Due, MakeFault};
@@ -23,3 +24,4 @@ pub use replace_epoch::{EpochsTold, epochs_told, first_epoch_after, newest_rows}
 pub use replace_fault::ReplaceFault;
 pub use replace_image::{NewImage, put_image};
 pub use replace_rows::Rows;
+pub use standing_check::{Progress, check_standings};

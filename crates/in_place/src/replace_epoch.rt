@@ -197,7 +197,7 @@ fn newest_of(disks: u8, told: &[Option<EpochsTold>; DISKS as usize]) -> Option<E
 }
 
 /// What the disk of this number tells.
-fn told_at(told: &[Option<EpochsTold>; DISKS as usize], disk: u8) -> Option<EpochsTold>
+pub(crate) fn told_at(told: &[Option<EpochsTold>; DISKS as usize], disk: u8) -> Option<EpochsTold>
     requires { disk < DISKS }
     ensures { slice_get told.now disk ≡ Some result }
 {

@@ -29,6 +29,7 @@ pub fn check_endless<F: FileExt + OpenFile + Drop, O: Write>(
     folder: &mut EndlessFolder<F>,
     out: &mut O,
 ) -> io::Result<Option<Finding>>
+    ensures same { (folder.new.config ≡ folder.old.config) × (folder.new.found ≡ folder.old.found) }
     ensures told { IfOk result (IsToldOfFolder folder.old.found folder.old.config.disks) }
     // That an image cannot be read is told only where a call of its disk failed, and nothing only where none did.
     ensures unread { IfOk result (FailsIfUnread FileGives folder.old.config.slots folder.old.found folder.old.disks.items folder.new.disks.items) }
