@@ -25,7 +25,7 @@ use Rattle.at_once.specs.AtOnce.{IsRunOf}
 use Rattle.at_once.specs.Power.{renumbered}
 use Rattle.at_once.proofs.Renumbering.{one_later, all_later}
 use Rattle.at_once.proofs.RenumberedHosts.{attempt_later, doing_later, memory_later, host_later}
-use Rattle.epochs.specs.Acts.{Act}
+use Rattle.epochs.specs.Acts.{Act, takes_part}
 use Rattle.epochs.specs.OneLog.{IsShared, IsSharedOverLosses}
 use Rattle.epochs.specs.Pasts.{done_in, no_pasts}
 use Rattle.epochs.proofs.Deeds.{known_first, model_leaves, power_leaves}
@@ -46,7 +46,7 @@ use Rattle.epoch_runs.proofs.Lists.{same_self}
 use Rattle.epoch_runs.proofs.Numbers.{Settles, model_settles, power_settles}
 use Rattle.epoch_runs.proofs.Served.{IsSound, all_go, all_served_to}
 use Rattle.epoch_runs.proofs.Shared.{model_sound, power_sound, deeds_are_shared, deeds_are_shared_over_losses}
-use Rattle.epoch_runs.proofs.Taking.{for_later, all_for}
+use Rattle.epoch_runs.proofs.Taking.{for_later, takes_in_the_end}
 use Rattle.epoch_runs.proofs.Turning.{before_whole}
 use Rattle.epoch_runs.proofs.Writing.{Wrote, wrote, chosen_writes, meet}
 
@@ -241,7 +241,7 @@ module _ (crashing : Crashing) (sound : IsSound crashing)
       let area : e % 2 < 2 = omega arith in
       let stands = stays_above crashing.IsCrash leaves c d (image_of c) row rows (epoch_of e) area h wrote_it.boot wrote_it.at wrote_it.from (deeds_on d all) (fresh_disk (whole_length (image_of c))) (last.disk d) no_pasts
       (known_first (image_of c) (whole_length (image_of c)) row (omega arith)) (all_served_to crashing sound c d all (opening c) last no_pasts (λ g. refl) goes)
-      (for_later crashing c d all (opening c) (all_go crashing sound c all (opening c) last goes)) (all_for crashing c d e all (opening c) last goes (half.takes_part d inside those)) on_it.0 wrote_it.answer wrote_it.left in_deeds in
+      (for_later crashing c d all (opening c) (all_go crashing sound c all (opening c) last goes)) (takes_part ((opening c).first d) (epoch_of e)) (takes_in_the_end crashing c d e all (opening c) last goes (half.takes_part d inside those)) on_it.0 wrote_it.answer wrote_it.left in_deeds in
       let m = number_of (image_of c) (e % 2) h (last.disk d).bytes in
       let high : e + e % 2 ≤ m = stands.1 in
       let belongs : epoch_by (e % 2) m ≡ Some (m + m % 2 - e % 2) = ap (λ (b : Bool). if b then Some (m + m % 2 - e % 2) else None) (le-leb (e % 2) (m + m % 2) (omega (arith, high))) in
@@ -323,7 +323,7 @@ fresh_disks_may_be_replaced c = (
     after (opening c) (Replaces k 2 0) (fresh_disk (whole_length (image_of c))),
     (
       fresh_disk (whole_length (image_of c)),
-      (inside, record { below = omega arith; later = omega arith; uncalled = λ e low. refl; known = (0, tt); anew = λ h. refl }, fresh_is_new c),
+      (inside, record { below = omega arith; uncalled = λ e low. refl; known = (0, tt); anew = λ h. refl }, fresh_is_new c),
       refl,
     ),
     ap (λ (b : Bool). cond b 2 0) (same_self k),

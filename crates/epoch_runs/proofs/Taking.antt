@@ -9,7 +9,7 @@ use Rattle.standings.specs.Past.{Made}
 use Rattle.epochs.specs.Acts.{Epoch, takes_part, IsFault}
 use Rattle.epochs.specs.Pasts as served
 use Rattle.epochs.specs.Pasts.{AllHearFaultsBefore, NoneIsFor, IsForLater}
-use Rattle.epochs.proofs.Staying.{AllAreFor}
+use Rattle.epochs.proofs.Staying.{takes_at_last}
 use Rattle.epoch_deeds.specs.Deeds.{Deed, Deeds, Calls, CallsIn, Starts, Begins, Stops, past_on}
 use Rattle.epoch_runs.specs.World.{Entry, Does, Breaks, BreaksIn, Ends, Crashes, Loses, Replaces, World, called_in, called_after, firsts_after, deeds_after, after, Crashing, MayFollow, HearsOf, GoesFrom, GoesTo}
 use Rattle.epoch_runs.specs.Living.{is_row, Showing, showing_by, showing_next}
@@ -48,7 +48,7 @@ fails_both first (served.BreaksIn e h call ∷ one) more a b = fails_both first 
 fails_both first (served.Stops h ∷ one) more a b = fails_both first one more a b
 fails_both first (served.Crash ∷ one) more a b = fails_both first one more a b
 fails_both first (served.Loss ∷ one) more a b = fails_both first one more a b
-fails_both first (served.Replacement from ∷ one) more a b = fails_both first one more a b
+fails_both first (served.Replacement from ∷ one) more a b = tt
 
 none_both : (e : Epoch) (one more : List served.Deed) → NoneIsFor e one → NoneIsFor e more → NoneIsFor e (one ++ more)
 none_both e [] more a b = b
@@ -61,16 +61,16 @@ none_both e (served.Crash ∷ one) more a b = none_both e one more a b
 none_both e (served.Loss ∷ one) more a b = none_both e one more a b
 none_both e (served.Replacement from ∷ one) more a b = (a.0, none_both e one more a.1 b)
 
-for_both : (e : Epoch) (one more : List served.Deed) → AllAreFor e one → AllAreFor e more → AllAreFor e (one ++ more)
-for_both e [] more a b = b
-for_both e (served.Calls h made ∷ one) more a b = for_both e one more a b
-for_both e (served.CallsIn t h made call heard ∷ one) more a b = for_both e one more a b
-for_both e (served.Breaks h call ∷ one) more a b = for_both e one more a b
-for_both e (served.BreaksIn t h call ∷ one) more a b = for_both e one more a b
-for_both e (served.Stops h ∷ one) more a b = for_both e one more a b
-for_both e (served.Crash ∷ one) more a b = for_both e one more a b
-for_both e (served.Loss ∷ one) more a b = for_both e one more a b
-for_both e (served.Replacement from ∷ one) more a b = (a.0, for_both e one more a.1 b)
+takes_both : (e : Epoch) (takes : Bool) (one more : List served.Deed) → takes_at_last e takes (one ++ more) ≡ takes_at_last e (takes_at_last e takes one) more
+takes_both e takes [] more = refl
+takes_both e takes (served.Calls h made ∷ one) more = takes_both e takes one more
+takes_both e takes (served.CallsIn t h made call heard ∷ one) more = takes_both e takes one more
+takes_both e takes (served.Breaks h call ∷ one) more = takes_both e takes one more
+takes_both e takes (served.BreaksIn t h call ∷ one) more = takes_both e takes one more
+takes_both e takes (served.Stops h ∷ one) more = takes_both e takes one more
+takes_both e takes (served.Crash ∷ one) more = takes_both e takes one more
+takes_both e takes (served.Loss ∷ one) more = takes_both e takes one more
+takes_both e takes (served.Replacement from ∷ one) more = takes_both e (takes_part from e) one more
 
 -- WHAT IS KNOWN OF A WORLD
 
@@ -97,22 +97,26 @@ called_stays called (Replaces k first newest) d e is = is
 called_now : (called : ℕ → ℕ → Bool) (k d e : ℕ) → (d == k) ≡ true → called_in called k e d e ≡ true
 called_now called k d e same = λ i. (same i && same_self e i) || called d e
 
-module _ (crashing : Crashing) (c : Shape) where
-  -- a disk takes part from no earlier epoch on
-  pub firsts_rise : (w : World) (entry : Entry) (left : DiskState) (k : ℕ) → MayFollow crashing c w entry left → w.first k ≤ firsts_after w.first entry k
-  firsts_rise w (Does h deed) left k may = omega arith
-  firsts_rise w (Breaks h d call) left k may = omega arith
-  firsts_rise w (BreaksIn epoch h d call) left k may = omega arith
-  firsts_rise w (Ends h) left k may = omega arith
-  firsts_rise w (Crashes d) left k may = omega arith
-  firsts_rise w (Loses d) left k may = omega arith
-  firsts_rise w (Replaces d first newest) left k may =
-      elim (cases_Bool (k == d)) [
-        | inl same ↦
-            subst (λ (b : Bool). w.first k ≤ cond b first (w.first k)) (sym same) (subst (λ (x : ℕ). w.first x ≤ first) (sym (eqb-true k d same)) may.1.later)
-        | inr differ ↦ subst (λ (b : Bool). w.first k ≤ cond b first (w.first k)) (sym differ) (omega arith)
-      ]
+-- another disk is put in the place of this one
+abbrev replaces : ℕ → Entry → Bool
+replaces k (Replaces d first newest) = d == k
+replaces k other = false
 
+-- By any other entry it takes part from the same epoch on.
+firsts_stay : (firsts : ℕ → ℕ) (entry : Entry) (k : ℕ) → replaces k entry ≡ false → firsts_after firsts entry k ≡ firsts k
+firsts_stay firsts (Does h deed) k other = refl
+firsts_stay firsts (Breaks h d call) k other = refl
+firsts_stay firsts (BreaksIn epoch h d call) k other = refl
+firsts_stay firsts (Ends h) k other = refl
+firsts_stay firsts (Crashes d) k other = refl
+firsts_stay firsts (Loses d) k other = refl
+firsts_stay firsts (Replaces d first newest) k other =
+    elim (cases_Bool (k == d)) [
+      | inl same ↦ absurd (true≢false (sym (same_back k d same) ∙ other))
+      | inr differ ↦ ap (λ (b : Bool). cond b first (firsts k)) differ
+    ]
+
+module _ (crashing : Crashing) (c : Shape) where
   -- NO LATER DISK
 
   -- by an entry no disk takes part in the epoch, if it is no such replacement
@@ -187,6 +191,18 @@ module _ (crashing : Crashing) (c : Shape) where
   -- A ROW THAT IS SHOWN
 
   module _ (h : ℕ) (s : Showing) where
+    -- until it is shown no other disk is put in the place of the one on which it was read
+    not_replaced : (w : World) (x : Entry) (left : DiskState) (entries : List Entry) → MayFollow crashing c w x left → GoesFrom crashing c (after w x left) entries → showing_next h entries ≡ Some s → replaces s.disk x ≡ true → ⊥
+    not_replaced w (Does g deed) left entries may more still same = true≢false (sym same)
+    not_replaced w (Breaks g k call) left entries may more still same = true≢false (sym same)
+    not_replaced w (BreaksIn epoch g k call) left entries may more still same = true≢false (sym same)
+    not_replaced w (Ends g) left entries may more still same = true≢false (sym same)
+    not_replaced w (Crashes k) left entries may more still same = true≢false (sym same)
+    not_replaced w (Loses k) left entries may more still same = true≢false (sym same)
+    not_replaced w (Replaces k from upto) left entries may more still same =
+        let pends = pending crashing c h entries (after w (Replaces k from upto) left) s more still in
+        has_past c h (w.deeds h) s pends (subst (λ (x : ℕ). past_on x (w.deeds h) ≡ []) (eqb-true k s.disk same) (may.1.anew h))
+
     -- it is one of a disk that takes part in the epoch
     shown_takes : (entries : List Entry) (w : World) → GoesFrom crashing c w entries → showing_next h entries ≡ Some s → s.epoch < w.first s.disk → IsFault s.heard
     shown_takes [] w goes shown before = absurd (cc)
@@ -194,8 +210,11 @@ module _ (crashing : Crashing) (c : Shape) where
         elim (cases_Bool (is_by h entry)) [
           | inl own ↦ own_entry entry own goes.0 goes.1 shown
           | inr other ↦
-              let rises = firsts_rise w entry goes.0 s.disk goes.1 in
-              shown_takes entries (after w entry goes.0) goes.2 (sym (next_of_others h entry entries other) ∙ shown) (omega (arith, before, rises))
+              let still = sym (next_of_others h entry entries other) ∙ shown in
+              elim (cases_Bool (replaces s.disk entry)) [
+                | inl anew ↦ absurd (not_replaced w entry goes.0 entries goes.1 goes.2 still anew)
+                | inr stays ↦ shown_takes entries (after w entry goes.0) goes.2 still (subst (λ (x : ℕ). s.epoch < x) (sym (firsts_stay w.first entry s.disk stays)) before)
+              ]
         ]
       where
         by_deed : (g : ℕ) (deed : Deed) (left : DiskState) → MayFollow crashing c w (Does g deed) left → showing_by deed ≡ Some s → IsFault s.heard
@@ -241,16 +260,7 @@ module _ (crashing : Crashing) (c : Shape) where
         own_new x own d first newest is same = absurd (true≢false (sym (sym (ap (is_by h) is) ∙ own)))
 
         no_new : (x : Entry) (left : DiskState) → MayFollow crashing c w x left → GoesFrom crashing c (after w x left) entries → showing_next h entries ≡ Some s → (d first newest : ℕ) → x ≡ Replaces d first newest → (d == s.disk) ≡ true → s.epoch < first
-        no_new (Does g deed) left may more still d first newest is same = absurd (cc)
-        no_new (Breaks g k call) left may more still d first newest is same = absurd (cc)
-        no_new (BreaksIn epoch g k call) left may more still d first newest is same = absurd (cc)
-        no_new (Ends g) left may more still d first newest is same = absurd (cc)
-        no_new (Crashes k) left may more still d first newest is same = absurd (cc)
-        no_new (Loses k) left may more still d first newest is same = absurd (cc)
-        no_new (Replaces k from upto) left may more still d first newest is same =
-            let one : k ≡ d = cc in
-            let pends = pending crashing c h entries (after w (Replaces k from upto) left) s more still in
-            absurd (has_past c h (w.deeds h) s pends (subst (λ (x : ℕ). past_on x (w.deeds h) ≡ []) (one ∙ eqb-true d s.disk same) (may.1.anew h)))
+        no_new x left may more still d first newest is same = absurd (not_replaced w x left entries may more still (ap (replaces s.disk) is ∙ same))
 
         called_by_deed : (g : ℕ) (deed : Deed) → showing_by deed ≡ Some s → called_after w.called (Does g deed) s.disk s.epoch ≡ true
         called_by_deed g (Calls k now) one = absurd (cc)
@@ -338,8 +348,21 @@ module _ (crashing : Crashing) (c : Shape) where
     fails_from : (first : ℕ) (entries : List Entry) (w : World) → GoesFrom crashing c w entries → first ≤ w.first k → AllHearFaultsBefore first (deeds_on k entries)
     fails_from first [] w goes low = tt
     fails_from first (entry ∷ entries) w goes low =
-        fails_both first (deeds_at k entry entries) (deeds_on k entries) (fails_at first w entry goes.0 entries goes.1 goes.2 low)
-        (fails_from first entries (after w entry goes.0) goes.2 (let rises = firsts_rise w entry goes.0 k goes.1 in omega (arith, low, rises)))
+        elim (cases_Bool (replaces k entry)) [
+          | inl anew ↦ fails_until entry anew
+          | inr stays ↦
+              fails_both first (deeds_at k entry entries) (deeds_on k entries) (fails_at first w entry goes.0 entries goes.1 goes.2 low)
+              (fails_from first entries (after w entry goes.0) goes.2 (subst (λ (x : ℕ). first ≤ x) (sym (firsts_stay w.first entry k stays)) low))
+        ]
+      where
+        fails_until : (x : Entry) → replaces k x ≡ true → AllHearFaultsBefore first (deeds_at k x entries ++ deeds_on k entries)
+        fails_until (Does h deed) anew = absurd (true≢false (sym anew))
+        fails_until (Breaks h d call) anew = absurd (true≢false (sym anew))
+        fails_until (BreaksIn epoch h d call) anew = absurd (true≢false (sym anew))
+        fails_until (Ends h) anew = absurd (true≢false (sym anew))
+        fails_until (Crashes d) anew = absurd (true≢false (sym anew))
+        fails_until (Loses d) anew = absurd (true≢false (sym anew))
+        fails_until (Replaces d from upto) anew = subst (λ (b : Bool). AllHearFaultsBefore first (cond b (served.Replacement from ∷ []) [] ++ deeds_on k entries)) (sym anew) tt
 
     -- a new disk takes part later than any core has called the one before
     pub for_later : (entries : List Entry) (w : World) → GoesFrom crashing c w entries → IsForLater (deeds_on k entries)
@@ -393,65 +416,57 @@ module _ (crashing : Crashing) (c : Shape) where
 
   -- IN THE END
 
-  module _ (k : ℕ) where
-    firsts_last : (entries : List Entry) (w last : World) → GoesTo crashing c w entries last → w.first k ≤ last.first k
-    firsts_last [] w last goes = let same = ap (λ (v : World). v.first k) goes in omega (arith, same)
-    firsts_last (entry ∷ entries) w last goes =
-        let one = firsts_rise w entry goes.0 k goes.1 in
-        let rest = firsts_last entries (after w entry goes.0) last goes.2 in
-        omega (arith, one, rest)
+  module _ (k e : ℕ) where
+    takes_after : (firsts : ℕ → ℕ) (entry : Entry) (entries : List Entry) → takes_at_last (epoch_of e) (takes_part (firsts k) (epoch_of e)) (deeds_at k entry entries) ≡ takes_part (firsts_after firsts entry k) (epoch_of e)
+    takes_after firsts (Does h (Calls d now)) entries = either (d == k) (showing_next h entries)
+      where
+        either : (b : Bool) (next : Option Showing) → takes_at_last (epoch_of e) (takes_part (firsts k) (epoch_of e)) (cond b (row_deed h now next ∷ []) []) ≡ takes_part (firsts k) (epoch_of e)
+        either true None = refl
+        either true (Some s) = refl
+        either false next = refl
+    takes_after firsts (Does h (CallsIn epoch d now call heard)) entries = either (d == k) (is_row call heard)
+      where
+        either : (b row : Bool) → takes_at_last (epoch_of e) (takes_part (firsts k) (epoch_of e)) (cond b (core_deed epoch h now call heard row ∷ []) []) ≡ takes_part (firsts k) (epoch_of e)
+        either true true = refl
+        either true false = refl
+        either false row = refl
+    takes_after firsts (Does h (Starts epoch)) entries = refl
+    takes_after firsts (Does h (Begins epoch task)) entries = refl
+    takes_after firsts (Does h (Stops epoch)) entries = refl
+    takes_after firsts (Breaks h d call) entries = either (d == k)
+      where
+        either : (b : Bool) → takes_at_last (epoch_of e) (takes_part (firsts k) (epoch_of e)) (cond b (served.Breaks h call) (served.Stops h) ∷ []) ≡ takes_part (firsts k) (epoch_of e)
+        either true = refl
+        either false = refl
+    takes_after firsts (BreaksIn epoch h d call) entries = either (d == k)
+      where
+        either : (b : Bool) → takes_at_last (epoch_of e) (takes_part (firsts k) (epoch_of e)) (cond b (served.BreaksIn (epoch_of epoch) h call) (served.Stops h) ∷ []) ≡ takes_part (firsts k) (epoch_of e)
+        either true = refl
+        either false = refl
+    takes_after firsts (Ends h) entries = refl
+    takes_after firsts (Crashes d) entries = either (d == k)
+      where
+        either : (b : Bool) → takes_at_last (epoch_of e) (takes_part (firsts k) (epoch_of e)) (cond b (served.Crash ∷ []) []) ≡ takes_part (firsts k) (epoch_of e)
+        either true = refl
+        either false = refl
+    takes_after firsts (Loses d) entries = either (d == k)
+      where
+        either : (b : Bool) → takes_at_last (epoch_of e) (takes_part (firsts k) (epoch_of e)) (cond b (served.Loss ∷ []) []) ≡ takes_part (firsts k) (epoch_of e)
+        either true = refl
+        either false = refl
+    takes_after firsts (Replaces d first newest) entries = either (d == k) refl
+      where
+        either : (b : Bool) → (d == k) ≡ b → takes_at_last (epoch_of e) (takes_part (firsts k) (epoch_of e)) (cond b (served.Replacement first ∷ []) []) ≡ takes_part (firsts_after firsts (Replaces d first newest) k) (epoch_of e)
+        either true same = ap (λ (b : Bool). takes_part (cond b first (firsts k)) (epoch_of e)) (sym (same_back d k same))
+        either false differ = ap (λ (x : ℕ). takes_part x (epoch_of e)) (sym (firsts_stay firsts (Replaces d first newest) k differ))
 
-    for_at : (e : ℕ) (entry : Entry) (entries : List Entry) → ((first d newest : ℕ) → entry ≡ Replaces d first newest → (d == k) ≡ true → first ≤ e) → AllAreFor (epoch_of e) (deeds_at k entry entries)
-    for_at e (Does h (Calls d now)) entries low = either (d == k) (showing_next h entries)
-      where
-        either : (b : Bool) (next : Option Showing) → AllAreFor (epoch_of e) (cond b (row_deed h now next ∷ []) [])
-        either true None = tt
-        either true (Some s) = tt
-        either false next = tt
-    for_at e (Does h (CallsIn epoch d now call heard)) entries low = either (d == k) (is_row call heard)
-      where
-        either : (b row : Bool) → AllAreFor (epoch_of e) (cond b (core_deed epoch h now call heard row ∷ []) [])
-        either true true = tt
-        either true false = tt
-        either false row = tt
-    for_at e (Does h (Starts epoch)) entries low = tt
-    for_at e (Does h (Begins epoch task)) entries low = tt
-    for_at e (Does h (Stops epoch)) entries low = tt
-    for_at e (Breaks h d call) entries low = either (d == k)
-      where
-        either : (b : Bool) → AllAreFor (epoch_of e) (cond b (served.Breaks h call) (served.Stops h) ∷ [])
-        either true = tt
-        either false = tt
-    for_at e (BreaksIn epoch h d call) entries low = either (d == k)
-      where
-        either : (b : Bool) → AllAreFor (epoch_of e) (cond b (served.BreaksIn (epoch_of epoch) h call) (served.Stops h) ∷ [])
-        either true = tt
-        either false = tt
-    for_at e (Ends h) entries low = tt
-    for_at e (Crashes d) entries low = either (d == k)
-      where
-        either : (b : Bool) → AllAreFor (epoch_of e) (cond b (served.Crash ∷ []) [])
-        either true = tt
-        either false = tt
-    for_at e (Loses d) entries low = either (d == k)
-      where
-        either : (b : Bool) → AllAreFor (epoch_of e) (cond b (served.Loss ∷ []) [])
-        either true = tt
-        either false = tt
-    for_at e (Replaces d first newest) entries low = either (d == k) refl
-      where
-        either : (b : Bool) → (d == k) ≡ b → AllAreFor (epoch_of e) (cond b (served.Replacement first ∷ []) [])
-        either true same = (takes_from first e (low first d newest refl same), tt)
-        either false differ = tt
+    takes_so : (entries : List Entry) (w last : World) → GoesTo crashing c w entries last → takes_at_last (epoch_of e) (takes_part (w.first k) (epoch_of e)) (deeds_on k entries) ≡ takes_part (last.first k) (epoch_of e)
+    takes_so [] w last goes = ap (λ (v : World). takes_part (v.first k) (epoch_of e)) (sym goes)
+    takes_so (entry ∷ entries) w last goes =
+        takes_both (epoch_of e) (takes_part (w.first k) (epoch_of e)) (deeds_at k entry entries) (deeds_on k entries)
+        ∙ ap (λ (b : Bool). takes_at_last (epoch_of e) b (deeds_on k entries)) (takes_after w.first entry entries)
+        ∙ takes_so entries (after w entry goes.0) last goes.2
 
-    -- where a disk takes part in an epoch in the end, so has each that was put in the place of another
-    pub all_for : (e : ℕ) (entries : List Entry) (w last : World) → GoesTo crashing c w entries last → last.first k ≤ e → AllAreFor (epoch_of e) (deeds_on k entries)
-    all_for e [] w last goes low = tt
-    all_for e (entry ∷ entries) w last goes low =
-        for_both (epoch_of e) (deeds_at k entry entries) (deeds_on k entries)
-        (for_at e entry entries
-        (λ first d newest is same.
-        let rest = firsts_last entries (after w entry goes.0) last goes.2 in
-        let now : (after w entry goes.0).first k ≡ first = ap (λ (x : Entry). firsts_after w.first x k) is ∙ ap (λ (b : Bool). cond b first (w.first k)) (same_back d k same) in
-        omega (arith, rest, now, low)))
-        (all_for e entries (after w entry goes.0) last goes.2 low)
+    -- By the deeds on a disk that takes part in an epoch in the end, the last one does.
+    pub takes_in_the_end : (entries : List Entry) (w last : World) → GoesTo crashing c w entries last → last.first k ≤ e → takes_at_last (epoch_of e) (takes_part (w.first k) (epoch_of e)) (deeds_on k entries) ≡ true
+    takes_in_the_end entries w last goes low = takes_so entries w last goes ∙ takes_from (last.first k) e low

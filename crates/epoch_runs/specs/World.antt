@@ -122,11 +122,10 @@ pub record IsNewDisk (n newest : ℕ) (old new : DiskState) : Type 0 where
   pub synced : new.unsynced ≡ replicate (length new.bytes) false
   pub none : ShowsNoneAbove newest n new
 
--- It takes part only in later epochs, in which no core has called the other one, and in none in which that one did not. To that epoch some host may come: it is the first one, or it was
--- read on another disk, say. No host that runs has called the other one since its start.
-pub record MayTakeOver (c : Shape) (deeds : ℕ → Deeds) (firsts : ℕ → ℕ) (called : (disk epoch : ℕ) → Bool) (k first newest : ℕ) : Type 0 where
+-- It takes part only in later epochs, in which no core has called the other one. To that epoch some host may come: it is the first one, or it was read on another disk, say. No host that
+-- runs has called the other one since its start.
+pub record MayTakeOver (c : Shape) (deeds : ℕ → Deeds) (called : (disk epoch : ℕ) → Bool) (k first newest : ℕ) : Type 0 where
   pub below : newest < first
-  pub later : firsts k ≤ first
   pub uncalled : (e : ℕ) → first ≤ e → called k e ≡ false
   pub known : (h : ℕ) × IsOpen c h newest (deeds h)
   pub anew : (h : ℕ) → past_on k (deeds h) ≡ []
@@ -152,7 +151,7 @@ MayFollow crashing c w (BreaksIn e h k call) left =
 MayFollow crashing c w (Ends h) left = Unit {0}
 MayFollow crashing c w (Crashes k) left = (k < c.disks) × ((w.disk k).gone ≡ false) × crashing.IsCrash (w.disk k) left × crashing.MayCrash w
 MayFollow crashing c w (Loses k) left = (k < c.disks) × ((w.disk k).gone ≡ false) × (left ≡ lost (w.disk k))
-MayFollow crashing c w (Replaces k first newest) left = (k < c.disks) × MayTakeOver c w.deeds w.first w.called k first newest × IsNewDisk (image_of c) newest (w.disk k) left
+MayFollow crashing c w (Replaces k first newest) left = (k < c.disks) × MayTakeOver c w.deeds w.called k first newest × IsNewDisk (image_of c) newest (w.disk k) left
 
 -- one after the other, with some disk behind each
 abbrev pub GoesFrom : Crashing → Shape → World → List Entry → Type 0

@@ -40,7 +40,7 @@ alike_more (In e shown entry) one other alike = record { fails = λ first all. (
 alike_more (Beside call answer) one other alike = record { fails = λ first all. alike.fails first all; none = λ t no. alike.none t no; later = λ all. alike.later all }
 alike_more (Turns area host) one other alike = record { fails = λ first all. alike.fails first all; none = λ t no. alike.none t no; later = λ all. alike.later all }
 alike_more (Ends entry) one other alike = record { fails = λ first all. alike.fails first all; none = λ t no. alike.none t no; later = λ all. alike.later all }
-alike_more (Replaced first) one other alike = record { fails = λ from all. alike.fails from all; none = λ t no. (no.0, alike.none t no.1); later = λ all. (alike.fails first all.0, alike.later all.1) }
+alike_more (Replaced first) one other alike = record { fails = λ from all. tt; none = λ t no. (no.0, alike.none t no.1); later = λ all. (alike.fails first all.0, alike.later all.1) }
 
 alike_turned : (area host : ℕ) (one other : List Act) → PartsAlike one other → PartsAlike (Turns area host ∷ one) other
 alike_turned area host one other alike = record { fails = λ first all. alike.fails first all; none = λ t no. alike.none t no; later = λ all. alike.later all }

@@ -749,7 +749,7 @@ module _ (IsCrash : DiskState → DiskState → Type 0)
         acts = Replaced first ∷ rest.acts;
         serves = (all.0, all.1, rest.serves);
         parts = rest.parts;
-        fails = λ from all. rest.fails from all;
+        fails = λ from all. tt;
         none = λ t no. (no.0, rest.none t no.1);
         later = λ all. (rest.fails first all.0, rest.later all.1);
       }

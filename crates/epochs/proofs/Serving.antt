@@ -727,9 +727,10 @@ module _ (c : Shape) (k n : ℕ) (t : Epoch) (t_area : t.area < 2) (t_even : t.n
       }
 
   -- the disk does not take part any more: each call fails
-  serves_away : (first : ℕ) → takes_part first t ≡ false → (acts : List Act) (old : Shared) (image : DiskState) → Away old image → AllFailBefore first acts → ServesAll IsModelCrash c k n old acts → Serves c k image (part t acts)
-  serves_away first out [] old image away fails all = tt
-  serves_away first out (In e shown entry ∷ acts) old image away fails all =
+  serves_away : (first : ℕ) → takes_part first t ≡ false → (acts : List Act) (old : Shared) (image : DiskState) → Away old image → comes_back t acts ≡ false → AllFailBefore first acts → TakesPartLater acts → ServesAll IsModelCrash c k n old acts → Serves c k image (part t acts)
+  unfolding comes_back
+  serves_away first out [] old image away none fails later all = tt
+  serves_away first out (In e shown entry ∷ acts) old image away none fails later all =
       let new = all.0 in
       let stays = stays_in n e shown old new entry all.1.2 in
       elim (cases_Bool (is_same e t)) [
@@ -738,27 +739,28 @@ module _ (c : Shape) (k n : ℕ) (t : Epoch) (t_area : t.area < 2) (t_even : t.n
             let by = goes_away c k n e shown old new image entry (fails.0 here) away all.1.2 in
             let kept : Away new by.image_then = (let on = away_on old new image stays away in (by.stays_so.0 ∙ on.0, by.stays_so.1 ∙ on.1)) in
             subst (λ (b : Bool). Serves c k image (cond b (entry ∷ part t acts) (part t acts))) (sym same)
-            (by.image_then, by.goes_so, serves_away first out acts new by.image_then kept fails.1 all.2))
+            (by.image_then, by.goes_so, serves_away first out acts new by.image_then kept none fails.1 later.1 all.2))
         | inr differ ↦
-            subst (λ (b : Bool). Serves c k image (cond b (entry ∷ part t acts) (part t acts))) (sym differ) (serves_away first out acts new image (away_on old new image stays away) fails.1 all.2)
+            subst (λ (b : Bool). Serves c k image (cond b (entry ∷ part t acts) (part t acts))) (sym differ) (serves_away first out acts new image (away_on old new image stays away) none fails.1 later.1 all.2)
       ]
-  serves_away first out (Beside call answer ∷ acts) old image away fails all =
-      serves_away first out acts all.0 image (away_on old all.0 image (stays_step old.whole all.0.whole call answer all.1.step) away) fails all.2
-  serves_away first out (Turns area host ∷ acts) old image away fails all =
-      serves_away first out acts all.0 image (away_on old all.0 image (ap (λ (d : DiskState). d.gone) all.1.whole, ap (λ (d : DiskState). d.boot) all.1.whole) away) fails all.2
-  serves_away first out (Ends (Crashed d left) ∷ acts) old image away fails all =
+  serves_away first out (Beside call answer ∷ acts) old image away none fails later all =
+      serves_away first out acts all.0 image (away_on old all.0 image (stays_step old.whole all.0.whole call answer all.1.step) away) none fails later all.2
+  serves_away first out (Turns area host ∷ acts) old image away none fails later all =
+      serves_away first out acts all.0 image (away_on old all.0 image (ap (λ (d : DiskState). d.gone) all.1.whole, ap (λ (d : DiskState). d.boot) all.1.whole) away) none fails later all.2
+  serves_away first out (Ends (Crashed d left) ∷ acts) old image away none fails later all =
       let by = crash_away old all.0 image away all.1 in
-      (by.image_then, by.goes_so, serves_away first out acts all.0 by.image_then by.away_then fails all.2)
-  serves_away first out (Ends (Lost d) ∷ acts) old image away fails all =
-      (lost image, (all.1.inside, away.0 ∙ all.1.there, refl), serves_away first out acts all.0 (lost image) (ap (λ (s : DiskState). s.gone) (sym all.1.whole), away.1 ∙ ap (λ (s : DiskState). s.boot) (sym all.1.whole)) fails all.2)
-  serves_away first out (Ends (Start h) ∷ acts) old image away fails all = absurd all.1
-  serves_away first out (Ends (Stop h) ∷ acts) old image away fails all = absurd all.1
-  serves_away first out (Ends (Begin h task) ∷ acts) old image away fails all = absurd all.1
-  serves_away first out (Ends (Called h d call answer left) ∷ acts) old image away fails all = absurd all.1
-  serves_away first out (Ends (entries.Torn h d call left) ∷ acts) old image away fails all = absurd all.1
-  serves_away first out (Ends (Migrated disks log) ∷ acts) old image away fails all = absurd all.1
-  serves_away first out (Replaced other ∷ acts) old image away fails all =
-      serves_away first out acts all.0 image (away_on old all.0 image (all.1.gone ∙ sym all.1.there, all.1.boot) away) fails all.2
+      (by.image_then, by.goes_so, serves_away first out acts all.0 by.image_then by.away_then none fails later all.2)
+  serves_away first out (Ends (Lost d) ∷ acts) old image away none fails later all =
+      (lost image, (all.1.inside, away.0 ∙ all.1.there, refl), serves_away first out acts all.0 (lost image) (ap (λ (s : DiskState). s.gone) (sym all.1.whole), away.1 ∙ ap (λ (s : DiskState). s.boot) (sym all.1.whole)) none fails later all.2)
+  serves_away first out (Ends (Start h) ∷ acts) old image away none fails later all = absurd all.1
+  serves_away first out (Ends (Stop h) ∷ acts) old image away none fails later all = absurd all.1
+  serves_away first out (Ends (Begin h task) ∷ acts) old image away none fails later all = absurd all.1
+  serves_away first out (Ends (Called h d call answer left) ∷ acts) old image away none fails later all = absurd all.1
+  serves_away first out (Ends (entries.Torn h d call left) ∷ acts) old image away none fails later all = absurd all.1
+  serves_away first out (Ends (Migrated disks log) ∷ acts) old image away none fails later all = absurd all.1
+  serves_away first out (Replaced other ∷ acts) old image away none fails later all =
+      let next = neither (takes_part other t) (comes_back t acts) none in
+      serves_away other next.0 acts all.0 image (away_on old all.0 image (all.1.gone ∙ sym all.1.there, all.1.boot) away) next.1 later.0 later.1 all.2
 
   serves : (acts : List Act) (old : Shared) (image : DiskState) → Ordered n old → Shows n t old image → comes_back t acts ≡ false → TakesPartLater acts → ServesAll IsModelCrash c k n old acts → Serves c k image (part t acts)
   unfolding comes_back
@@ -793,7 +795,7 @@ module _ (c : Shape) (k n : ℕ) (t : Epoch) (t_area : t.area < 2) (t_even : t.n
   serves (Ends (Migrated disks log) ∷ acts) old image is shows none later all = absurd all.1
   serves (Replaced first ∷ acts) old image is shows none later all =
       let out = neither (takes_part first t) (comes_back t acts) none in
-      serves_away first out.0 acts all.0 image (away_on old all.0 image (all.1.gone ∙ sym all.1.there, all.1.boot) (shows.gone, shows.boot)) later.0 all.2
+      serves_away first out.0 acts all.0 image (away_on old all.0 image (all.1.gone ∙ sym all.1.there, all.1.boot) (shows.gone, shows.boot)) out.1 later.0 later.1 all.2
 
   -- a later disk takes part: nobody has made a call in the epoch yet
   serves_new : (acts : List Act) (old : Shared) (image : DiskState) → Away old image → HoldsNothing n image → comes_back t acts ≡ true → TakesPartLater acts → ServesAll IsModelCrash c k n old acts → Serves c k image (part t acts)
@@ -841,9 +843,10 @@ module _ (c : Shape) (k n : ℕ) (t : Epoch) (t_area : t.area < 2) (t_even : t.n
   on_goes e shown old new image left (Migrated disks log) goes by = absurd goes
 
   -- the disk does not take part any more: each call fails
-  serves_on_away : (first : ℕ) → takes_part first t ≡ false → (acts : List Act) (old : Shared) (image : DiskState) → Away old image → AllFailBefore first acts → ServesAll LosesPower c k n old acts → ServesOn c k image (part t acts)
-  serves_on_away first out [] old image away fails all = tt
-  serves_on_away first out (In e shown entry ∷ acts) old image away fails all =
+  serves_on_away : (first : ℕ) → takes_part first t ≡ false → (acts : List Act) (old : Shared) (image : DiskState) → Away old image → comes_back t acts ≡ false → AllFailBefore first acts → TakesPartLater acts → ServesAll LosesPower c k n old acts → ServesOn c k image (part t acts)
+  unfolding comes_back
+  serves_on_away first out [] old image away none fails later all = tt
+  serves_on_away first out (In e shown entry ∷ acts) old image away none fails later all =
       let new = all.0 in
       let stays = stays_in n e shown old new entry all.1.2 in
       elim (cases_Bool (is_same e t)) [
@@ -852,27 +855,28 @@ module _ (c : Shape) (k n : ℕ) (t : Epoch) (t_area : t.area < 2) (t_even : t.n
             let by = goes_away c k n e shown old new image entry (fails.0 here) away all.1.2 in
             let kept : Away new by.image_then = (let on = away_on old new image stays away in (by.stays_so.0 ∙ on.0, by.stays_so.1 ∙ on.1)) in
             subst (λ (b : Bool). ServesOn c k image (cond b (entry ∷ part t acts) (part t acts))) (sym same)
-            (by.image_then, on_goes e shown old new image by.image_then entry all.1.2 by.goes_so, serves_on_away first out acts new by.image_then kept fails.1 all.2))
+            (by.image_then, on_goes e shown old new image by.image_then entry all.1.2 by.goes_so, serves_on_away first out acts new by.image_then kept none fails.1 later.1 all.2))
         | inr differ ↦
-            subst (λ (b : Bool). ServesOn c k image (cond b (entry ∷ part t acts) (part t acts))) (sym differ) (serves_on_away first out acts new image (away_on old new image stays away) fails.1 all.2)
+            subst (λ (b : Bool). ServesOn c k image (cond b (entry ∷ part t acts) (part t acts))) (sym differ) (serves_on_away first out acts new image (away_on old new image stays away) none fails.1 later.1 all.2)
       ]
-  serves_on_away first out (Beside call answer ∷ acts) old image away fails all =
-      serves_on_away first out acts all.0 image (away_on old all.0 image (stays_step old.whole all.0.whole call answer all.1.step) away) fails all.2
-  serves_on_away first out (Turns area host ∷ acts) old image away fails all =
-      serves_on_away first out acts all.0 image (away_on old all.0 image (ap (λ (d : DiskState). d.gone) all.1.whole, ap (λ (d : DiskState). d.boot) all.1.whole) away) fails all.2
-  serves_on_away first out (Ends (Crashed d left) ∷ acts) old image away fails all =
+  serves_on_away first out (Beside call answer ∷ acts) old image away none fails later all =
+      serves_on_away first out acts all.0 image (away_on old all.0 image (stays_step old.whole all.0.whole call answer all.1.step) away) none fails later all.2
+  serves_on_away first out (Turns area host ∷ acts) old image away none fails later all =
+      serves_on_away first out acts all.0 image (away_on old all.0 image (ap (λ (d : DiskState). d.gone) all.1.whole, ap (λ (d : DiskState). d.boot) all.1.whole) away) none fails later all.2
+  serves_on_away first out (Ends (Crashed d left) ∷ acts) old image away none fails later all =
       let by = dark_away old all.0 image away all.1 in
-      (by.image_then, by.goes_so, serves_on_away first out acts all.0 by.image_then by.away_then fails all.2)
-  serves_on_away first out (Ends (Lost d) ∷ acts) old image away fails all =
-      (lost image, (all.1.inside, away.0 ∙ all.1.there, refl), serves_on_away first out acts all.0 (lost image) (ap (λ (s : DiskState). s.gone) (sym all.1.whole), away.1 ∙ ap (λ (s : DiskState). s.boot) (sym all.1.whole)) fails all.2)
-  serves_on_away first out (Ends (Start h) ∷ acts) old image away fails all = absurd all.1
-  serves_on_away first out (Ends (Stop h) ∷ acts) old image away fails all = absurd all.1
-  serves_on_away first out (Ends (Begin h task) ∷ acts) old image away fails all = absurd all.1
-  serves_on_away first out (Ends (Called h d call answer left) ∷ acts) old image away fails all = absurd all.1
-  serves_on_away first out (Ends (entries.Torn h d call left) ∷ acts) old image away fails all = absurd all.1
-  serves_on_away first out (Ends (Migrated disks log) ∷ acts) old image away fails all = absurd all.1
-  serves_on_away first out (Replaced other ∷ acts) old image away fails all =
-      serves_on_away first out acts all.0 image (away_on old all.0 image (all.1.gone ∙ sym all.1.there, all.1.boot) away) fails all.2
+      (by.image_then, by.goes_so, serves_on_away first out acts all.0 by.image_then by.away_then none fails later all.2)
+  serves_on_away first out (Ends (Lost d) ∷ acts) old image away none fails later all =
+      (lost image, (all.1.inside, away.0 ∙ all.1.there, refl), serves_on_away first out acts all.0 (lost image) (ap (λ (s : DiskState). s.gone) (sym all.1.whole), away.1 ∙ ap (λ (s : DiskState). s.boot) (sym all.1.whole)) none fails later all.2)
+  serves_on_away first out (Ends (Start h) ∷ acts) old image away none fails later all = absurd all.1
+  serves_on_away first out (Ends (Stop h) ∷ acts) old image away none fails later all = absurd all.1
+  serves_on_away first out (Ends (Begin h task) ∷ acts) old image away none fails later all = absurd all.1
+  serves_on_away first out (Ends (Called h d call answer left) ∷ acts) old image away none fails later all = absurd all.1
+  serves_on_away first out (Ends (entries.Torn h d call left) ∷ acts) old image away none fails later all = absurd all.1
+  serves_on_away first out (Ends (Migrated disks log) ∷ acts) old image away none fails later all = absurd all.1
+  serves_on_away first out (Replaced other ∷ acts) old image away none fails later all =
+      let next = neither (takes_part other t) (comes_back t acts) none in
+      serves_on_away other next.0 acts all.0 image (away_on old all.0 image (all.1.gone ∙ sym all.1.there, all.1.boot) away) next.1 later.0 later.1 all.2
 
   serves_on : (acts : List Act) (old : Shared) (image : DiskState) → Ordered n old → Shows n t old image → comes_back t acts ≡ false → TakesPartLater acts → ServesAll LosesPower c k n old acts → ServesOn c k image (part t acts)
   unfolding comes_back
@@ -908,7 +912,7 @@ module _ (c : Shape) (k n : ℕ) (t : Epoch) (t_area : t.area < 2) (t_even : t.n
   serves_on (Ends (Migrated disks log) ∷ acts) old image is shows none later all = absurd all.1
   serves_on (Replaced first ∷ acts) old image is shows none later all =
       let out = neither (takes_part first t) (comes_back t acts) none in
-      serves_on_away first out.0 acts all.0 image (away_on old all.0 image (all.1.gone ∙ sym all.1.there, all.1.boot) (shows.gone, shows.boot)) later.0 all.2
+      serves_on_away first out.0 acts all.0 image (away_on old all.0 image (all.1.gone ∙ sym all.1.there, all.1.boot) (shows.gone, shows.boot)) out.1 later.0 later.1 all.2
 
   -- a later disk takes part: nobody has made a call in the epoch yet
   serves_on_new : (acts : List Act) (old : Shared) (image : DiskState) → Away old image → HoldsNothing n image → comes_back t acts ≡ true → TakesPartLater acts → ServesAll LosesPower c k n old acts → ServesOn c k image (part t acts)

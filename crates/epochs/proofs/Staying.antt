@@ -134,11 +134,23 @@ abbrev pub IsNone : Deed → Type 0
 IsNone (Replacement first) = ⊥
 IsNone other = Unit {0}
 
--- each disk that is put in the place of another takes part in this epoch
-abbrev pub AllAreFor : Epoch → List Deed → Type 0
-AllAreFor e [] = Unit {0}
-AllAreFor e (Replacement first ∷ deeds) = (takes_part first e ≡ true) × AllAreFor e deeds
-AllAreFor e (other ∷ deeds) = AllAreFor e deeds
+-- whether the disk takes part in this epoch that is there at last, where the first one does or not
+abbrev pub takes_at_last : Epoch → Bool → List Deed → Bool
+takes_at_last e takes [] = takes
+takes_at_last e takes (Replacement first ∷ deeds) = takes_at_last e (takes_part first e) deeds
+takes_at_last e takes (other ∷ deeds) = takes_at_last e takes deeds
+
+-- no disk does, if neither the first one nor a later one does
+never_takes : (e : Epoch) (deeds : List Deed) → NoneIsFor e deeds → takes_at_last e false deeds ≡ false
+never_takes e [] none = refl
+never_takes e (Calls h m ∷ deeds) none = never_takes e deeds none
+never_takes e (CallsIn t h m call heard ∷ deeds) none = never_takes e deeds none
+never_takes e (Breaks h call ∷ deeds) none = never_takes e deeds none
+never_takes e (BreaksIn t h call ∷ deeds) none = never_takes e deeds none
+never_takes e (Stops h ∷ deeds) none = never_takes e deeds none
+never_takes e (Crash ∷ deeds) none = never_takes e deeds none
+never_takes e (Loss ∷ deeds) none = never_takes e deeds none
+never_takes e (Replacement first ∷ deeds) none = ap (λ (b : Bool). takes_at_last e b deeds) none.0 ∙ never_takes e deeds none.1
 
 -- one after the other, to such a disk
 abbrev pub GoesByPasts : (DiskState → DiskState → Type 0) → Shape → (k n : ℕ) → DiskState → Pasts → List Deed → DiskState → Type 0
@@ -182,25 +194,25 @@ module _ (IsCrash : DiskState → DiskState → Type 0)
     above_deed (Replacement first) deeds old new pasts known may none is = absurd none
 
     -- no other disk comes
-    above_all : (e : Epoch) (deeds : List Deed) (old last : DiskState) (pasts : Pasts) → Known n old pasts → GoesByPasts IsCrash c k n old pasts deeds last → NoneIsFor e deeds → AllAreFor e deeds → Holds old → Holds last
-    above_all e [] old last pasts known goes none all is = subst Holds (sym goes) is
-    above_all e (Replacement first ∷ deeds) old last pasts known goes none all is = absurd (true≢false (sym all.0 ∙ none.0))
-    above_all e (Calls h m ∷ deeds) old last pasts known goes none all is =
-        above_all e deeds goes.0 last (pasts_after old goes.0 pasts (Calls h m)) (one IsCrash leaves c k n row_fits rows (Calls h m) deeds old goes.0 pasts known goes.1).known_then goes.2 none all (above_deed (Calls h m) deeds old goes.0 pasts known goes.1 tt is)
-    above_all e (CallsIn t h m call heard ∷ deeds) old last pasts known goes none all is =
-        above_all e deeds goes.0 last (pasts_after old goes.0 pasts (CallsIn t h m call heard)) (one IsCrash leaves c k n row_fits rows (CallsIn t h m call heard) deeds old goes.0 pasts known goes.1).known_then goes.2 none all
+    above_all : (e : Epoch) (deeds : List Deed) (old last : DiskState) (pasts : Pasts) → Known n old pasts → GoesByPasts IsCrash c k n old pasts deeds last → NoneIsFor e deeds → (takes : Bool) → takes_at_last e takes deeds ≡ true → Holds old → Holds last
+    above_all e [] old last pasts known goes none takes all is = subst Holds (sym goes) is
+    above_all e (Replacement first ∷ deeds) old last pasts known goes none takes all is = absurd (true≢false (sym all ∙ ap (λ (b : Bool). takes_at_last e b deeds) none.0 ∙ never_takes e deeds none.1))
+    above_all e (Calls h m ∷ deeds) old last pasts known goes none takes all is =
+        above_all e deeds goes.0 last (pasts_after old goes.0 pasts (Calls h m)) (one IsCrash leaves c k n row_fits rows (Calls h m) deeds old goes.0 pasts known goes.1).known_then goes.2 none takes all (above_deed (Calls h m) deeds old goes.0 pasts known goes.1 tt is)
+    above_all e (CallsIn t h m call heard ∷ deeds) old last pasts known goes none takes all is =
+        above_all e deeds goes.0 last (pasts_after old goes.0 pasts (CallsIn t h m call heard)) (one IsCrash leaves c k n row_fits rows (CallsIn t h m call heard) deeds old goes.0 pasts known goes.1).known_then goes.2 none takes all
         (above_deed (CallsIn t h m call heard) deeds old goes.0 pasts known goes.1 tt is)
-    above_all e (Breaks h call ∷ deeds) old last pasts known goes none all is =
-        above_all e deeds goes.0 last (pasts_after old goes.0 pasts (Breaks h call)) (one IsCrash leaves c k n row_fits rows (Breaks h call) deeds old goes.0 pasts known goes.1).known_then goes.2 none all (above_deed (Breaks h call) deeds old goes.0 pasts known goes.1 tt is)
-    above_all e (BreaksIn t h call ∷ deeds) old last pasts known goes none all is =
-        above_all e deeds goes.0 last (pasts_after old goes.0 pasts (BreaksIn t h call)) (one IsCrash leaves c k n row_fits rows (BreaksIn t h call) deeds old goes.0 pasts known goes.1).known_then goes.2 none all
+    above_all e (Breaks h call ∷ deeds) old last pasts known goes none takes all is =
+        above_all e deeds goes.0 last (pasts_after old goes.0 pasts (Breaks h call)) (one IsCrash leaves c k n row_fits rows (Breaks h call) deeds old goes.0 pasts known goes.1).known_then goes.2 none takes all (above_deed (Breaks h call) deeds old goes.0 pasts known goes.1 tt is)
+    above_all e (BreaksIn t h call ∷ deeds) old last pasts known goes none takes all is =
+        above_all e deeds goes.0 last (pasts_after old goes.0 pasts (BreaksIn t h call)) (one IsCrash leaves c k n row_fits rows (BreaksIn t h call) deeds old goes.0 pasts known goes.1).known_then goes.2 none takes all
         (above_deed (BreaksIn t h call) deeds old goes.0 pasts known goes.1 tt is)
-    above_all e (Stops h ∷ deeds) old last pasts known goes none all is =
-        above_all e deeds goes.0 last (pasts_after old goes.0 pasts (Stops h)) (one IsCrash leaves c k n row_fits rows (Stops h) deeds old goes.0 pasts known goes.1).known_then goes.2 none all (above_deed (Stops h) deeds old goes.0 pasts known goes.1 tt is)
-    above_all e (Crash ∷ deeds) old last pasts known goes none all is =
-        above_all e deeds goes.0 last (pasts_after old goes.0 pasts Crash) (one IsCrash leaves c k n row_fits rows Crash deeds old goes.0 pasts known goes.1).known_then goes.2 none all (above_deed Crash deeds old goes.0 pasts known goes.1 tt is)
-    above_all e (Loss ∷ deeds) old last pasts known goes none all is =
-        above_all e deeds goes.0 last (pasts_after old goes.0 pasts Loss) (one IsCrash leaves c k n row_fits rows Loss deeds old goes.0 pasts known goes.1).known_then goes.2 none all (above_deed Loss deeds old goes.0 pasts known goes.1 tt is)
+    above_all e (Stops h ∷ deeds) old last pasts known goes none takes all is =
+        above_all e deeds goes.0 last (pasts_after old goes.0 pasts (Stops h)) (one IsCrash leaves c k n row_fits rows (Stops h) deeds old goes.0 pasts known goes.1).known_then goes.2 none takes all (above_deed (Stops h) deeds old goes.0 pasts known goes.1 tt is)
+    above_all e (Crash ∷ deeds) old last pasts known goes none takes all is =
+        above_all e deeds goes.0 last (pasts_after old goes.0 pasts Crash) (one IsCrash leaves c k n row_fits rows Crash deeds old goes.0 pasts known goes.1).known_then goes.2 none takes all (above_deed Crash deeds old goes.0 pasts known goes.1 tt is)
+    above_all e (Loss ∷ deeds) old last pasts known goes none takes all is =
+        above_all e deeds goes.0 last (pasts_after old goes.0 pasts Loss) (one IsCrash leaves c k n row_fits rows Loss deeds old goes.0 pasts known goes.1).known_then goes.2 none takes all (above_deed Loss deeds old goes.0 pasts known goes.1 tt is)
 
   -- A WRITE OF A CORE
 
@@ -227,35 +239,35 @@ module _ (IsCrash : DiskState → DiskState → Type 0)
     stands_then whole is_host is = (is_host, (let same = numbers_is n whole.bytes e.area host e_area is_host in let high = is.3 in omega (arith, same, high)))
 
     -- so it is at the end, or it is another disk that does not take part
-    pub stays_above : (deeds : List Deed) (old last : DiskState) (pasts : Pasts) → Known n old pasts → GoesByPasts IsCrash c k n old pasts deeds last → IsForLater deeds → AllAreFor e deeds
+    pub stays_above : (deeds : List Deed) (old last : DiskState) (pasts : Pasts) → Known n old pasts → GoesByPasts IsCrash c k n old pasts deeds last → IsForLater deeds → (takes : Bool) → takes_at_last e takes deeds ≡ true
         → (j : ℕ) (answer : Answer) (left : List ℕ) → slice_get (done_in k e deeds) j ≡ Some (Called host k (Write boot at from) answer left) → HasNumber last
-    stays_above [] old last pasts known goes later all j answer left found = absurd (cc)
-    stays_above (Calls h m ∷ deeds) old last pasts known goes later all j answer left found =
-        stays_above deeds goes.0 last (pasts_after old goes.0 pasts (Calls h m)) (one IsCrash leaves c k n row_fits rows (Calls h m) deeds old goes.0 pasts known goes.1).known_then goes.2 later all j answer left found
-    stays_above (Breaks h call ∷ deeds) old last pasts known goes later all j answer left found =
-        stays_above deeds goes.0 last (pasts_after old goes.0 pasts (Breaks h call)) (one IsCrash leaves c k n row_fits rows (Breaks h call) deeds old goes.0 pasts known goes.1).known_then goes.2 later all j answer left found
-    stays_above (Stops h ∷ deeds) old last pasts known goes later all j answer left found =
-        stays_above deeds goes.0 last (pasts_after old goes.0 pasts (Stops h)) (one IsCrash leaves c k n row_fits rows (Stops h) deeds old goes.0 pasts known goes.1).known_then goes.2 later all j answer left found
-    stays_above (Replacement first ∷ deeds) old last pasts known goes later all j answer left found =
-        stays_above deeds goes.0 last (pasts_after old goes.0 pasts (Replacement first)) (one IsCrash leaves c k n row_fits rows (Replacement first) deeds old goes.0 pasts known goes.1).known_then goes.2 later.1 all.1 j answer left found
-    stays_above (Crash ∷ deeds) old last pasts known goes later all zero answer left found = absurd (cc)
-    stays_above (Crash ∷ deeds) old last pasts known goes later all (suc j) answer left found =
-        stays_above deeds goes.0 last (pasts_after old goes.0 pasts Crash) (one IsCrash leaves c k n row_fits rows Crash deeds old goes.0 pasts known goes.1).known_then goes.2 later all j answer left found
-    stays_above (Loss ∷ deeds) old last pasts known goes later all zero answer left found = absurd (cc)
-    stays_above (Loss ∷ deeds) old last pasts known goes later all (suc j) answer left found =
-        stays_above deeds goes.0 last (pasts_after old goes.0 pasts Loss) (one IsCrash leaves c k n row_fits rows Loss deeds old goes.0 pasts known goes.1).known_then goes.2 later all j answer left found
-    stays_above (BreaksIn t h call ∷ deeds) old last pasts known goes later all j answer left found =
+    stays_above [] old last pasts known goes later takes all j answer left found = absurd (cc)
+    stays_above (Calls h m ∷ deeds) old last pasts known goes later takes all j answer left found =
+        stays_above deeds goes.0 last (pasts_after old goes.0 pasts (Calls h m)) (one IsCrash leaves c k n row_fits rows (Calls h m) deeds old goes.0 pasts known goes.1).known_then goes.2 later takes all j answer left found
+    stays_above (Breaks h call ∷ deeds) old last pasts known goes later takes all j answer left found =
+        stays_above deeds goes.0 last (pasts_after old goes.0 pasts (Breaks h call)) (one IsCrash leaves c k n row_fits rows (Breaks h call) deeds old goes.0 pasts known goes.1).known_then goes.2 later takes all j answer left found
+    stays_above (Stops h ∷ deeds) old last pasts known goes later takes all j answer left found =
+        stays_above deeds goes.0 last (pasts_after old goes.0 pasts (Stops h)) (one IsCrash leaves c k n row_fits rows (Stops h) deeds old goes.0 pasts known goes.1).known_then goes.2 later takes all j answer left found
+    stays_above (Replacement first ∷ deeds) old last pasts known goes later takes all j answer left found =
+        stays_above deeds goes.0 last (pasts_after old goes.0 pasts (Replacement first)) (one IsCrash leaves c k n row_fits rows (Replacement first) deeds old goes.0 pasts known goes.1).known_then goes.2 later.1 (takes_part first e) all j answer left found
+    stays_above (Crash ∷ deeds) old last pasts known goes later takes all zero answer left found = absurd (cc)
+    stays_above (Crash ∷ deeds) old last pasts known goes later takes all (suc j) answer left found =
+        stays_above deeds goes.0 last (pasts_after old goes.0 pasts Crash) (one IsCrash leaves c k n row_fits rows Crash deeds old goes.0 pasts known goes.1).known_then goes.2 later takes all j answer left found
+    stays_above (Loss ∷ deeds) old last pasts known goes later takes all zero answer left found = absurd (cc)
+    stays_above (Loss ∷ deeds) old last pasts known goes later takes all (suc j) answer left found =
+        stays_above deeds goes.0 last (pasts_after old goes.0 pasts Loss) (one IsCrash leaves c k n row_fits rows Loss deeds old goes.0 pasts known goes.1).known_then goes.2 later takes all j answer left found
+    stays_above (BreaksIn t h call ∷ deeds) old last pasts known goes later takes all j answer left found =
         either (is_same t e) j found (λ i there.
-        stays_above deeds goes.0 last (pasts_after old goes.0 pasts (BreaksIn t h call)) (one IsCrash leaves c k n row_fits rows (BreaksIn t h call) deeds old goes.0 pasts known goes.1).known_then goes.2 later.1 all i answer left there)
+        stays_above deeds goes.0 last (pasts_after old goes.0 pasts (BreaksIn t h call)) (one IsCrash leaves c k n row_fits rows (BreaksIn t h call) deeds old goes.0 pasts known goes.1).known_then goes.2 later.1 takes all i answer left there)
       where
         either : (b : Bool) (i : ℕ) → slice_get (if b then entries.Torn h k call [] ∷ done_in k e deeds else done_in k e deeds) i ≡ Some (Called host k (Write boot at from) answer left) →
             ((i : ℕ) → slice_get (done_in k e deeds) i ≡ Some (Called host k (Write boot at from) answer left) → HasNumber last) → HasNumber last
         either true zero there rest = absurd (cc)
         either true (suc i) there rest = rest i there
         either false i there rest = rest i there
-    stays_above (CallsIn t g m call heard ∷ deeds) old last pasts known goes later all j answer left found =
+    stays_above (CallsIn t g m call heard ∷ deeds) old last pasts known goes later takes all j answer left found =
         either (is_same t e) refl j found (λ i there.
-        stays_above deeds goes.0 last (pasts_after old goes.0 pasts (CallsIn t g m call heard)) (one IsCrash leaves c k n row_fits rows (CallsIn t g m call heard) deeds old goes.0 pasts known goes.1).known_then goes.2 later.1 all i answer left there)
+        stays_above deeds goes.0 last (pasts_after old goes.0 pasts (CallsIn t g m call heard)) (one IsCrash leaves c k n row_fits rows (CallsIn t g m call heard) deeds old goes.0 pasts known goes.1).known_then goes.2 later.1 takes all i answer left there)
       where
         known_then : Known n goes.0 (pasts_after old goes.0 pasts (CallsIn t g m call heard))
         known_then = (one IsCrash leaves c k n row_fits rows (CallsIn t g m call heard) deeds old goes.0 pasts known goes.1).known_then
@@ -270,7 +282,7 @@ module _ (IsCrash : DiskState → DiskState → Type 0)
             let may = subst (λ (x : Epoch). MayBe IsCrash c k n old pasts (CallsIn x g m call heard) deeds goes.0) one_epoch goes.1 in
             let first = begins old pasts g m call heard deeds goes.0 own is known may in
             let gone_on = above_deed e.area host e.number (CallsIn e g m call heard) deeds old goes.0 pasts known may tt first in
-            stands_then last (subst (λ (x : ℕ). x < 16) own may.0) (above_all e.area host e.number e deeds goes.0 last (pasts_after old goes.0 pasts (CallsIn t g m call heard)) known_then goes.2 (subst (λ (x : Epoch). NoneIsFor x deeds) one_epoch later.0) all gone_on)
+            stands_then last (subst (λ (x : ℕ). x < 16) own may.0) (above_all e.area host e.number e deeds goes.0 last (pasts_after old goes.0 pasts (CallsIn t g m call heard)) known_then goes.2 (subst (λ (x : Epoch). NoneIsFor x deeds) one_epoch later.0) takes all gone_on)
 
         either : (b : Bool) → is_same t e ≡ b → (i : ℕ) → slice_get (if b then Called g k call heard [] ∷ done_in k e deeds else done_in k e deeds) i ≡ Some (Called host k (Write boot at from) answer left) →
             ((i : ℕ) → slice_get (done_in k e deeds) i ≡ Some (Called host k (Write boot at from) answer left) → HasNumber last) → HasNumber last

@@ -192,9 +192,10 @@ abbrev pub Fails : Filled → Type 0
 Fails (Called h d call answer left) = IsFault answer
 Fails other = Unit {0}
 
--- each call in an epoch fails in which a disk that takes part from this one on does not do so
+-- each call in an epoch fails in which a disk that takes part from this one on does not do so, until the next one is put in its place
 abbrev pub AllFailBefore : ℕ → List Act → Type 0
 AllFailBefore first [] = Unit {0}
+AllFailBefore first (Replaced next ∷ acts) = Unit {0}
 AllFailBefore first (In e shown entry ∷ acts) = (takes_part first e ≡ false → Fails entry) × AllFailBefore first acts
 AllFailBefore first (other ∷ acts) = AllFailBefore first acts
 
@@ -204,7 +205,7 @@ NoneTakesPart e [] = Unit {0}
 NoneTakesPart e (Replaced first ∷ acts) = (takes_part first e ≡ false) × NoneTakesPart e acts
 NoneTakesPart e (other ∷ acts) = NoneTakesPart e acts
 
--- A disk that is put in the place of another takes part only in epochs in which nobody has made a call on the other. In all epochs before these each call fails from then on.
+-- A disk that is put in the place of another takes part only in epochs in which nobody has made a call on the other. In all epochs before these each call on it fails.
 abbrev pub TakesPartLater : List Act → Type 0
 TakesPartLater [] = Unit {0}
 TakesPartLater (In e shown entry ∷ acts) = NoneTakesPart e acts × TakesPartLater acts

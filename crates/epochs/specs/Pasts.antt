@@ -111,9 +111,10 @@ ServesPasts IsCrash c k n old pasts (deed ∷ deeds) =
 
 -- WHERE A DISK TAKES PART
 
--- each call of a core fails in an epoch in which a disk that takes part from this one on does not do so
+-- each call of a core fails in an epoch in which a disk that takes part from this one on does not do so, until the next one is put in its place
 abbrev pub AllHearFaultsBefore : ℕ → List Deed → Type 0
 AllHearFaultsBefore first [] = Unit {0}
+AllHearFaultsBefore first (Replacement next ∷ deeds) = Unit {0}
 AllHearFaultsBefore first (CallsIn e host made call heard ∷ deeds) = (takes_part first e ≡ false → IsFault heard) × AllHearFaultsBefore first deeds
 AllHearFaultsBefore first (other ∷ deeds) = AllHearFaultsBefore first deeds
 
@@ -123,7 +124,7 @@ NoneIsFor e [] = Unit {0}
 NoneIsFor e (Replacement first ∷ deeds) = (takes_part first e ≡ false) × NoneIsFor e deeds
 NoneIsFor e (other ∷ deeds) = NoneIsFor e deeds
 
--- A disk that is put in the place of another takes part only in epochs in which no core has made a call on the other. In all epochs before these each call of a core fails from then on.
+-- A disk that is put in the place of another takes part only in epochs in which no core has made a call on the other. In all epochs before these each call of a core on it fails.
 abbrev pub IsForLater : List Deed → Type 0
 IsForLater [] = Unit {0}
 IsForLater (CallsIn e host made call heard ∷ deeds) = NoneIsFor e deeds × IsForLater deeds

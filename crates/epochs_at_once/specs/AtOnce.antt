@@ -112,7 +112,7 @@ TakePart c deeds firsts called [] = Unit {0}
 TakePart c deeds firsts called (Does h deed ∷ entries) =
     HearsOf firsts deed × TakePart c (deeds_after deeds (Does h deed)) firsts (called_after called (Does h deed)) entries
 TakePart c deeds firsts called (Replaces k first newest ∷ entries) =
-    MayTakeOver c deeds firsts called k first newest × TakePart c deeds (firsts_after firsts (Replaces k first newest)) called entries
+    MayTakeOver c deeds called k first newest × TakePart c deeds (firsts_after firsts (Replaces k first newest)) called entries
 TakePart c deeds firsts called (other ∷ entries) = TakePart c (deeds_after deeds other) firsts (called_after called other) entries
 
 -- at first all take part in all epochs

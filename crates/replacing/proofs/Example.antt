@@ -233,7 +233,6 @@ module _ (slots : ℕ) where
         blank = blank;
         put = put;
         boot = sym (ap (λ (d : DiskState). d.boot) fresh_is);
-        no_earlier = omega arith;
       }
 
   at_first : IsReplacedAtFirst slots

@@ -1,5 +1,5 @@
 -- What `replace_disk` promises of files is that the tool replaced a disk, where each call was a step.
-use Rattle.std.proofs.Common.{ℕ, ◌≤◌, ◌<◌, subst}
+use Rattle.std.proofs.Common.{◌<◌, subst}
 use Rattle.paxos_block.specs.Shape.{Shape}
 use Rattle.in_place.specs.Replacing.{IsBy}
 use Rattle.replacing.specs.Laws.{FilesAreReplaced}
@@ -17,5 +17,4 @@ files_are_replaced c w lost first was new are =
       blank = are.blank;
       put = are.put;
       boot = are.boot;
-      no_earlier = subst (λ (n : ℕ). w.first lost ≤ n) was.from are.no_earlier;
     }

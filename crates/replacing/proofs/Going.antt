@@ -104,11 +104,10 @@ module _ (c : Shape) (w : World) (lost : ℕ) (image : NewImage) (new : DiskStat
         either true = past_elsewhere c read boot best.rows lost differ
         either false = ap (past_on lost) (did.stopped h)
 
-    pub may_take_over : MayTakeOver c (with_deeds w.deeds 0 reads) w.first w.called lost first best.newest
+    pub may_take_over : MayTakeOver c (with_deeds w.deeds 0 reads) w.called lost first best.newest
     may_take_over =
         record {
           below = (let least = low in let is = first_is in omega (arith, least, is));
-          later = did.no_earlier;
           uncalled = λ e high. uncalled lost e (let is = first_is in omega (arith, is, high));
           known = (0, subst (IsOpen c 0 best.newest) (sym (deeds_here w.deeds 0 reads)) (opens c read boot best.rows best.newest newest_is));
           anew = past_none;

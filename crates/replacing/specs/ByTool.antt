@@ -34,7 +34,7 @@ pub record AreToldOf (c : Shape) (w : World) (lost : ℕ) (tellings : Tellings) 
 -- WHAT IT MADE
 
 -- No host works. By what the other disks told, the tool put this image on a disk, which takes the place of a lost one. The lost one is still there in the model, where its calls fail. The
--- new one tells its boot number, and takes part no earlier than it did.
+-- new one tells its boot number.
 pub record IsReplacedByTool (c : Shape) (w : World) (lost : ℕ) (image : NewImage) (new : DiskState) : Type 0 where
   pub stopped : (h : ℕ) → w.deeds h ≡ []
   pub among : lost < c.disks
@@ -46,7 +46,6 @@ pub record IsReplacedByTool (c : Shape) (w : World) (lost : ℕ) (image : NewIma
   pub blank : DiskState
   pub put : IsPut Step image blank new
   pub boot : new.boot ≡ (w.disk lost).boot
-  pub no_earlier : w.first lost ≤ image.header.first_epoch
 
 -- Of files, whose bytes no contract sees, that is what `replace_disk` promises, where each call on a file was a step of a disk: what the images told and what was put on the new one, with the same
 -- answers.
@@ -58,7 +57,6 @@ pub record AreSteps (c : Shape) (w : World) (lost first : ℕ) (was : WasReplace
   pub blank : DiskState
   pub put : IsPut Step was.image blank new
   pub boot : new.boot ≡ (w.disk lost).boot
-  pub no_earlier : w.first lost ≤ first
 
 -- This disk told the newest epoch, and the new image has its rows of standings.
 pub record IsReadFrom {c : Shape} {w : World} {lost : ℕ} {image : NewImage} {new : DiskState} (did : IsReplacedByTool c w lost image new) (read : ℕ) (best : EpochsTold) : Type 0 where

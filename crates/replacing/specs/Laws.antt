@@ -52,7 +52,7 @@ pub record GoesOn (crashing : Crashing) (c : Shape) (entries : List Entry) (w : 
   pub best : EpochsTold
   pub from : IsReadFrom did read best
   pub is_new : IsNewDisk (image_of c) best.newest (w.disk lost) (used (slots_of c) new)
-  pub may : MayTakeOver c (with_deeds w.deeds 0 (reads_rows c read (w.disk read).boot best.rows)) w.first w.called lost image.header.first_epoch best.newest
+  pub may : MayTakeOver c (with_deeds w.deeds 0 (reads_rows c read (w.disk read).boot best.rows)) w.called lost image.header.first_epoch best.newest
   pub goes : GoesTo crashing c (opening c) (entries ++ entries_of c 0 read (w.disk read).boot best.rows lost image.header.first_epoch best.newest) (world_by c w lost image.header.first_epoch new)
 
 -- So it is wherever hosts came to, where an epoch has a slot for each lock and each client.
