@@ -60,7 +60,7 @@ boot_of [] = 0
 boot_of (Booted boot ∷ xs) = boot
 boot_of (other ∷ xs) = boot_of xs
 
--- HISTORIES: each answer is to the call that was due
+-- HISTORIES: each answer is to a call that was due
 
 -- an answer of the kind that the call may get
 abbrev pub Fits : {A : Type 0} → device.Call → Heard A → Type 0
@@ -70,6 +70,24 @@ Fits (device.Read boot at len) (Told said) = Unit {0}
 Fits (device.Write boot at from) Done = Unit {0}
 Fits (device.Sync boot) Done = Unit {0}
 Fits call other = ⊥
+
+-- BY DISK: on each disk a call may be due
+
+-- the answer fits the call that is due on its disk
+abbrev pub IsAnswerOn : {A : Type 0} → Option device.Call → Heard A → Type 0
+IsAnswerOn None x = ⊥
+IsAnswerOn (Some call) x = Fits call x
+
+-- behind those before, each later answer is to the call that is due on its disk then
+abbrev pub GoesOnByDisk : {A : Type 0} → (Answers A → ℕ → Option device.Call) → (before later : List (Answered A)) → Type 0
+GoesOnByDisk due before [] = Unit {0}
+GoesOnByDisk due before (x ∷ xs) = IsAnswerOn (due (on before) x.disk) x.heard × GoesOnByDisk due (before ++ x ∷ []) xs
+
+-- all are so, from the first on
+abbrev pub IsHistoryByDisk : {A : Type 0} → (Answers A → ℕ → Option device.Call) → List (Answered A) → Type 0
+IsHistoryByDisk due heard = GoesOnByDisk due [] heard
+
+-- IN TURN: a call is due on one disk alone
 
 -- the answer is of the disk on which a call is due, and fits the call
 abbrev pub IsAnswerTo : {A : Type 0} → Option (ℕ × device.Call) → Answered A → Type 0

@@ -5,7 +5,7 @@ use Rattle.paxos_block.specs.Votes.{says_in}
 use Rattle.attempt.specs.Calls.{Phase, Opening}
 use Rattle.attempt.specs.Answers.{Heard, Answered, Answers, on, all_good, row_in}
 use Rattle.attempt.specs.Setup.{Setup}
-use Rattle.attempt.specs.History.{IsHistory}
+use Rattle.attempt.specs.History.{IsHistoryInTurn}
 use Rattle.attempt.specs.Visits.{is_stuck, are_enough}
 use Rattle.attempt.specs.Status.{Status, End, status, Due, Ended, Committed, Decided, Empty, Outrun, NoMajority, BallotsSpent}
 
@@ -48,10 +48,10 @@ IsServed s heard (Ended NoMajority) = ⊥
 abbrev pub IsServedAlone : Setup → List Answered → Type 0
 IsServedAlone s heard = OthersRest s (on heard) → MostAnswerWell s (on heard) → IsServed s heard (status s (on heard))
 
--- some history of the setup comes to an end over disks that answer well, with the other hosts at rest
+-- some history of the setup, in turn, comes to an end over disks that answer well, with the other hosts at rest
 pub record CanEnd (s : Setup) : Type 0 where
   pub heard : List Answered
-  pub is : IsHistory s heard
+  pub is : IsHistoryInTurn s heard
   pub well : AllAnswerWell s (on heard)
   pub rest : OthersRest s (on heard)
   pub end : End

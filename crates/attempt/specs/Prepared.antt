@@ -15,14 +15,14 @@ use Rattle.attempt.specs.Setup.{Setup}
 use Rattle.attempt.specs.Visits.{is_left, are_enough}
 use Rattle.attempt.specs.Proposal.{ballot, own}
 use Rattle.attempt.specs.Standing.{HasProposal}
-use Rattle.attempt.specs.NextCall.{next_call}
+use Rattle.attempt.specs.NextCall.{call_due}
 use Rattle.attempt.specs.Laws.{OnMost}
 
 -- WRITTEN AND READ
 
 -- at this place of a history a call was due on a disk, and this was its answer
 pub record IsAnswered (s : Setup) (heard : List Answered) (place disk : ℕ) (call : device.Call) (answer : Heard) : Type 0 where
-  pub due : next_call s (on (take place heard)) ≡ Some (disk, call)
+  pub due : call_due s (on (take place heard)) disk ≡ Some call
   pub answered : slice_get heard place ≡ Some (record { disk = disk; heard = answer })
 
 -- the six calls of a write, in their order

@@ -1,17 +1,29 @@
-// What bounds an attempt's device calls, how one ends that its disks answer, and what one has done that proposes.
-ghost use Rattle.std.specs.Prelude.{◌≡◌, ◌≢◌, ◌*◌, ◌<◌, ◌≤◌, ℕ, List, length};
+// In which order an attempt calls its disks, what bounds its device calls, how one ends that its disks answer, and what one has done that
+// proposes.
+ghost use Rattle.std.specs.Prelude.{◌≡◌, ◌≢◌, ◌+◌, ◌*◌, ◌<◌, ◌≤◌, ℕ, List, length, Some, None};
 ghost use Rattle.disk.specs.Disk.{Call};
 ghost use Rattle.torn_block.specs.Layout.{hosts_in};
 ghost use Rattle.paxos_block.specs.declared.ballot.TheConstants.{LAST_BALLOT};
-ghost use Rattle.attempt.specs.Calls.{Phase, Opening, Two};
-ghost use Rattle.attempt.specs.Answers.{Answered, Answers, on};
+ghost use Rattle.attempt.specs.Calls.{Phase, Opening, Two, goal};
+ghost use Rattle.attempt.specs.Answers.{Answered, Answers, on, row_in};
 ghost use Rattle.attempt.specs.Setup.{Setup};
 ghost use Rattle.attempt.specs.Status.{Due, Ended, End, Committed, Decided, Empty, NoMajority, status, taken};
-ghost use Rattle.attempt.specs.History.{IsHistory};
+ghost use Rattle.attempt.specs.History.{IsHistory, IsHistoryInTurn};
 ghost use Rattle.attempt.specs.Looking.{LeavesBytes, EndsTheOpening};
-ghost use Rattle.attempt.specs.NextCall.{next_call};
+ghost use Rattle.attempt.specs.NextCall.{call_due, next_call};
 ghost use Rattle.attempt.specs.Prepared.{Proposes, IsPrepared, IsAccepted, IsProposal, HasNoInput, IsMarkSeen, AreVotes};
 ghost use Rattle.attempt.specs.Laws.{AllAnswerWell, MostAnswerWell, OthersRest, IsServed, CanEnd};
+
+/// The disks of a phase may be called in any order. To call one after the other is one of these orders. The rows of a phase are read by rising
+/// number: where a disk's row is due, no disk above it has one.
+pub fn disks_in_any_order()
+    ensures next { (s : Setup) (f : Answers) (d : ℕ) (call : Call) →
+        next_call s f ≡ Some (d, call) → call_due s f d ≡ Some call }
+    ensures in_turn { (s : Setup) (heard : List Answered) → IsHistoryInTurn s heard → IsHistory s heard }
+    ensures rows { (s : Setup) (heard : List Answered) (p : Phase) (d e : ℕ) (call : Call) → IsHistory s heard →
+        status s (on heard) ≡ Due p e → call_due s (on heard) d ≡ Some call → length (on heard d) + 1 ≡ goal p →
+        (k : ℕ) → d < k → k < s.disks → row_in p (on heard k) ≡ None }
+{}
 
 /// An attempt makes at most seventeen calls a disk. Over disks that answer well it makes all of
 /// them where its proposal is chosen, ten where it finds none, three where a marked block tells it
@@ -75,7 +87,7 @@ pub fn without_a_ballot()
     ensures opening { (s : Setup) (f : Answers) (p : Phase) (d : ℕ) → LAST_BALLOT ≤ s.floor →
         status s f ≡ Due p d → p ≡ Opening }
     ensures reads { (s : Setup) (f : Answers) (d : ℕ) (call : Call) → LAST_BALLOT ≤ s.floor →
-        next_call s f ≡ Some (d, call) → LeavesBytes call }
+        call_due s f d ≡ Some call → LeavesBytes call }
     ensures three { (s : Setup) (heard : List Answered) → LAST_BALLOT ≤ s.floor →
         IsHistory s heard → length heard ≤ 3 * s.disks }
     ensures ends { (s : Setup) (f : Answers) (end : End) → LAST_BALLOT ≤ s.floor →
