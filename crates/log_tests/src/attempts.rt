@@ -9,22 +9,22 @@ use std::test::Fail;
 use torn_block::{COPY_LENGTH, ClusterLayout, HOSTS, Layout, Layout1, VALUE_LENGTH, VERSION};
 
 /// More calls than any attempt makes.
-const ENOUGH: usize = 1000;
+pub(crate) const ENOUGH: usize = 1000;
 
 /// From one ballot of a host to its next.
-const STEP: u64 = HOSTS as u64;
+pub(crate) const STEP: u64 = HOSTS as u64;
 
 /// The bytes of a copy in front of its input.
 const HEAD_LENGTH: usize = 32;
 
 /// Host 0 promised ballot 1, under the last sequence number.
-const SPENT: [u8; HEAD_LENGTH] = [
+pub(crate) const SPENT: [u8; HEAD_LENGTH] = [
     0xA5, VERSION, 0, 0, 0, 0, 0, 0, 0x40, 0, 0, 0, 0, 0, 0, 0, 0, 0, 0, 0, 0, 0, 0, 1, 0, 0, 0, 0,
     0, 0, 0, 0,
 ];
 
 /// An open gate, and behind it what no host says.
-const DAMAGED: [u8; HEAD_LENGTH] = [0xA5; HEAD_LENGTH];
+pub(crate) const DAMAGED: [u8; HEAD_LENGTH] = [0xA5; HEAD_LENGTH];
 
 /// Host 0 promised its second ballot and had voted at ballot 1.
 const HOST_0_VOTED: [u8; HEAD_LENGTH] = [
@@ -69,7 +69,7 @@ const HOST_1_VOTED: [u8; HEAD_LENGTH] = [
 ];
 
 // A copy with this byte throughout its input.
-fn copy_of(head: &[u8; HEAD_LENGTH], byte: u8) -> [u8; COPY_LENGTH] {
+pub(crate) fn copy_of(head: &[u8; HEAD_LENGTH], byte: u8) -> [u8; COPY_LENGTH] {
     let mut copy = [0; COPY_LENGTH];
     copy[..HEAD_LENGTH].copy_from_slice(head);
     copy[HEAD_LENGTH..HEAD_LENGTH + VALUE_LENGTH].fill(byte);
@@ -77,7 +77,11 @@ fn copy_of(head: &[u8; HEAD_LENGTH], byte: u8) -> [u8; COPY_LENGTH] {
 }
 
 // Writes a host's first copy as it stands, if the disk is there and has the place.
-fn put(disk: Option<&mut SimDisk>, host: u8, copy: &[u8; COPY_LENGTH]) -> Result<(), Fail> {
+pub(crate) fn put(
+    disk: Option<&mut SimDisk>,
+    host: u8,
+    copy: &[u8; COPY_LENGTH],
+) -> Result<(), Fail> {
     let disk = disk.ok_or("disk")?;
     let boot = disk.attach()?;
     let at = block_place::<ClusterLayout>(0, host);
@@ -89,7 +93,7 @@ fn put(disk: Option<&mut SimDisk>, host: u8, copy: &[u8; COPY_LENGTH]) -> Result
 }
 
 // Makes so many calls, or fewer where the attempt ends, and counts them.
-fn drive<const N: usize, L: Layout<Row = [u8; N]>>(
+pub(crate) fn drive<const N: usize, L: Layout<Row = [u8; N]>>(
     attempt: &mut Attempt<L>,
     disks: &mut [SimDisk],
     calls: usize,

@@ -15,3 +15,5 @@ mod driven;
 mod endless_images;
 #[cfg(test)]
 mod files;
+#[cfg(test)]
+mod in_rounds;

@@ -23,7 +23,7 @@ use Rattle.phases.specs.declared.phase.Phase.TheVariants as phase
 use Rattle.phases.specs.Calls.{phase_in}
 use Rattle.phases.specs.Notes.{Notes}
 use Rattle.phases.specs.Kept.{KeepsVisits, Follows}
-use Rattle.phases.specs.Moves.{IsPassed, IsOver}
+use Rattle.phases.specs.Moves.{IsPassed, IsOver, IsTurned}
 use Rattle.phases.proofs.Visiting.{never}
 use Rattle.phases.proofs.Ending.{none_waits, left_kept}
 
@@ -114,7 +114,7 @@ module _ (f : Answers) (n : Notes) (is : IsOver phase.Opening f n) where
 
   -- phase 1 begins with the ballot
   pub begins_one : n.decided ≡ None → (b : ℕ) → b ≡ ballot_above s.version s.host n.highest → b ≤ LAST_BALLOT
-      → IsPassed phase.One f (record n { phase = phase.One; says = record { mbal = b; bal = n.best.bal; inp = n.best.inp; mark = false } }) 0
+      → IsTurned phase.One f (record n { phase = phase.One; says = record { mbal = b; bal = n.best.bal; inp = n.best.inp; mark = false } }) 0
   begins_one undecided b b_is low =
       let fits : nat_lt LAST_BALLOT (ballot s f) ≡ false = le-ltb LAST_BALLOT (ballot s f) (omega (arith, b_is, ballot_is)) in
       let none : (e : ℕ) → row_in One (f e) ≡ None = λ e. row_none One (f e) (let l = is.passed.behind e in omega arith) in
@@ -125,10 +125,9 @@ module _ (f : Answers) (n : Notes) (is : IsOver phase.Opening f n) where
         not_outrun = not_above s One f none;
         opened = taken_is undecided ∙ ap (λ (t : Bool). if t then 0 else ballot s f) fits;
         says_is = λ i. record { mbal = (b_is ∙ ballot_is) i; bal = (own_is i).bal; inp = (own_is i).inp; mark = false };
-        past = λ e l u. absurd (omega arith);
-        ahead = λ e l takes. (let part = part_is One (f e) takes in let most = is.passed.behind e in omega (arith, part.come));
         behind = λ e. (let most = is.passed.behind e in omega arith);
         kept = visits_next phase.Opening One f n (omega arith) refl is.passed;
+        stages = λ e l. absurd (omega arith);
       }
 
 -- PHASE 1 IS OVER
@@ -149,7 +148,7 @@ module _ (f : Answers) (n : Notes) (is : IsOver phase.One f n) where
 
   -- phase 2 begins with the proposal
   pub begins_two : (value : List ℕ) → or_else n.best.inp n.of.input ≡ Some value
-      → IsPassed phase.Two f (record n { phase = phase.Two; says = record { mbal = n.says.mbal; bal = n.says.mbal; inp = Some value; mark = false } }) 0
+      → IsTurned phase.Two f (record n { phase = phase.Two; says = record { mbal = n.says.mbal; bal = n.says.mbal; inp = Some value; mark = false } }) 0
   begins_two value value_is =
       let s = n.of in
       let proposed : proposal s f ≡ Some value = sym proposal_is ∙ value_is in
@@ -161,10 +160,9 @@ module _ (f : Answers) (n : Notes) (is : IsOver phase.One f n) where
         not_outrun = not_above s Two f (λ e. row_none Two (f e) (let l = is.passed.behind e in omega arith));
         opened = is.passed.opened;
         says_is = λ i. record { mbal = b i; bal = b i; inp = Some (some i); mark = false };
-        past = λ e l u. absurd (omega arith);
-        ahead = λ e l takes. (let part = part_is Two (f e) takes in let most = is.passed.behind e in omega (arith, part.come));
         behind = λ e. (let most = is.passed.behind e in omega arith);
         kept = visits_next phase.One Two f n (omega arith) refl is.passed;
+        stages = λ e l. absurd (omega arith);
       }
 
 -- PHASE 2 IS OVER

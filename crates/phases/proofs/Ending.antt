@@ -1,4 +1,4 @@
--- What follows once a disk of a phase was begun on, or all were done with.
+-- What follows once the lowest disk that waits is known, or all are done with.
 use Rattle.std.specs.Prelude.{nat_lt, nat_le}
 use Rattle.std.proofs.Common.{◌≡◌, ◌*◌, ◌<◌, ◌≤◌, ◌&&◌, not, ℕ, Bool, true, false, Option, Some, None, length, refl, sym, ap, ◌∙◌, arith}
 use Rattle.std.proofs.lemmas.Bool.{lt-ltb, and_parts, leb-true}
@@ -35,7 +35,7 @@ module _ (q : code_phase.Phase) (f : Answers) (n : Notes) (at : Option ℕ) (is 
   enough_is : are_enough n.of (is_left n.of (phase_in q) f) ≡ keeps_majority n
   enough_is = ap (λ (k : ℕ). nat_lt n.of.disks (2 * k)) (sym (count_same n.of.disks (λ e. (visit_at n.visits e).left) (is_left n.of (phase_in q) f) left_is_kept))
 
--- where the phase begins on a disk, that is the first that waits
+-- a disk that waits, where none below it does, is the first that waits
 begun_at : (q : code_phase.Phase) (f : Answers) (n : Notes) → IsBegun q f n → IsAt q f n (Some n.disk)
 begun_at q f n is = record {
   visits = below_some n.of.disks (λ e. waits n.of (phase_in q) (f e)) n.disk (record { below = is.there; passes = is.waiting; none = λ e l. is.passed.past e l (let there = is.there in omega arith) });
@@ -86,23 +86,20 @@ ballot_few s f Two says is opened few = ap (λ (x : Said). x.mbal) is ∙ sym op
 
 -- WHAT FOLLOWS
 
--- a call is due on the disk that was begun on
+-- calls are due
 pub visits_one : (f : Answers) (n : Notes) → IsBegun n.phase f n → keeps_majority n ≡ true → n.end ≡ None → Follows f n
 visits_one f n is enough going =
     let p = phase_in n.phase in
     let at = begun_at n.phase f n is in
-    let waiting = waiting_is n.of p (f n.disk) is.waiting in
     follows f n going is.passed.opened (record {
       rows = is.passed.rows;
       status = statuses.due_if n.of f p n.disk (record { come = is.passed.come; not_outrun = is.passed.not_outrun; visits = at.visits; enough = enough_is n.phase f n (Some n.disk) at ∙ enough });
-      suits = is.suits;
-      answers = is.passed.ahead n.disk (omega arith) (part_if p (f n.disk) waiting.part) ∙ sym is.answers;
       says = is.passed.says_is;
       visits = record {
         left = left_is_kept n.phase f n (Some n.disk) at;
         each = λ e l left. is.passed.kept.each e l (ap (λ (o : Option ℕ). is_left_at o n.of p f e) (sym at.visits) ∙ left);
       };
-      writes = is.writes;
+      stages = is.passed.stages;
     })
 
 few_at : (q : code_phase.Phase) (f : Answers) (n : Notes) (at : Option ℕ) (from : ℕ) → IsAt q f n at → IsPassed q f n from → keeps_majority n ≡ false → Follows f (record n { end = Some end.NoMajority })
@@ -113,7 +110,7 @@ few_at q f n at from here is few =
       stands = statuses.few n.of f (record { phase = phase_in q; come = is.come; not_outrun = is.not_outrun; few = left });
     }
 
--- too few disks are left, whether one was begun on or not
+-- too few disks are left, whether one waits or not
 pub few_left : (q : code_phase.Phase) (f : Answers) (n : Notes) (begun : Bool) → (begun ≡ true → IsBegun q f n) → (begun ≡ false → IsPassed q f n n.of.disks) → keeps_majority n ≡ false
     → Follows f (record n { end = Some end.NoMajority })
 few_left q f n true is other few = let one = is refl in few_at q f n (Some n.disk) n.disk (begun_at q f n one) one.passed few

@@ -3,6 +3,8 @@ pub mod Beginning
 pub mod Calling
 pub mod Ending
 pub mod Hearing
+pub mod Preparing
+pub mod Sound
 pub mod Starting
 pub mod Taking
 pub mod Visiting

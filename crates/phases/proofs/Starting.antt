@@ -14,13 +14,12 @@ use Rattle.attempt.proofs.Firsts.{below_some}
 use Rattle.attempt.proofs.Rows.{best_none}
 use Rattle.attempt.proofs.Statuses as statuses
 use Rattle.phases.specs.declared.phase.Phase.TheVariants as phase
-use Rattle.phases.specs.declared.phase.Stage.TheVariants as stage
 use Rattle.phases.specs.declared.visit.Visit.{Visit}
 use Rattle.phases.specs.declared.visit.TheConstants.{UNSEEN}
 use Rattle.torn_block.specs.Layout.{Version}
 use Rattle.paxos_block.proofs.RowLemmas.{blank_reads}
 use Rattle.phases.specs.Notes.{Notes, visit_at}
-use Rattle.phases.specs.Kept.{Remembers, LeadsTo}
+use Rattle.phases.specs.Kept.{Remembers, IsStaged, LeadsTo}
 use Rattle.phases.proofs.Beginning.{greatest_zero}
 use Rattle.phases.proofs.Hearing.{follows}
 
@@ -54,11 +53,10 @@ starts : (s : Setup) (visits : List Visit) → 0 < s.disks → ((e : ℕ) → e 
       visits = visits;
       phase = phase.Opening;
       disk = 0;
-      stage = stage.Attaching;
       end = None;
     })
 starts s visits some unseen_all =
-    let n : Notes = record { of = s; highest = s.floor; best = blank; decided = None; says = blank; visits = visits; phase = phase.Opening; disk = 0; stage = stage.Attaching; end = None } in
+    let n : Notes = record { of = s; highest = s.floor; best = blank; decided = None; says = blank; visits = visits; phase = phase.Opening; disk = 0; end = None } in
     record {
       of = refl;
       history = tt;
@@ -74,14 +72,12 @@ starts s visits some unseen_all =
           visits = below_some s.disks (λ d. waits s Opening []) 0 (record { below = some; passes = refl; none = λ e l. absurd (omega arith) });
           enough = lt-ltb s.disks (2 * count s.disks (λ d. true)) (let all = all_count s.disks in omega arith);
         });
-        suits = tt;
-        answers = refl;
         says = refl;
         visits = record {
           left = λ e l. ap (λ (v : Visit). v.left) (unseen_all e l);
           each = λ e l left. subst (Remembers s.version s.host []) (sym (unseen_all e l)) (unseen s.version s.host);
         };
-        writes = tt;
+        stages = λ e l u takes. subst (IsStaged phase.Opening s blank []) (sym (unseen_all e u)) (record { spent = refl; next = λ free. record { suits = tt; answers = refl; writes = tt } });
       });
     }
 
@@ -96,9 +92,8 @@ pub starts_with : (s : Setup) (visits : List Visit) (best says : Said) → best 
       visits = visits;
       phase = phase.Opening;
       disk = 0;
-      stage = stage.Attaching;
       end = None;
     })
 starts_with s visits best says best_is says_is some unseen_all =
-    let with : Said → Said → Notes = λ x y. record { of = s; highest = s.floor; best = x; decided = None; says = y; visits = visits; phase = phase.Opening; disk = 0; stage = stage.Attaching; end = None } in
+    let with : Said → Said → Notes = λ x y. record { of = s; highest = s.floor; best = x; decided = None; says = y; visits = visits; phase = phase.Opening; disk = 0; end = None } in
     subst (λ (x : Said). LeadsTo s [] (with x says)) (sym best_is) (subst (λ (y : Said). LeadsTo s [] (with blank y)) (sym says_is) (starts s visits some unseen_all))

@@ -31,8 +31,8 @@ use Rattle.phases.specs.Calls.{phase_in}
 use Rattle.phases.specs.Notes.{Notes, IsSound, SaysWell, visit_at}
 use Rattle.phases.specs.Kept.{IsVisiting, Follows}
 use Rattle.phases.specs.Moves.{IsOpenedIn, IsInOrder, IsPassed, above, outruns, noted}
-use Rattle.phases.proofs.Hearing.{IsDue, same_rows_kept, due_there, come_kept, says_kept, opened_then}
-use Rattle.phases.proofs.Answering.{is_last, is_read, reads}
+use Rattle.phases.proofs.Hearing.{IsDue, same_rows_kept, due_lowest, come_kept, says_kept, opened_then}
+use Rattle.phases.proofs.Answering.{is_last, reads}
 
 -- WHAT A ROW SAYS OF ITS HOST
 
@@ -96,7 +96,7 @@ some_above : (others k : ℕ) (b : Bool) → (if b then Some others else None) �
 some_above others k true e = (refl, cc)
 some_above others k false e = absurd (cc)
 
-module _ (q : code_phase.Phase) (f : Answers) (n : Notes) (v : IsVisiting q f n) (order : IsInOrder n.of (phase_in q) n.disk f) (at : n.stage ≡ stage.Reading) (row : List DecodedBlock) where
+module _ (q : code_phase.Phase) (f : Answers) (n : Notes) (v : IsVisiting q f n) (order : IsInOrder n.of (phase_in q) n.disk f) (at : (visit_at n.visits n.disk).stage ≡ stage.Reading) (row : List DecodedBlock) where
   abbrev p : Phase
   p = phase_in q
 
@@ -109,11 +109,11 @@ module _ (q : code_phase.Phase) (f : Answers) (n : Notes) (v : IsVisiting q f n)
   abbrev f' : Answers
   f' = more f n.disk (Told (Some row))
 
-  due : IsDue s p d f
-  due = due_there q f n v order
+  due : IsDue s p d d f
+  due = due_lowest q f n v order
 
   last : IsLast s p d f
-  last = is_last q f n v order at row
+  last = is_last q f n v order d due refl at row
 
   -- the rows before stay, and the ballot with them
   kept : (r : Phase) → goal r ≤ start p → AreSameRows r f' f
@@ -146,9 +146,9 @@ module _ (q : code_phase.Phase) (f : Answers) (n : Notes) (v : IsVisiting q f n)
       let mbal = mbal_is b in
       let top : others_mbal s p f' ≡ k = omega (arith, before, takes, same, high, mbal, is.1) in
       record {
-        ballot = ap (λ (x : Said). x.mbal) (v.says ∙ sym (says_kept s p d f (Told (Some row)) due)) ∙ b' ∙ sym (opened (opened_then s p d f (Told (Some row)) due (is_read q f n v order at row)));
+        ballot = ap (λ (x : Said). x.mbal) (v.says ∙ sym (says_kept s p d d f (Told (Some row)) due)) ∙ b' ∙ sym (opened (opened_then s p d d f (Told (Some row)) due row refl refl last.last));
         stands =
-            ends (come_kept s p d f (Told (Some row)) due) enough (lt-ltb (ballot s f') (others_mbal s p f') (omega (arith, before, takes, same, high, mbal)))
+            ends (come_kept s p d d f (Told (Some row)) due) enough (lt-ltb (ballot s f') (others_mbal s p f') (omega (arith, before, takes, same, high, mbal)))
             ∙ ap (λ (m : ℕ). Ended (Outrun m)) top;
       }
     where
@@ -162,12 +162,13 @@ module _ (q : code_phase.Phase) (f : Answers) (n : Notes) (v : IsVisiting q f n)
           (statuses.enough_part s p f due.at.enough))
 
 -- the row ends the phase on its disk
-pub row_passes : (q : code_phase.Phase) (f : Answers) (n : Notes) (v : IsVisiting q f n) (order : IsInOrder n.of (phase_in q) n.disk f) → n.stage ≡ stage.Reading → (row : List DecodedBlock) → n.disk < length n.visits → (V : Type 0) (spelled : V → List ℕ) (cell : Cell V)
+pub row_passes : (q : code_phase.Phase) (f : Answers) (n : Notes) (v : IsVisiting q f n) (order : IsInOrder n.of (phase_in q) n.disk f) → (visit_at n.visits n.disk).stage ≡ stage.Reading → (row : List DecodedBlock) → n.disk < length n.visits → (V : Type 0) (spelled : V → List ℕ) (cell : Cell V)
     → IsSeenAs n.of.version spelled (seen_at row n.of.host) cell → outruns q n row ≡ None
     → IsPassed q (more f n.disk (Told (Some row))) (record (noted q n row) { visits = slice_set n.visits n.disk (record (visit_at n.visits n.disk) { block = cell.block }) }) (n.disk + 1)
 row_passes phase.Opening f n v order at row room V spelled cell shows none =
-    let last = is_last phase.Opening f n v order at row in
-    reads phase.Opening f n v order at row room V spelled cell shows _ _ _ (record {
+    let due = due_lowest phase.Opening f n v order in
+    let last = is_last phase.Opening f n v order n.disk due refl at row in
+    reads phase.Opening f n v order n.disk due refl at row room V spelled cell shows _ _ _ (record {
       highest = ap (λ (k : ℕ). max k (highest_mbal n.of.version row)) v.rows.highest ∙ sym (highest_takes n.of f n.disk row last);
       best =
           ap (λ (x : Said). later_of x (says_in row n.of.host)) v.rows.best
@@ -177,18 +178,20 @@ row_passes phase.Opening f n v order at row room V spelled cell shows none =
 row_passes phase.One f n v order at row room V spelled cell shows none =
     let g = more f n.disk (Told (Some row)) in
     let opening : AreSameRows Opening g f = kept phase.One f n v order at row Opening (omega arith) in
-    reads phase.One f n v order at row room V spelled cell shows _ _ _ (record {
+    let due = due_lowest phase.One f n v order in
+    reads phase.One f n v order n.disk due refl at row room V spelled cell shows _ _ _ (record {
       highest = v.rows.highest ∙ sym (highest_same n.of g f opening);
-      best = ap (latest_in n.of.version n.of.host row) v.rows.best ∙ sym (best_takes n.of f n.disk row (is_last phase.One f n v order at row));
+      best = ap (latest_in n.of.version n.of.host row) v.rows.best ∙ sym (best_takes n.of f n.disk row (is_last phase.One f n v order n.disk due refl at row));
       decided = v.rows.decided ∙ sym (decided_same n.of g f opening);
     }) (runs phase.One f n v order at row (omega arith) refl (λ run. run) none)
 row_passes phase.Two f n v order at row room V spelled cell shows none =
     let g = more f n.disk (Told (Some row)) in
-    reads phase.Two f n v order at row room V spelled cell shows _ _ _ (same_rows_kept n.of f g n.highest n.best n.decided (kept phase.Two f n v order at row Opening (omega arith)) (kept phase.Two f n v order at row One (omega arith)) v.rows)
+    let due = due_lowest phase.Two f n v order in
+    reads phase.Two f n v order n.disk due refl at row room V spelled cell shows _ _ _ (same_rows_kept n.of f g n.highest n.best n.decided (kept phase.Two f n v order at row Opening (omega arith)) (kept phase.Two f n v order at row One (omega arith)) v.rows)
     (runs phase.Two f n v order at row (omega arith) refl (λ run. run) none)
 
 -- or the attempt
-pub row_ends : (q : code_phase.Phase) (f : Answers) (n : Notes) (v : IsVisiting q f n) (order : IsInOrder n.of (phase_in q) n.disk f) → n.stage ≡ stage.Reading → (row : List DecodedBlock) (k : ℕ) → outruns q n row ≡ Some k
+pub row_ends : (q : code_phase.Phase) (f : Answers) (n : Notes) (v : IsVisiting q f n) (order : IsInOrder n.of (phase_in q) n.disk f) → (visit_at n.visits n.disk).stage ≡ stage.Reading → (row : List DecodedBlock) (k : ℕ) → outruns q n row ≡ Some k
     → Follows (more f n.disk (Told (Some row))) (record n { end = Some (end.Outrun k) })
 row_ends phase.Opening f n v order at row k some = absurd (cc)
 row_ends phase.One f n v order at row k some =

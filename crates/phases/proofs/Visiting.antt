@@ -1,28 +1,18 @@
--- What becomes of the disks of a phase where one is passed over, dropped, or begun on.
-use Rattle.std.specs.Prelude.{nat_lt, nat_le, slice_set}
+-- What becomes of the disks of a phase where one is passed over, or is the lowest that waits.
+use Rattle.std.specs.Prelude.{nat_lt, slice_set}
 use Rattle.std.proofs.Common.{◌≡◌, ◌≢◌, ◌+◌, ◌<◌, ◌≤◌, ◌&&◌, not, ℕ, Bool, true, false, Some, List, [], ◌∷◌, length, inl, inr, refl, sym, subst, ap, ◌∙◌, arith}
-use Rattle.std.proofs.lemmas.Bool.{cases_eq, cases_lt, le-ltb, lt-ltb, and_left, and_right, eq-eqb}
+use Rattle.std.proofs.lemmas.Bool.{cases_eq, cases_lt, le-ltb, lt-ltb, and_left, and_right}
 use Rattle.std.proofs.lemmas.List.{get_or-set_same, get_or-set_other}
-use Rattle.torn_block.specs.declared.layout.TheConstants.{LAST_SEQUENCE}
-use Rattle.torn_block.specs.declared.write_steps.WriteCall.TheVariants.{CloseGate}
-use Rattle.torn_block.specs.Block.{next_number}
-use Rattle.torn_block.specs.Plan.{plan_by, told_number}
-use Rattle.paxos_block.specs.Saying.{body_saying}
-use Rattle.paxos_block.proofs.VoteLemmas.{spent, unspent}
-use Rattle.attempt.specs.Calls.{Phase, Opening, start, goal}
-use Rattle.attempt.specs.Answers.{Heard, Answers, last_row, seen_block}
+use Rattle.attempt.specs.Calls.{Phase, start, goal}
+use Rattle.attempt.specs.Answers.{Heard, Answers}
 use Rattle.attempt.specs.Setup.{Setup}
 use Rattle.attempt.specs.Visits.{is_stuck, takes_part, waits, is_left_at}
 use Rattle.attempt.proofs.Visitors.{part_is, waiting_if}
 use Rattle.phases.specs.declared.phase.Phase as code_phase
-use Rattle.phases.specs.declared.phase.Phase.TheVariants as phase
-use Rattle.phases.specs.declared.phase.Stage.{Stage}
-use Rattle.phases.specs.declared.phase.Stage.TheVariants as stage
 use Rattle.phases.specs.declared.visit.Visit.{Visit}
 use Rattle.phases.specs.Calls.{phase_in}
 use Rattle.phases.specs.Notes.{Notes, no_visit, visit_at}
-use Rattle.phases.specs.Steps.{answered, Suits}
-use Rattle.phases.specs.Kept.{Remembers, Writes}
+use Rattle.phases.specs.Kept.{Remembers, IsStaged}
 use Rattle.phases.specs.Moves.{IsPassed, IsBegun}
 
 -- WHICH DISKS ARE LEFT
@@ -45,10 +35,13 @@ once true true = refl
 once true false = refl
 once false k = refl
 
+-- from the lowest disk that waits on, nothing is due to a spent block yet
+pub left_from : (s : Setup) (p : Phase) (f : Answers) (at d : ℕ) → at ≤ d → is_left_at (Some at) s p f d ≡ takes_part p (f d)
+left_from s p f at d high = ap (λ (t : Bool). takes_part p (f d) && not (is_stuck s p (f d) && t)) (le-ltb d at high) ∙ never (takes_part p (f d)) (is_stuck s p (f d))
+
 module _ (s : Setup) (p : Phase) (f : Answers) (d : ℕ) where
-  -- on the next disk nothing is due to a spent block yet
   pub left_here : is_left_at (Some d) s p f d ≡ takes_part p (f d)
-  left_here = ap (λ (t : Bool). takes_part p (f d) && not (is_stuck s p (f d) && t)) (le-ltb d d (omega arith)) ∙ never (takes_part p (f d)) (is_stuck s p (f d))
+  left_here = left_from s p f d d (omega arith)
 
   -- once it is passed it is
   pub left_then : is_left_at (Some (d + 1)) s p f d ≡ (takes_part p (f d) && not (is_stuck s p (f d)))
@@ -101,6 +94,7 @@ module _ (q : code_phase.Phase) (f : Answers) (n : Notes) (d : ℕ) (there : d <
         | inr off ↦ subst (Remembers s.version s.host (f e)) (sym (others e off)) (is.kept.each e l (sym (left_there s p f d e off) ∙ left))
       ];
     };
+    stages = λ e l u takes. subst (IsStaged q s n.says (f e)) (sym (others e (λ same. omega arith))) (is.stages e (omega arith) u takes);
   }
 
   -- so is one that was dropped before
@@ -112,59 +106,24 @@ module _ (q : code_phase.Phase) (f : Answers) (n : Notes) (d : ℕ) (there : d <
     abbrev visit : Visit
     visit = visit_at n.visits d
 
-    here : is_left_at (Some d) s p f d ≡ true
-    here = sym (is.kept.left d there) ∙ left
-
     takes : takes_part p (f d) ≡ true
-    takes = sym (left_here s p f d) ∙ here
+    takes = sym (left_here s p f d) ∙ sym (is.kept.left d there) ∙ left
 
-    begins : length (f d) ≡ start p
-    begins = is.ahead d (omega arith) takes
-
-    remembers : Remembers s.version s.host (f d) visit
-    remembers = is.kept.each d there here
-
-    stuck_is : is_stuck s p (f d) ≡ nat_le LAST_SEQUENCE (seen_block (last_row (f d)) s.host).sequence
-    stuck_is = ap (λ (t : Bool). t && nat_le LAST_SEQUENCE (seen_block (last_row (f d)) s.host).sequence) (eq-eqb (length (f d)) (start p) begins)
+    staged : IsStaged q s n.says (f d) visit
+    staged = is.stages d (omega arith) there takes
 
     -- its write is due to a spent block, so it is dropped
-    pub passes_spent : ¬ (next_number (told_number visit.block) ≤ LAST_SEQUENCE) → d < length n.visits
-        → IsPassed q f (record n { visits = slice_set n.visits d (record visit { left = false }) }) (d + 1)
-    passes_spent over room =
-        let stuck : is_stuck s p (f d) ≡ true = stuck_is ∙ spent (told_number visit.block) (seen_block (last_row (f d)) s.host).sequence remembers.sequence over in
+    pub passes_spent : visit.spent ≡ true → d < length n.visits → IsPassed q f (record n { visits = slice_set n.visits d (record visit { left = false }) }) (d + 1)
+    passes_spent spent room =
+        let stuck : is_stuck s p (f d) ≡ true = sym staged.spent ∙ spent in
         let new : Visit = record visit { left = false } in
         goes_by (left_then s p f d ∙ and_right (takes_part p (f d)) (not (is_stuck s p (f d))) (ap not stuck)) (slice_set n.visits d new)
         (λ e off. get_or-set_other n.visits d e new no_visit off) (ap (λ (v : Visit). v.left) (get_or-set_same n.visits d new no_visit room))
 
-    short : (r : code_phase.Phase) → start (phase_in r) < goal (phase_in r)
-    short phase.Opening = omega arith
-    short phase.One = omega arith
-    short phase.Two = omega arith
-
-    -- the phase begins on it
-    begins_on : is_stuck s p (f d) ≡ false → (st : Stage) → Suits q st → answered p st ≡ start p → Writes n.of.version st n.says visit → IsBegun q f (record n { disk = d; stage = st })
-    begins_on free st suits first writes = record {
+    -- or it is the lowest that waits
+    pub begins_on : visit.spent ≡ false → IsBegun q f (record n { disk = d })
+    begins_on free = record {
       passed = is;
       there = there;
-      waiting = waiting_if s p (f d) (record { part = part_is p (f d) takes; short = (let less = short q in omega (arith, begins)); unspent = free });
-      suits = suits;
-      answers = first;
-      writes = writes;
+      waiting = waiting_if s p (f d) (record { part = part_is p (f d) takes; short = is.ahead d (omega arith) takes; unspent = sym staged.spent ∙ free });
     }
-
-    -- with its write
-    pub begins_write : q ≢ phase.Opening → next_number (told_number visit.block) ≤ LAST_SEQUENCE
-        → IsBegun q f (record n { disk = d; stage = stage.Writing (plan_by n.of.version visit.block (body_saying n.of.version n.says)) })
-    begins_write later room =
-        begins_on (stuck_is ∙ unspent (told_number visit.block) (seen_block (last_row (f d)) s.host).sequence remembers.sequence room)
-        (stage.Writing (plan_by n.of.version visit.block (body_saying n.of.version n.says))) (suits q later) (omega arith) (record { call = CloseGate; is = refl })
-      where
-        suits : (r : code_phase.Phase) → r ≢ phase.Opening → Suits r (stage.Writing (plan_by n.of.version visit.block (body_saying n.of.version n.says)))
-        suits phase.Opening other = other refl
-        suits phase.One other = tt
-        suits phase.Two other = tt
-
--- the opening begins on a disk that is left
-pub begins_opening : (f : Answers) (n : Notes) (d : ℕ) → d < n.of.disks → IsPassed phase.Opening f n d → (visit_at n.visits d).left ≡ true → IsBegun phase.Opening f (record n { disk = d; stage = stage.Attaching })
-begins_opening f n d there is left =
-    begins_on phase.Opening f n d there is left (ap (is_stuck n.of Opening) (no_answers (f d) (begins phase.Opening f n d there is left))) stage.Attaching tt refl tt

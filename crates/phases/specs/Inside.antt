@@ -17,6 +17,5 @@ notes_in v spelled a = record {
   visits = a.visits;
   phase = a.phase;
   disk = a.disk;
-  stage = a.stage;
   end = option_map (end_as spelled) a.end;
 }

@@ -1,5 +1,5 @@
 -- When what an attempt keeps is what follows from a list of answers.
-use Rattle.std.specs.Prelude.{◌≡◌, ◌<◌, ℕ, Bool, true, List, length, Option, Some, None}
+use Rattle.std.specs.Prelude.{◌≡◌, ◌<◌, ◌≤◌, ◌==◌, ◌&&◌, ◌||◌, not, ℕ, Bool, true, false, List, length, nat_lt, is_none, Option, Some, None, if◌then◌else◌}
 use Rattle.disk.specs.Disk as device
 use Rattle.torn_block.specs.Layout.{Version, row_length}
 use Rattle.torn_block.specs.declared.write_steps.WriteCall.{WriteCall}
@@ -9,21 +9,21 @@ use Rattle.paxos_block.specs.Row.{number_or_zero}
 use Rattle.paxos_block.specs.Places.{place_of, VoteOf, row_place}
 use Rattle.attempt.specs.Answers.{Heard, Answered, Answers, on, last_row, seen_block, boot_of}
 use Rattle.attempt.specs.Setup.{Setup}
-use Rattle.attempt.specs.Visits.{is_left}
+use Rattle.attempt.specs.Visits.{is_stuck, takes_part, is_left}
 use Rattle.attempt.specs.Proposal.{highest, best, decided}
 use Rattle.attempt.specs.Status.{End, Status, Due, Ended, status, taken}
 use Rattle.attempt.specs.NextCall.{says_for}
 use Rattle.attempt.specs.History.{IsHistory}
 use Rattle.phases.specs.Calls.{phase_in, Ending, end_of}
 use Rattle.phases.specs.Notes.{Notes, visit_at}
-use Rattle.phases.specs.Steps.{answered, Suits}
+use Rattle.phases.specs.Steps.{answered, Suits, is_reading}
 use Rattle.attempt.specs.WriteCalls.{write_due}
 use Rattle.phases.specs.declared.phase.Phase as code_phase
 use Rattle.phases.specs.declared.phase.Stage.{Stage}
 use Rattle.phases.specs.declared.phase.Stage.TheVariants as stage
 use Rattle.phases.specs.declared.visit.Visit.{Visit}
 
--- THE CALL THAT IS DUE
+-- THE CALLS THAT ARE DUE
 
 abbrev pub call_at : Stage → ℕ → Setup → device.Call
 call_at stage.Attaching boot s = device.Attach
@@ -31,11 +31,26 @@ call_at stage.Syncing boot s = device.Sync boot
 call_at (stage.Writing plan) boot s = write_due (place_of s.version (VoteOf s.slot s.host)) boot plan plan.due
 call_at stage.Reading boot s = device.Read boot (row_place s.version s.slot) (row_length s.version)
 
--- on the disk that is visited
-abbrev pub call_due : Notes → ℕ × device.Call
-call_due n = (n.disk, call_at n.stage (visit_at n.visits n.disk).boot.number n.of)
+-- what comes next on a disk
+abbrev pub call_there : Notes → ℕ → device.Call
+call_there n d = call_at (visit_at n.visits d).stage (visit_at n.visits d).boot.number n.of
 
--- an answer to it
+-- on the lowest disk that waits
+abbrev pub call_due : Notes → ℕ × device.Call
+call_due n = (n.disk, call_there n n.disk)
+
+-- on a disk above it too, unless it was dropped, has no sequence number left for its write, or is to read its row
+abbrev pub is_ready : Visit → Bool
+is_ready visit = visit.left && not visit.spent && not (is_reading visit.stage)
+
+abbrev pub may_call : Notes → ℕ → Bool
+may_call n d = is_none n.end && nat_lt d n.of.disks && ((d == n.disk) || (nat_lt n.disk d && is_ready (visit_at n.visits d)))
+
+-- the call that may be made on a disk, by what is kept
+abbrev pub due_on : Notes → ℕ → Option device.Call
+due_on n d = if may_call n d then Some (call_there n d) else None
+
+-- an answer to the call on the lowest disk that waits
 abbrev pub answer_of : Notes → Heard → Answered
 answer_of n heard = record { disk = n.disk; heard = heard }
 
@@ -71,15 +86,29 @@ abbrev pub Writes : Version → Stage → Said → Visit → Type 0
 Writes v (stage.Writing plan) says visit = IsWriting v says visit plan
 Writes v other says visit = Unit {0}
 
--- in this phase a call is due on the disk that is visited
+-- its next call of the phase is kept
+pub record IsMidway (q : code_phase.Phase) (s : Setup) (says : Said) (a : List Heard) (visit : Visit) : Type 0 where
+  pub suits : Suits q visit.stage
+  pub answers : length a ≡ answered (phase_in q) visit.stage
+  pub writes : Writes s.version visit.stage says visit
+
+-- so it is unless its write is due to a spent block
+pub record IsStaged (q : code_phase.Phase) (s : Setup) (says : Said) (a : List Heard) (visit : Visit) : Type 0 where
+  pub spent : visit.spent ≡ is_stuck s (phase_in q) a
+  pub next : visit.spent ≡ false → IsMidway q s says a visit
+
+-- on each disk from one on that takes part in the phase
+abbrev pub AreStaged : code_phase.Phase → Setup → Answers → Said → List Visit → ℕ → Type 0
+AreStaged q s f says visits from =
+    (e : ℕ) → from ≤ e → e < s.disks → takes_part (phase_in q) (f e) ≡ true → IsStaged q s says (f e) (visit_at visits e)
+
+-- in this phase calls are due, and this disk is the lowest that waits
 pub record IsVisiting (q : code_phase.Phase) (f : Answers) (n : Notes) : Type 0 where
   pub rows : KeepsRows n.of f n.highest n.best n.decided
   pub status : status n.of f ≡ Due (phase_in q) n.disk
-  pub suits : Suits q n.stage
-  pub answers : length (f n.disk) ≡ answered (phase_in q) n.stage
   pub says : n.says ≡ says_for n.of (phase_in q) f
   pub visits : KeepsVisits n.of f (is_left n.of (phase_in q) f) n.visits
-  pub writes : Writes n.of.version n.stage n.says (visit_at n.visits n.disk)
+  pub stages : AreStaged q n.of f n.says n.visits n.disk
 
 abbrev pub Stands : Answers → Notes → Option Ending → Type 0
 Stands f n None = IsVisiting n.phase f n

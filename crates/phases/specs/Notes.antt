@@ -8,7 +8,7 @@ use Rattle.attempt.specs.Setup.{Setup}
 use Rattle.phases.specs.Calls.{Ending}
 use Rattle.phases.specs.declared.phase.Phase.{Phase}
 use Rattle.phases.specs.declared.phase.Phase.TheVariants.{Opening, One, Two}
-use Rattle.phases.specs.declared.phase.Stage.{Stage}
+use Rattle.phases.specs.declared.phase.Stage.TheVariants.{Attaching}
 use Rattle.phases.specs.declared.setup.Setup as code_setup
 use Rattle.phases.specs.declared.visit.Visit.{Visit}
 use Rattle.phases.specs.Steps.{IsDueIn}
@@ -16,8 +16,8 @@ use Rattle.phases.specs.Steps.{IsDueIn}
 abbrev pub setup_in : {V : Type 0} → Version → (V → List ℕ) → code_setup.Setup V → Setup
 setup_in v spelled of = record { version = v; host = of.host; slot = of.slot; disks = of.disks; floor = of.floor; input = option_map spelled of.input }
 
--- what it is of; what its ballot and its proposal go by; what was decided; what it says; each disk's visit; and the call that is due, or
--- the end
+-- what it is of; what its ballot and its proposal go by; what was decided; what it says; each disk's visit; the phase, and the lowest disk
+-- that waits for it; and the end
 pub record Notes : Type 0 where
   pub of : Setup
   pub highest : ℕ
@@ -27,13 +27,12 @@ pub record Notes : Type 0 where
   pub visits : List Visit
   pub phase : Phase
   pub disk : ℕ
-  pub stage : Stage
   pub end : Option Ending
 
 -- past the last disk
 abbrev pub no_visit : Visit
 no_visit =
-    record { left = false; boot = record { number = 0 }; block = record { current = None; sequence = 0; next_is_open = false } }
+    record { left = false; boot = record { number = 0 }; block = record { current = None; sequence = 0; next_is_open = false }; spent = false; stage = Attaching }
 
 -- what is kept of a disk
 abbrev pub visit_at : List Visit → ℕ → Visit
@@ -51,4 +50,4 @@ pub record IsSound (n : Notes) : Type 0 where
   pub visits_one : n.disk < n.of.disks
   pub few : n.of.disks ≤ DISKS
   pub said : SaysWell n.phase n
-  pub due : IsDueIn n.of.version n.stage
+  pub due : (disk : ℕ) → disk < n.of.disks → IsDueIn n.of.version (visit_at n.visits disk).stage

@@ -1,5 +1,5 @@
 -- Where an attempt is with the calls of a phase on one disk.
-use Rattle.std.specs.Prelude.{◌≡◌, ◌+◌, ℕ, pred, true, Option, Some, None, is_some}
+use Rattle.std.specs.Prelude.{◌≡◌, ◌+◌, ℕ, pred, Bool, true, false, Option, Some, None, is_some}
 use Rattle.torn_block.specs.declared.write_steps.WriteCall.{WriteCall}
 use Rattle.torn_block.specs.Plan.{Plan, next_after}
 use Rattle.torn_block.specs.Layout.{Version, copy_length}
@@ -27,6 +27,11 @@ Suits phase.One stage.Syncing = ⊥
 Suits phase.Two stage.Attaching = ⊥
 Suits phase.Two stage.Syncing = ⊥
 Suits p other = Unit {0}
+
+-- the row is read next
+abbrev pub is_reading : Stage → Bool
+is_reading stage.Reading = true
+is_reading other = false
 
 -- of a write under way a call is due, and its copies have their length
 abbrev pub IsDueIn : Version → Stage → Type 0

@@ -2,19 +2,22 @@ ghost use Rattle.std.specs.Prelude.{◌≡◌, ◌≢◌, ◌<◌, ◌≤◌, �
 ghost use Rattle.std.specs.Bool.{OnTrue, OnFalse};
 ghost use Rattle.torn_block.specs.declared.layout.TheConstants.{COPY_ROOM, DISKS};
 ghost use Rattle.torn_block.specs.Layout.{Version, hosts_in, row_length};
+ghost use Rattle.torn_block.specs.Plan.{body_in};
 ghost use Rattle.paxos_block.specs.Places.{place_of, row_place, VoteOf};
+ghost use Rattle.paxos_block.specs.Saying.{body_saying};
 ghost use Rattle.paxos_block.specs.Row.{decoded_row};
 ghost use Rattle.attempt.specs.Answers as answers;
 ghost use Rattle.attempt.specs.Answers.{Answers, Answered, on};
-ghost use Rattle.attempt.specs.History.{Fits};
+ghost use Rattle.attempt.specs.History.{Fits, IsAnswerOn};
 ghost use Rattle.attempt.specs.Laws.{IsServedAlone};
+ghost use Rattle.attempt.specs.NextCall as calls;
 ghost use Rattle.attempt.specs.NextCall.{next_call};
 ghost use Rattle.attempt.specs.Setup as attempt;
 ghost use Rattle.attempt.specs.Status.{status, taken};
 ghost use Rattle.attempt.specs.DeviceCalls.{call_of_need, device_call_of, heard_as, IsWithin};
 ghost use Rattle.phases.specs.Calls.{end_as, end_in};
-ghost use Rattle.phases.specs.Kept.{answer_of, IsSameAttempt, LeadsTo, Follows, call_due, end_of_status};
-ghost use Rattle.phases.specs.Moves.{Takes, IsPassed, IsBegun, IsOver, outruns, noted, phases_left, keeps_majority};
+ghost use Rattle.phases.specs.Kept.{answer_of, IsSameAttempt, LeadsTo, Follows, call_there, call_due, may_call, due_on, end_of_status};
+ghost use Rattle.phases.specs.Moves.{Takes, IsPassed, IsBegun, IsOver, IsTurned, outruns, noted, phases_left, keeps_majority};
 ghost use Rattle.attempt.specs.ReadRows.{ReadsGist};
 ghost use Rattle.phases.specs.Notes.{visit_at};
 ghost use Rattle.phases.specs.Room.{RowFits};
@@ -29,15 +32,16 @@ use attempt::{DeviceCall, Heard, Need};
 use disk::Boot;
 use paxos_block::{Gist, PBlock, ballot_above, block_place, encode, read_gist, row_place};
 use std::marker::Model;
-use torn_block::{BlockNeed, DISKS, Layout, WriteSteps};
+use torn_block::{BlockNeed, Body, DISKS, Layout, WriteSteps};
 
 /// The most disks of a cluster.
 const PLACES: usize = DISKS as usize;
 
 /// An attempt of a host on a slot: by Gafni and Lamport, "Disk Paxos" (2003), with blocks that survive torn writes.
 ///
-/// It asks for one device call at a time, hears the answer, and takes no memory. It visits the disks by rising number,
-/// three times: it opens each and reads the slot's row, then it promises a ballot there, then it votes for a value.
+/// It names device calls, hears the answers, and takes no memory. It has three phases on each disk: it opens the disk and reads the
+/// slot's row, then it promises a ballot there, then it votes for a value. A phase begins once all disks are done with the one before.
+/// Within it they may be called in any order, but their rows are read by rising number. `call` and `hear` do one disk after the other.
 #[derive(Drop)]
 pub struct Attempt<L: Layout> {
     of: Setup<L::Value>,
@@ -52,9 +56,8 @@ pub struct Attempt<L: Layout> {
     /// By the disks' numbers.
     visits: [Visit; PLACES],
     phase: Phase,
-    /// The disk that is visited.
+    /// The lowest disk that waits for calls of the phase.
     disk: u8,
-    stage: Stage,
     end: Option<End<L::Value>>,
 }
 
@@ -92,15 +95,14 @@ impl<L: Layout> Attempt<L> {
             best: PBlock::blank(),
             decided: None,
             says: PBlock::blank(),
-            visits: [UNSEEN; PLACES],
+            visits: [UNSEEN, UNSEEN, UNSEEN, UNSEEN, UNSEEN, UNSEEN, UNSEEN],
             phase: Phase::Opening,
             disk: 0,
-            stage: Stage::Attaching,
             end: None,
         }
     }
 
-    /// The device call that is due.
+    /// The device call that is due on the lowest disk that waits.
     pub fn call(&self) -> Need<'_>
         requires { self.now.end ≡ None }
         // The call that the definition names after these answers, with the same boot number and bytes.
@@ -112,11 +114,37 @@ impl<L: Layout> Attempt<L> {
     {
         Need {
             disk: self.disk,
-            call: self.device_call(),
+            call: self.device_call(self.disk),
         }
     }
 
-    /// Hears the answer to the call that is due.
+    /// The lowest disk that waits for calls of the phase, of an attempt that goes on.
+    pub fn lowest(&self) -> u8
+        ensures disk { result ≡ self.now.disk }
+        ensures inside { result < self.now.of.disks }
+    {
+        self.disk
+    }
+
+    /// The device call that may be made on a disk now: on the lowest that waits, and on each above it up to the phase's row.
+    pub fn call_on(&self, disk: u8) -> Option<Need<'_>>
+        // The call that the definition allows there after these answers, if any, with the same boot number and bytes.
+        ensures next { (s : attempt.Setup) (heard : List Answered) → LeadsTo s heard self.now →
+            calls.call_due s (on heard) disk ≡ option_map (λ need. device_call_of L.version need.call) result }
+        ensures due { option_map (λ need. device_call_of L.version need.call) result ≡ due_on self.now disk }
+        ensures range { IfSome result (λ need. IsWithin L.version (row_place L.version self.now.of.slot + row_length L.version) need.call) }
+        ensures disk { IfSome result (λ need. (need.disk ≡ disk) × (disk < self.now.of.disks)) }
+    {
+        if !self.may_call(disk) {
+            return None;
+        }
+        Some(Need {
+            disk,
+            call: self.device_call(disk),
+        })
+    }
+
+    /// Hears the answer to the call that is due on the lowest disk that waits.
     #[inline(always)]
     pub fn hear(&mut self, heard: &Heard<'_, L::Row>)
         requires going { self.old.end ≡ None }
@@ -130,7 +158,23 @@ impl<L: Layout> Attempt<L> {
             IsServedAlone s (answers ++ answer_of self.old (heard_as L.version L.row_bytes heard.now) ∷ []) }
         ensures same { IsSameAttempt self.old self.new }
     {
-        self.take(heard);
+        self.hear_on(self.disk, heard);
+    }
+
+    /// Hears the answer to the call that was made on a disk.
+    #[inline(always)]
+    pub fn hear_on(&mut self, disk: u8, heard: &Heard<'_, L::Row>)
+        requires fits { IsAnswerOn (due_on self.old disk) (heard_as L.version L.row_bytes heard.now) }
+        requires room { RowFits L.Value.row }
+        ensures leads { (s : attempt.Setup) (answers : List Answered) → LeadsTo s answers self.old →
+            LeadsTo s (answers ++ (record { disk = disk; heard = heard_as L.version L.row_bytes heard.now }) ∷ []) self.new }
+        ensures bound { (s : attempt.Setup) (answers : List Answered) → LeadsTo s answers self.old →
+            length (answers ++ (record { disk = disk; heard = heard_as L.version L.row_bytes heard.now }) ∷ []) ≤ 17 * s.disks }
+        ensures alone { (s : attempt.Setup) (answers : List Answered) → LeadsTo s answers self.old →
+            IsServedAlone s (answers ++ (record { disk = disk; heard = heard_as L.version L.row_bytes heard.now }) ∷ []) }
+        ensures same { IsSameAttempt self.old self.new }
+    {
+        self.take(disk, heard);
     }
 
     /// How it has ended, if it has.
@@ -153,14 +197,26 @@ impl<L: Layout> Attempt<L> {
 
 // What each answer changes.
 impl<L: Layout> Attempt<L> {
-    // The call that is due, on the disk that is visited.
-    fn device_call(&self) -> DeviceCall<'_>
-        ensures due { device_call_of L.version result ≡ (call_due self.now).1 }
+    // Whether a call may be made on a disk.
+    fn may_call(&self, disk: u8) -> bool
+        ensures { result ≡ may_call self.now disk }
+    {
+        if self.end.is_some() || disk >= self.of.disks {
+            return false;
+        }
+        disk == self.disk || (self.disk < disk && self.visits[usize::from(disk)].is_ready())
+    }
+
+    // What comes next on a disk.
+    fn device_call(&self, disk: u8) -> DeviceCall<'_>
+        requires { disk < self.now.of.disks }
+        ensures due { device_call_of L.version result ≡ call_there self.now disk }
         ensures range { IsWithin L.version (row_place L.version self.now.of.slot + row_length L.version) result }
     {
-        let boot = self.visits[usize::from(self.disk)].boot;
+        let visit = &self.visits[usize::from(disk)];
+        let boot = visit.boot;
         let slot = u32::from(self.of.slot);
-        match &self.stage {
+        match &visit.stage {
             Stage::Attaching => DeviceCall::Attach,
             Stage::Syncing => DeviceCall::Sync { boot },
             Stage::Writing(steps) => write_call(steps, block_place::<L>(slot, self.of.host), boot),
@@ -172,78 +228,80 @@ impl<L: Layout> Attempt<L> {
     }
 
     #[inline(always)]
-    fn take(&mut self, heard: &Heard<'_, L::Row>)
-        requires going { self.old.end ≡ None }
-        requires fits { FitsStage self.old.stage heard.now }
+    fn take(&mut self, disk: u8, heard: &Heard<'_, L::Row>)
+        requires may { may_call self.old disk ≡ true }
+        requires fits { FitsStage (visit_at self.old.visits disk).stage heard.now }
         requires room { RowFits L.Value.row }
         ensures of { self.new.of ≡ self.old.of }
-        ensures follows { Takes (heard_as L.version L.row_bytes heard.now) self.old self.new }
+        ensures follows { Takes disk (heard_as L.version L.row_bytes heard.now) self.old self.new }
     {
         match heard {
-            Heard::Booted(boot) => self.attach(*boot),
-            Heard::Done => self.succeed(),
-            Heard::Told(row) => self.hear_row(L::bytes_in(row)),
-            Heard::Fault(_) => self.drop_disk(),
+            Heard::Booted(boot) => self.attach(disk, *boot),
+            Heard::Done => self.succeed(disk),
+            Heard::Told(row) => self.hear_row(disk, L::bytes_in(row)),
+            Heard::Fault(_) => self.drop_disk(disk),
         }
     }
 
     // The disk was attached.
-    fn attach(&mut self, boot: Boot)
-        requires going { self.old.end ≡ None }
-        requires stage { self.old.stage ≡ Stage.Attaching }
+    fn attach(&mut self, disk: u8, boot: Boot)
+        requires may { may_call self.old disk ≡ true }
+        requires stage { (visit_at self.old.visits disk).stage ≡ Stage.Attaching }
         ensures of { self.new.of ≡ self.old.of }
-        ensures follows { Takes (answers.Booted boot.number) self.old self.new }
+        ensures follows { Takes disk (answers.Booted boot.number) self.old self.new }
     {
-        self.visits[usize::from(self.disk)].boot = boot;
-        self.stage = Stage::Syncing;
+        let visit = &mut self.visits[usize::from(disk)];
+        visit.boot = boot;
+        visit.stage = Stage::Syncing;
     }
 
     // A sync, or a call of a write, succeeded. After the last call of a write the row is read.
-    fn succeed(&mut self)
-        requires going { self.old.end ≡ None }
-        requires stage { FitsStage {R = List ℕ} self.old.stage Heard.Done }
+    fn succeed(&mut self, disk: u8)
+        requires may { may_call self.old disk ≡ true }
+        requires stage { FitsStage {R = List ℕ} (visit_at self.old.visits disk).stage Heard.Done }
         ensures of { self.new.of ≡ self.old.of }
-        ensures follows { Takes answers.Done self.old self.new }
+        ensures follows { Takes disk answers.Done self.old self.new }
     {
-        self.stage.succeed();
+        let visit = &mut self.visits[usize::from(disk)];
+        visit.stage.succeed();
     }
 
     // The bytes of a row were read. Its gist is a local variable here, and not in `hear`: a function sets up its locals at each
     // call, and most answers bring no row.
     #[inline(never)]
-    fn hear_row(&mut self, bytes: &[u8])
+    fn hear_row(&mut self, disk: u8, bytes: &[u8])
         requires room { RowFits L.Value.row }
         requires long { length bytes.now ≡ row_length L.version }
-        requires going { self.old.end ≡ None }
-        requires stage { self.old.stage ≡ Stage.Reading }
+        requires may { may_call self.old disk ≡ true }
+        requires stage { (visit_at self.old.visits disk).stage ≡ Stage.Reading }
         ensures of { self.new.of ≡ self.old.of }
-        ensures follows { Takes (answers.Told (decoded_row L.version bytes.now)) self.old self.new }
+        ensures follows { Takes disk (answers.Told (decoded_row L.version bytes.now)) self.old self.new }
     {
         match read_gist::<L>(bytes, self.of.host, &self.best) {
             Ok(gist) => self.take_row(&gist),
-            Err(_) => self.drop_disk(),
+            Err(_) => self.drop_disk(disk),
         }
     }
 
     // A bad answer drops the disk for the rest of the attempt.
-    fn drop_disk(&mut self)
-        requires { self.old.end ≡ None }
+    fn drop_disk(&mut self, disk: u8)
+        requires { may_call self.old disk ≡ true }
         ensures of { self.new.of ≡ self.old.of }
-        ensures follows { (x : answers.Heard) → answers.is_bad x ≡ true → Takes x self.old self.new }
+        ensures follows { (x : answers.Heard) → answers.is_bad x ≡ true → Takes disk x self.old self.new }
     {
-        self.visits[usize::from(self.disk)].left = false;
-        let next = self.disk + 1;
-        self.go_on(next);
+        let visit = &mut self.visits[usize::from(disk)];
+        visit.left = false;
+        self.go_on(self.disk);
     }
 
-    // The row of the phase was read.
+    // The row of the phase was read, on the lowest disk that waits.
     fn take_row(&mut self, gist: &Gist<L::Value>)
         requires going { self.old.end ≡ None }
-        requires stage { self.old.stage ≡ Stage.Reading }
+        requires stage { (visit_at self.old.visits self.old.disk).stage ≡ Stage.Reading }
         requires gist { (bytes : List ℕ) × ReadsGist L.version L.spelled self.old.of.host self.old.best bytes gist.now }
         ensures of { self.new.of ≡ self.old.of }
         ensures follows { (bytes : List ℕ) → ReadsGist L.version L.spelled self.old.of.host self.old.best bytes gist.now →
-            Takes (answers.Told (decoded_row L.version bytes)) self.old self.new }
+            Takes self.old.disk (answers.Told (decoded_row L.version bytes)) self.old self.new }
     {
         if let Some(mbal) = self.outrun_by(gist) {
             self.end = Some(End::Outrun(mbal));
@@ -302,7 +360,7 @@ impl<L: Layout> Attempt<L> {
         }
     }
 
-    // The phase is over: the next one begins. False where there is none, and the attempt ends.
+    // The phase is over: the next one begins. False where the attempt ends.
     fn begin_phase(&mut self) -> bool
         requires { self.old.end ≡ None }
         ensures of { self.new.of ≡ self.old.of }
@@ -310,6 +368,23 @@ impl<L: Layout> Attempt<L> {
         ensures going { OnTrue result (self.new.end ≡ None) }
         ensures begins { OnTrue result ((f : Answers) → IsOver self.old.phase f self.old →
             IsPassed self.new.phase f self.new 0) }
+        ensures ends { OnFalse result ((f : Answers) → IsOver self.old.phase f self.old → Follows f self.new) }
+    {
+        if !self.turn() {
+            return false;
+        }
+        self.begin_writes();
+        true
+    }
+
+    // The phase is over, and what the next one writes is known. False where there is none, and the attempt ends.
+    fn turn(&mut self) -> bool
+        requires { self.old.end ≡ None }
+        ensures of { self.new.of ≡ self.old.of }
+        ensures fewer { OnTrue result (phases_left self.new.phase < phases_left self.old.phase) }
+        ensures going { OnTrue result (self.new.end ≡ None) }
+        ensures begins { OnTrue result ((f : Answers) → IsOver self.old.phase f self.old →
+            IsTurned self.new.phase f self.new 0) }
         ensures ends { OnFalse result ((f : Answers) → IsOver self.old.phase f self.old → Follows f self.new) }
     {
         match self.phase {
@@ -333,7 +408,7 @@ impl<L: Layout> Attempt<L> {
         ensures fewer { OnTrue result (phases_left self.new.phase < phases_left self.old.phase) }
         ensures going { OnTrue result (self.new.end ≡ None) }
         ensures begins { OnTrue result ((f : Answers) → IsOver self.old.phase f self.old →
-            IsPassed self.new.phase f self.new 0) }
+            IsTurned self.new.phase f self.new 0) }
         ensures ends { OnFalse result ((f : Answers) → IsOver self.old.phase f self.old → Follows f self.new) }
     {
         if let Some(value) = self.decided {
@@ -362,7 +437,7 @@ impl<L: Layout> Attempt<L> {
         ensures fewer { OnTrue result (phases_left self.new.phase < phases_left self.old.phase) }
         ensures going { OnTrue result (self.new.end ≡ None) }
         ensures begins { OnTrue result ((f : Answers) → IsOver self.old.phase f self.old →
-            IsPassed self.new.phase f self.new 0) }
+            IsTurned self.new.phase f self.new 0) }
         ensures ends { OnFalse result ((f : Answers) → IsOver self.old.phase f self.old → Follows f self.new) }
     {
         let Some(value) = self.best.inp.or(self.of.input) else {
@@ -379,7 +454,39 @@ impl<L: Layout> Attempt<L> {
         true
     }
 
-    // Visits the next disk that is left, from this one on. True where the phase is over, with a majority left.
+    // The phase's write is prepared on each disk.
+    fn begin_writes(&mut self)
+        requires { self.old.phase ≢ Phase.Opening }
+        ensures of { self.new.of ≡ self.old.of }
+        ensures same { (self.new.phase ≡ self.old.phase) × (self.new.end ≡ self.old.end) }
+        ensures follows { (f : Answers) → IsTurned self.old.phase f self.old 0 → IsPassed self.old.phase f self.new 0 }
+    {
+        let body = encode::<L>(self.of.host, &self.says);
+        for disk in 0..self.of.disks {
+            self.begin_write(disk, &body);
+        }
+    }
+
+    // The phase's write is prepared on a disk, if the block has a sequence number left.
+    fn begin_write(&mut self, disk: u8, body: &Body)
+        requires disk { disk < self.old.of.disks }
+        requires body { body_in L.version body.now ≡ body_saying self.old.of.version self.old.says }
+        requires phase { self.old.phase ≢ Phase.Opening }
+        ensures of { self.new.of ≡ self.old.of }
+        ensures same { (self.new.phase ≡ self.old.phase) × (self.new.end ≡ self.old.end) × (self.new.says ≡ self.old.says) }
+        ensures follows { (f : Answers) → IsTurned self.old.phase f self.old disk → IsTurned self.old.phase f self.new (disk + 1) }
+    {
+        let visit = &mut self.visits[usize::from(disk)];
+        match WriteSteps::new::<L>(&visit.block, body) {
+            Ok(steps) => {
+                visit.stage = Stage::Writing(steps);
+                visit.spent = false;
+            }
+            Err(_) => visit.spent = true,
+        }
+    }
+
+    // Finds the lowest disk that waits, from this one on. True where the phase is over, with a majority left.
     fn is_over(&mut self, from: u8) -> bool
         requires going { self.old.end ≡ None }
         requires from { from ≤ self.old.of.disks }
@@ -399,7 +506,7 @@ impl<L: Layout> Attempt<L> {
         !visits_one
     }
 
-    // Begins the phase on the first disk that is left, from this one on, if there is one.
+    // Finds the lowest disk that waits, from this one on, if there is one.
     fn visit_next(&mut self, from: u8) -> bool
         requires { from ≤ self.old.of.disks }
         ensures of { self.new.of ≡ self.old.of }
@@ -417,7 +524,7 @@ impl<L: Layout> Attempt<L> {
         false
     }
 
-    // Begins the phase on a disk that was not dropped. If it has to write and its block has no sequence number left, it is dropped.
+    // The disk is the lowest that waits, if it was not dropped. It is dropped where it has to write, and no sequence number is left.
     fn visit(&mut self, disk: u8) -> bool
         requires { disk < self.old.of.disks }
         ensures of { self.new.of ≡ self.old.of }
@@ -430,35 +537,12 @@ impl<L: Layout> Attempt<L> {
         if !self.is_left(disk) {
             return false;
         }
-        match self.phase {
-            Phase::Opening => {
-                self.disk = disk;
-                self.stage = Stage::Attaching;
-                true
-            }
-            Phase::One | Phase::Two => self.begin_write(disk),
-        }
-    }
-
-    // Begins the write of the phase on a disk, or drops the disk if its block has no sequence number left.
-    fn begin_write(&mut self, disk: u8) -> bool
-        requires disk { disk < self.old.of.disks }
-        requires phase { self.old.phase ≢ Phase.Opening }
-        requires left { (visit_at self.old.visits disk).left ≡ true }
-        ensures of { self.new.of ≡ self.old.of }
-        ensures same { (self.new.phase ≡ self.old.phase) × (self.new.end ≡ self.old.end) }
-        ensures begun { OnTrue result ((f : Answers) → IsPassed self.old.phase f self.old disk →
-            IsBegun self.old.phase f self.new) }
-        ensures passed { OnFalse result ((f : Answers) → IsPassed self.old.phase f self.old disk →
-            IsPassed self.old.phase f self.new (disk + 1)) }
-    {
-        let body = encode::<L>(self.of.host, &self.says);
-        let Ok(steps) = WriteSteps::new::<L>(&self.visits[usize::from(disk)].block, &body) else {
-            self.visits[usize::from(disk)].left = false;
+        let visit = &mut self.visits[usize::from(disk)];
+        if visit.spent {
+            visit.left = false;
             return false;
-        };
+        }
         self.disk = disk;
-        self.stage = Stage::Writing(steps);
         true
     }
 

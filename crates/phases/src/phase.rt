@@ -1,6 +1,6 @@
 ghost use Rattle.std.specs.Prelude.{◌≡◌, ℕ, List};
 ghost use Rattle.attempt.specs.declared.heard.Heard.TheVariants.{Done};
-ghost use Rattle.phases.specs.Steps.{FitsStage, stage_then};
+ghost use Rattle.phases.specs.Steps.{FitsStage, is_reading, stage_then};
 
 use torn_block::WriteSteps;
 
@@ -24,6 +24,16 @@ pub enum Stage {
 }
 
 impl Stage {
+    /// Whether the row comes next.
+    pub fn is_reading(&self) -> bool
+        ensures { result ≡ is_reading self.now }
+    {
+        match self {
+            Stage::Reading => true,
+            _ => false,
+        }
+    }
+
     /// What comes next where a sync, or a call of a write, succeeded.
     pub fn succeed(&mut self)
         requires { FitsStage {R = List ℕ} self.old Done }

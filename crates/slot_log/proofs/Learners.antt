@@ -4,7 +4,8 @@ use Rattle.std.proofs.lemmas.Bool.{lt-leb}
 use Rattle.std.specs.Option.{option_map}
 use Rattle.disk.specs.Disk as device
 use Rattle.attempt.specs.Answers.{Answered, Heard, on}
-use Rattle.attempt.specs.NextCall.{next_call}
+use Rattle.attempt.specs.NextCall.{call_due, next_call}
+use Rattle.attempt.specs.Heard.{Fits, IsAnswerOn}
 use Rattle.attempt.specs.Setup.{Setup}
 use Rattle.attempt.specs.Status as attempt
 use Rattle.attempt.specs.Status.{Status, Due, Ended, status, taken}
@@ -14,11 +15,12 @@ use Rattle.phases.specs.Notes.{Notes}
 use Rattle.phases.specs.Calls.{Ending, end_as, end_of, end_in}
 use Rattle.phases.specs.Kept as attempts
 use Rattle.phases.specs.Kept.{end_of_status}
+use Rattle.phases.proofs.Calling.{lowest_may, may_answer}
 use Rattle.attempt.specs.Laws.{IsServedAlone}
 use Rattle.slot_log.specs.Alone.{IsAnsweredAlone}
 use Rattle.paxos_block.specs.Shape.{Shape}
-use Rattle.slot_log.specs.Learning.{Operation, Memory, Doing, setup_of, next_in, offered_by, says, does, begins, ended, tries_again, with_floor, with_heard, by_status, hears, takes, judges, offered_in, after_learning, is_placed, learns, goes_on}
-use Rattle.slot_log.specs.Kept.{LogTask, Kept, LeadsTo, chosen_in, GoesOn, AreDoing, IsDoing, IsOf, IsOver, is_idle, is_idle_with}
+use Rattle.slot_log.specs.Learning.{Operation, Memory, Doing, setup_of, due_in, next_in, offered_by, says, does, begins, ended, tries_again, with_floor, with_heard, by_status, hears, takes, judges, offered_in, after_learning, is_placed, learns, goes_on}
+use Rattle.slot_log.specs.Kept.{LogTask, Kept, LeadsTo, chosen_in, GoesOn, AreDoing, IsDoing, IsOf, IsOver, IsSound, IsUnderWay, is_idle, is_idle_with, offered_of, offered_with, due_call, due_with, due_on}
 use Rattle.slot_log.specs.declared.outcome.LogOutcome.{LogOutcome}
 use Rattle.slot_log.specs.declared.outcome.LogOutcome.TheVariants.{Refused}
 use Rattle.attempt.specs.declared.refusal.Refusal.TheVariants as refusal
@@ -156,6 +158,65 @@ call_next v c h m old now is leads busy due next =
     let doing = task_is v c h m old there.0 (subst Known (sym is) leads) there.1 in
     ap (next_in v c h m) doing.1 ∙ next (setup_of v c h m (doing.0).operation) (doing.0).heard doing.2.heard
 
+some_task : (task : Option LogTask) → is_some task ≡ true → (there : LogTask) × (task ≡ Some there)
+some_task None some = absurd (cc)
+some_task (Some task) some = (task, refl)
+
+-- so it is on each disk
+pub due_busy : (v : Version) (c : Shape) (h : ℕ) (m : Memory) (old now : Kept) (k : ℕ) → old ≡ now → LeadsTo v c h m now → is_some old.task ≡ true → (due : Option device.Call)
+    → ((s : Setup) (heard : List Answered) → attempts.LeadsTo s heard old.attempt → call_due s (on heard) k ≡ due) → due_in v c h m m.doing k ≡ due
+due_busy v c h m old now k is leads busy due next =
+    let Known : Kept → Type 0 = λ k. LeadsTo v c h m k in
+    let there = some_task old.task busy in
+    let doing = task_is v c h m old there.0 (subst Known (sym is) leads) there.1 in
+    ap (λ (o : Option Doing). due_in v c h m o k) doing.1 ∙ next (setup_of v c h m (doing.0).operation) (doing.0).heard doing.2.heard
+
+-- none where nothing is under way
+pub due_idle : (v : Version) (c : Shape) (h : ℕ) (m : Memory) (old now : Kept) (k : ℕ) → old ≡ now → LeadsTo v c h m now → is_some old.task ≡ false → due_in v c h m m.doing k ≡ None
+due_idle v c h m old now k is leads idle = go m.doing old.task idle (subst Known (sym is) leads).doing
+  where
+    Known : Kept → Type 0
+    Known j = LeadsTo v c h m j
+
+    go : (o : Option Doing) (task : Option LogTask) → is_some task ≡ false → AreDoing v c h m o task old.attempt → due_in v c h m o k ≡ None
+    go None task idle are = refl
+    go (Some t) None idle are = absurd are
+    go (Some t) (Some task) idle are = absurd (cc)
+
+-- the same by what is kept
+pub kept_busy : (k : Kept) (disk : ℕ) → is_some k.task ≡ true → due_on k disk ≡ attempts.due_on k.attempt disk
+kept_busy k disk busy = ap (λ (o : Option LogTask). due_with o k.attempt disk) (some_task k.task busy).1
+
+pub kept_idle : (k : Kept) (disk : ℕ) → is_some k.task ≡ false → due_on k disk ≡ None
+kept_idle k disk idle = go k.task idle
+  where
+    go : (task : Option LogTask) → is_some task ≡ false → due_with task k.attempt disk ≡ None
+    go None idle = refl
+    go (Some task) idle = absurd (cc)
+
+-- where no value waits the attempt goes on
+ended_none : (o : Option Ending) → GoesOn o → chosen_in o ≡ None → o ≡ None
+ended_none None on none = refl
+ended_none (Some (end.Committed value)) on none = absurd (cc)
+ended_none (Some (end.Decided value)) on none = absurd (cc)
+ended_none (Some end.Empty) on none = absurd on
+ended_none (Some (end.Outrun mbal)) on none = absurd on
+ended_none (Some end.NoMajority) on none = absurd on
+ended_none (Some end.BallotsSpent) on none = absurd on
+
+pub goes_on_if : (v : Version) (k : Kept) → IsSound v k → is_idle k ≡ false → offered_of k ≡ None → k.attempt.end ≡ None
+goes_on_if v k sound busy none = go k.task busy sound.task none
+  where
+    go : (task : Option LogTask) → is_idle_with task ≡ false → IsUnderWay k task → offered_with task k.attempt.end ≡ None → k.attempt.end ≡ None
+    go None busy under none = absurd (cc)
+    go (Some task) busy under none = ended_none k.attempt.end under.goes_on none
+
+-- an answer to the next call is one on its disk
+pub lowest_fits : (k : Kept) (x : Heard) → is_idle k ≡ false → k.attempt.end ≡ None → k.attempt.disk < k.attempt.of.disks → Fits (due_call k).1 x → IsAnswerOn (due_on k k.attempt.disk) x
+lowest_fits k x busy going below fits =
+    let there = busy_task k.task busy in
+    subst (λ (o : Option LogTask). IsAnswerOn (due_with o k.attempt k.attempt.disk) x) (sym there.1) (may_answer k.attempt k.attempt.disk x (lowest_may k.attempt going below) fits)
+
 -- and the value that waits is that of its end
 offers : (o : Option Ending) (st : Status) → end_in o ≡ end_of_status st → offered_by st ≡ chosen_in o
 offers None (Due p d) is = refl
@@ -167,10 +228,6 @@ offers (Some end.Empty) (Ended x) is = ap (λ (y : attempt.End). offered_by (End
 offers (Some (end.Outrun mbal)) (Ended x) is = ap (λ (y : attempt.End). offered_by (Ended y)) (let both : Some (attempt.Outrun mbal) ≡ Some x = is in let same : x ≡ attempt.Outrun mbal = cc in same)
 offers (Some end.NoMajority) (Ended x) is = ap (λ (y : attempt.End). offered_by (Ended y)) (let both : Some attempt.NoMajority ≡ Some x = is in let same : x ≡ attempt.NoMajority = cc in same)
 offers (Some end.BallotsSpent) (Ended x) is = ap (λ (y : attempt.End). offered_by (Ended y)) (let both : Some attempt.BallotsSpent ≡ Some x = is in let same : x ≡ attempt.BallotsSpent = cc in same)
-
-some_task : (task : Option LogTask) → is_some task ≡ true → (there : LogTask) × (task ≡ Some there)
-some_task None some = absurd (cc)
-some_task (Some task) some = (task, refl)
 
 pub offered_is : (v : Version) (c : Shape) (h : ℕ) (m : Memory) (old now : Kept) (o : Option Ending) → old ≡ now → LeadsTo v c h m now → is_some old.task ≡ true
     → ((s : Setup) (heard : List Answered) → attempts.LeadsTo s heard old.attempt → end_in o ≡ end_of_status (status s (on heard))) → chosen_in o ≡ offered_in v c h m m.doing
@@ -226,12 +283,11 @@ alone_with v c h m (Some t) (Some task) old x are said =
     record { bound = said.bound s t.heard are.heard; served = said.alone s t.heard are.heard }
 
 -- it is said of the attempt under way
-pub alone : (v : Version) (c : Shape) (h : ℕ) (m : Memory) (old now : Kept) (answer : Heard) → old ≡ now → LeadsTo v c h m now → Says old.attempt (record { disk = old.attempt.disk; heard = answer }) → IsAnsweredAlone v c h m m.doing (record { disk = now.attempt.disk; heard = answer })
-alone v c h m old now answer is leads said =
+pub alone : (v : Version) (c : Shape) (h : ℕ) (m : Memory) (old now : Kept) (x : Answered) → old ≡ now → LeadsTo v c h m now → Says old.attempt x → IsAnsweredAlone v c h m m.doing x
+alone v c h m old now x is leads said =
     let Known : Kept → Type 0 = λ k. LeadsTo v c h m k in
-    let By : Kept → Type 0 = λ k. IsAnsweredAlone v c h m m.doing (record { disk = k.attempt.disk; heard = answer }) in
     let known : LeadsTo v c h m old = subst Known (sym is) leads in
-    subst By is (alone_with v c h m m.doing old.task old.attempt (record { disk = old.attempt.disk; heard = answer }) known.doing said)
+    alone_with v c h m m.doing old.task old.attempt x known.doing said
 
 -- an end that is no committed or decided value
 pub over : {V : Type 0} (spelled : V → List ℕ) (e : code_end.End V) → ((value : V) → e ≡ end.Committed value → ⊥) → ((value : V) → e ≡ end.Decided value → ⊥) → IsOver (end_as spelled e)

@@ -64,6 +64,14 @@ offered_of k = offered_with k.task k.attempt.end
 abbrev pub due_call : Kept → ℕ × device.Call
 due_call k = attempts.call_due k.attempt
 
+abbrev pub due_with : Option LogTask → Notes → ℕ → Option device.Call
+due_with None attempt disk = None
+due_with (Some task) attempt disk = attempts.due_on attempt disk
+
+-- the device call that may be made on a disk
+abbrev pub due_on : Kept → ℕ → Option device.Call
+due_on k disk = due_with k.task k.attempt disk
+
 -- WHAT IS KEPT AT ANY TIME
 
 -- a call is due, or a committed or decided value waits

@@ -5,7 +5,7 @@ use Rattle.attempt.specs.Answers.{Answered, on}
 use Rattle.attempt.specs.Setup.{Setup}
 use Rattle.attempt.specs.Status.{Status, Due, Ended, End, status, taken}
 use Rattle.attempt.specs.Status as attempt
-use Rattle.attempt.specs.NextCall.{next_call}
+use Rattle.attempt.specs.NextCall.{call_due, next_call}
 use Rattle.paxos_block.specs.Shape.{Shape}
 use Rattle.torn_block.specs.Layout.{Version}
 use Rattle.slot_log.specs.declared.operation.Operation as code_operation
@@ -145,13 +145,18 @@ takes v c h m None is_command = m
 takes v c h m (Some t) is_command = let s = setup_of v c h m t.operation in
     judges c m t (taken s (on t.heard)) (offered_by (status s (on t.heard))) is_command
 
--- WHAT A LEARNER DOES NEXT
+-- WHAT A LEARNER MAY DO NEXT
 
 abbrev pub is_idle_in : Option Doing → Bool
 is_idle_in None = true
 is_idle_in (Some t) = false
 
--- the disk and the device call that are due; none where it is idle or a value waits
+-- the disk and the device call that are next; none where it is idle or a value waits
 abbrev pub next_in : Version → Shape → ℕ → Memory → Option Doing → Option (ℕ × device.Call)
 next_in v c h m None = None
 next_in v c h m (Some t) = next_call (setup_of v c h m t.operation) (on t.heard)
+
+-- the device call that may be made on a disk, in any order of the disks
+abbrev pub due_in : Version → Shape → ℕ → Memory → Option Doing → ℕ → Option device.Call
+due_in v c h m None k = None
+due_in v c h m (Some t) k = call_due (setup_of v c h m t.operation) (on t.heard) k

@@ -1,13 +1,13 @@
 ghost use Rattle.std.specs.Prelude.{◌≡◌, ◌≤◌, ◌<◌, ◌+◌, ◌++◌, ◌∷◌, [], ℕ, List, true, false, IsTrue, ◌↔◌, IsSome, IfOk, IfSome, Option, Some, None, length, map, max, option_map, if◌then◌else◌};
 ghost use Rattle.torn_block.specs.Layout.{hosts_in};
 ghost use Rattle.paxos_block.specs.Places.{image_length};
-ghost use Rattle.attempt.specs.History.{Fits};
-ghost use Rattle.attempt.specs.DeviceCalls.{call_of_need, heard_as, IsWithin};
+ghost use Rattle.attempt.specs.History.{Fits, IsAnswerOn};
+ghost use Rattle.attempt.specs.DeviceCalls.{call_of_need, device_call_of, heard_as, IsWithin};
 ghost use Rattle.phases.specs.Calls.{end_as, end_of};
 ghost use Rattle.phases.specs.Room.{RowFits};
 ghost use Rattle.slot_log.specs.Alone.{IsAnsweredAlone};
-ghost use Rattle.slot_log.specs.Kept.{Kept, task_as, chosen_in, LeadsTo, IsSameLog, is_idle, offered_of, due_call, IsOf, IsOver, KeepsLearned};
-ghost use Rattle.slot_log.specs.Learning.{Memory, operation_as, Doing, fresh, says, does, begins, goes_on, tries_again, ended, hears, takes, with_floor, learns, after_learning, is_idle_in, next_in, offered_in};
+ghost use Rattle.slot_log.specs.Kept.{Kept, task_as, chosen_in, LeadsTo, IsSameLog, is_idle, offered_of, due_call, due_on, IsOf, IsOver, KeepsLearned};
+ghost use Rattle.slot_log.specs.Learning.{Memory, operation_as, Doing, fresh, says, does, begins, goes_on, tries_again, ended, hears, takes, with_floor, learns, after_learning, is_idle_in, due_in, next_in, offered_in};
 ghost use Rattle.paxos_block.specs.Shape.{Shape};
 
 use crate::operation::{LogTask, Operation, is_placed_by};
@@ -147,6 +147,20 @@ impl<L: Layout> Learner<L> {
         self.attempt.call()
     }
 
+    /// The device call that may be made on a disk now.
+    pub fn call_on(&self, disk: u8) -> Option<Need<'_>>
+        ensures next { (c : Shape) (h : ℕ) (m : Memory) → LeadsTo L.version c h m self.now →
+            due_in L.version c h m m.doing disk ≡ option_map (λ need. device_call_of L.version need.call) result }
+        ensures due { option_map (λ need. device_call_of L.version need.call) result ≡ due_on self.now disk }
+        ensures range { IfSome result (λ need. IsWithin L.version (image_length L.version self.now.shape.slots) need.call) }
+        ensures disk { IfSome result (λ need. (need.disk ≡ disk) × (disk < self.now.shape.disks)) }
+    {
+        if self.task.is_none() {
+            return None;
+        }
+        self.attempt.call_on(disk)
+    }
+
     /// Hears the answer to the call that is due.
     #[inline(always)]
     pub fn hear(&mut self, heard: &Heard<'_, L::Row>)
@@ -162,7 +176,22 @@ impl<L: Layout> Learner<L> {
             IsAnsweredAlone L.version c h m m.doing (record { disk = (due_call self.old).0; heard = heard_as L.version L.row_bytes heard.now }) }
         ensures same { IsSameLog self.old self.new }
     {
-        self.attempt.hear(heard);
+        self.hear_on(self.attempt.lowest(), heard);
+    }
+
+    /// Hears the answer to the call that was made on a disk.
+    #[inline(always)]
+    pub fn hear_on(&mut self, disk: u8, heard: &Heard<'_, L::Row>)
+        requires busy { is_idle self.old ≡ false }
+        requires room { RowFits L.Value.row }
+        requires fits { IsAnswerOn (due_on self.old disk) (heard_as L.version L.row_bytes heard.now) }
+        ensures leads { (c : Shape) (h : ℕ) (m : Memory) → LeadsTo L.version c h m self.old →
+            LeadsTo L.version c h (hears L.version c h m m.doing (record { disk = disk; heard = heard_as L.version L.row_bytes heard.now })) self.new }
+        ensures alone { (c : Shape) (h : ℕ) (m : Memory) → LeadsTo L.version c h m self.old →
+            IsAnsweredAlone L.version c h m m.doing (record { disk = disk; heard = heard_as L.version L.row_bytes heard.now }) }
+        ensures same { IsSameLog self.old self.new }
+    {
+        self.attempt.hear_on(disk, heard);
         let Some(end) = self.attempt.end() else {
             self.said = None;
             return;

@@ -1,13 +1,14 @@
-use Rattle.std.proofs.Common.{◌≡◌, ◌∙◌, sym, ap}
-use Rattle.std.specs.Option.{option_map}
-use Rattle.phases.specs.declared.phase.Phase.TheVariants as phase
-use Rattle.phases.specs.Inside.{notes_in}
-use Rattle.phases.specs.Notes.{Notes}
-use Rattle.phases.proofs.Beginning.{over_in, ends_committed}
+use Rattle.std.proofs.Common.{◌≡◌, sym, subst}
+use Rattle.std.proofs.lemmas.Bool.{OnTrue_at}
+use Rattle.phases.specs.declared.phase.Phase as code_phase
+use Rattle.phases.specs.Moves.{IsPassed}
+use Rattle.phases.proofs.Preparing.{not_first}
 use Rattle.phases.proofs.one_attempt.Attempt.begin_phase.Goals as goal
 
-pub returns-in-Some-clause-ends : goal.returns-in-Some-clause-ends
-returns-in-Some-clause-ends g c f is =
-    let n = notes_in g.L.Layout.version g.L.Layout.spelled c.self.inside in
-    let third : c.args.self.now.phase ≡ phase.Two = sym (ap (λ (m : Notes). m.phase) c.self.view_is) ∙ c.in-Two.is in
-    ends_committed f n (over_in phase.Two f n c.args.self.now c.self.view_is third is) (g.L.Layout.spelled c.in-Some.value) (ap (option_map g.L.Layout.spelled) c.in-Some.is)
+pub begin_writes-requires : goal.begin_writes-requires
+begin_writes-requires g c = not_first c.args.self.now.phase c.turn.new.self.phase (OnTrue_at c.if-not-turn.false c.turn.ensures.fewer)
+
+pub returns-clause-begins : goal.returns-clause-begins
+returns-clause-begins g c f is =
+    subst (λ (q : code_phase.Phase). IsPassed q f c.begin_writes.new.self 0) (sym c.begin_writes.ensures.same.0)
+    (c.begin_writes.ensures.follows f (OnTrue_at c.if-not-turn.false c.turn.ensures.begins f is))

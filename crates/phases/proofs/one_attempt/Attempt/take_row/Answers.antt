@@ -8,6 +8,7 @@ use Rattle.phases.specs.Moves.{IsPassed, noted}
 use Rattle.phases.specs.Notes.{Notes, visit_at}
 use Rattle.phases.proofs.Answering.{visiting}
 use Rattle.phases.proofs.Taking.{row_passes, row_ends}
+use Rattle.phases.proofs.Sound.{sound_set}
 use Rattle.phases.proofs.one_attempt.Attempt.take_row.Goals as goal
 
 pub returns-in-Some-clause-follows : goal.returns-in-Some-clause-follows
@@ -40,3 +41,12 @@ go_on-requires-clause-going g c = ap (λ (m : Notes). m.end) (c.self-2.view_is �
 
 pub returns-clause-of : goal.returns-clause-of
 returns-clause-of g c = c.go_on.ensures.of ∙ ap (λ (m : Notes). m.of) (c.self-2.view_is ∙ c.note.ensures c.requires.gist.0 c.requires.gist.1)
+
+pub invariant_of-self : goal.invariant_of-self
+invariant_of-self g c =
+    let n = notes_in g.L.Layout.version g.L.Layout.spelled c.self-2.inside in
+    let k = c.from.result in
+    let room : k < length n.visits = omega arith in
+    let one = c.self-2.invariant.visits_one in
+    let below : k < n.of.disks = omega (arith, one) in
+    sound_set n k (record (visit_at n.visits k) { block = c.args.gist.now.own.block }) room c.self-2.invariant (c.self-2.invariant.due k below)
