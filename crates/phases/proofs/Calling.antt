@@ -16,10 +16,11 @@ use Rattle.paxos_block.specs.Saying.{body_saying, Said}
 use Rattle.attempt.specs.Calls.{Opening, Reading, Putting, seventeen, start}
 use Rattle.attempt.specs.Answers.{Heard, Answered, Answers, on, all_good, row_in}
 use Rattle.attempt.specs.Setup.{Setup}
-use Rattle.attempt.specs.History.{IsAnswerTo, IsHistory, Fits}
+use Rattle.attempt.specs.History.{IsAnswerTo, IsHistoryInTurn, Fits}
 use Rattle.attempt.specs.Status.{status, is_opened, taken}
 use Rattle.attempt.specs.NextCall.{write_on, call_by, call_on, with_disk, next_in, next_call}
 use Rattle.attempt.proofs.Histories.{IsOrderly, orderly}
+use Rattle.attempt.proofs.InTurn.{in_turn, rises}
 use Rattle.attempt.proofs.Lists.{row_none}
 use Rattle.attempt.proofs.More.{on_more}
 use Rattle.attempt.proofs.Hearing.{history_more}
@@ -146,8 +147,8 @@ module _ (s : Setup) (heard : List Answered) (n : Notes) (leads : LeadsTo s hear
   abbrev f : Answers
   f = on heard
 
-  history : IsHistory n.of heard
-  history = subst (λ (r : Setup). IsHistory r heard) (sym leads.of) leads.history
+  history : IsHistoryInTurn n.of heard
+  history = subst (λ (r : Setup). IsHistoryInTurn r heard) (sym leads.of) leads.history
 
   visits : IsVisiting n.phase f n
   visits = visiting f n going leads.follows
@@ -155,8 +156,8 @@ module _ (s : Setup) (heard : List Answered) (n : Notes) (leads : LeadsTo s hear
   -- the disks were visited by rising number
   in_order : IsInOrder n.of (phase_in n.phase) n.disk f
   in_order =
-      let o = orderly n.of heard (phase_in n.phase) n.disk history visits.status in
-      record { rising = o.rising; behind = o.behind; opened = opened_in n.phase f n visits leads.follows.ballot o; unread = o.unread; booted = λ e some good. o.booted e some good }
+      let o = orderly n.of heard (phase_in n.phase) n.disk (in_turn n.of heard history) visits.status in
+      record { rising = rises n.of heard (phase_in n.phase) n.disk history visits.status; behind = o.behind; opened = opened_in n.phase f n visits leads.follows.ballot o; unread = o.unread; booted = λ e some good. o.booted e some good }
 
   -- the call that is due by what is kept
   pub call_is : next_call s f ≡ Some (call_due n)

@@ -13,7 +13,7 @@ use Rattle.attempt.specs.Visits.{is_left}
 use Rattle.attempt.specs.Proposal.{highest, best, decided}
 use Rattle.attempt.specs.Status.{End, Status, Due, Ended, status, taken}
 use Rattle.attempt.specs.NextCall.{says_for}
-use Rattle.attempt.specs.History.{IsHistory}
+use Rattle.attempt.specs.History.{IsHistoryInTurn}
 use Rattle.phases.specs.Calls.{phase_in, Ending, end_of}
 use Rattle.phases.specs.Notes.{Notes, visit_at}
 use Rattle.phases.specs.Steps.{answered, Suits}
@@ -98,5 +98,5 @@ pub record Follows (f : Answers) (n : Notes) : Type 0 where
 -- The answers lead to this: it began so, they are a history of the attempt, and what is kept follows from them.
 pub record LeadsTo (s : Setup) (heard : List Answered) (n : Notes) : Type 0 where
   pub of : n.of ≡ s
-  pub history : IsHistory s heard
+  pub history : IsHistoryInTurn s heard
   pub follows : Follows (on heard) n
