@@ -10,6 +10,7 @@ use Rattle.host.specs.declared.task.Task.TheVariants.{Look, Mark}
 use Rattle.world.specs.Entry.{Filled, Start, Begin, host_step, host_after, started}
 use Rattle.world.specs.World.{MayBeGiven}
 use Rattle.dlm_images.specs.Operations.{Made, Standing, HasCarriedOut, after_call, after_made, AreDue}
+use Rattle.host.proofs.Due.{due_doing_next}
 use Rattle.host.proofs.Hosts.{idle_is}
 use Rattle.at_once.specs.AtOnce.{Does}
 use Rattle.at_once.specs.Deeds.{calls, task_of, HasDone, Starts, Operates, Marks, Looks}
@@ -29,7 +30,7 @@ module _ (c : Shape) (h : ℕ) where
 
   calls_do : (m : Memory) (made : List Made) → AreDue c h m made → Does c h (Running m) (calls h made)
   calls_do m [] due = tt
-  calls_do m (x ∷ xs) due = (due.0.next, calls_do (after_call c h m x) xs due.1)
+  calls_do m (x ∷ xs) due = (due_doing_next c h m m.doing x.disk x.call due.0.next, calls_do (after_call c h m x) xs due.1)
 
   calls_know : (m : Memory) (made : List Made) → host_after c h (Running m) (calls h made) ≡ Running (after_made c h m made)
   calls_know m [] = refl

@@ -1,5 +1,5 @@
 -- A list with losses of power is one with crashes, under the boot numbers that disks of the model tell.
-use Rattle.std.specs.Prelude.{◌^◌, take, slice_get, IsTrue}
+use Rattle.std.specs.Prelude.{◌^◌, take, slice_get, option_map, IsTrue}
 use Rattle.std.proofs.Common.{ℕ, zero, suc, ◌+◌, ◌<◌, ◌≤◌, ◌≡◌, ◌==◌, Bool, true, false, true≢false, cond, Some, List, [], ◌∷◌, length, refl, sym, subst, ap, ◌∙◌, inl, inr, arith}
 use Rattle.std.proofs.lemmas.Bool.{cases_Bool, eqb-true}
 use Rattle.std.proofs.Math.Seq.{take-length}
@@ -19,8 +19,7 @@ use Rattle.at_once.specs.AtOnce.{MayDo, Does, Goes, Serves, IsDeed, AreDeeds, Is
 use Rattle.at_once.specs.Joined.{HasCome, HasRecovered, IsJoined}
 use Rattle.at_once.specs.Power.{LosesPower, GoesOn, ServesOn, later, call_later, answer_later, entry_later, losses_with, renumbered_from, renumbered, IsOverLossesFrom, LossesAreCrashes, LossesAreJoined, LossesAfterMigrationAreCrashes, LossesAfterMigrationAreJoined}
 use Rattle.at_once.proofs.Joined.{deeds_are_joined}
-use Rattle.at_once.proofs.RenumberedHosts.{host_later, idles_later, stopped_later, next_of_later, idle_same, step_later}
-use Rattle.at_once.proofs.Renumbering.{due_later}
+use Rattle.at_once.proofs.RenumberedHosts.{host_later, idles_later, stopped_later, due_of_later, idle_same, step_later}
 
 -- A DISK
 
@@ -169,8 +168,8 @@ may_do : (c : Shape) (h : ℕ) (losses : ℕ → ℕ) (host : Host) (e : Filled)
 may_do c h losses host (Start g) m = (m.0, subst IsTrue (sym (stopped_later losses host)) m.1)
 may_do c h losses host (Stop g) m = stopped_later losses host ∙ m
 may_do c h losses host (Begin g task) m = (subst IsTrue (sym (idles_later losses host)) m.0, m.1)
-may_do c h losses host (Called g k call answer left) m = next_of_later losses c h host ∙ ap (due_later losses) m
-may_do c h losses host (Torn g k call left) m = next_of_later losses c h host ∙ ap (due_later losses) m
+may_do c h losses host (Called g k call answer left) m = due_of_later losses c h host k ∙ ap (option_map (call_later (losses k))) m
+may_do c h losses host (Torn g k call left) m = due_of_later losses c h host k ∙ ap (option_map (call_later (losses k))) m
 may_do c h losses host other m = absurd m
 
 -- where an image lost power the host has stopped

@@ -15,13 +15,13 @@ use Rattle.attempt.specs.Answers.{Heard, Answers, on, boot_of}
 use Rattle.attempt.specs.NextCall.{call_by, with_disk}
 use Rattle.attempt.specs.Setup.{Setup}
 use Rattle.attempt.proofs.Votes.{fills}
-use Rattle.attempt.proofs.Replies.{next_is}
+use Rattle.host.proofs.Due.{only_is}
 use Rattle.rounds.specs.Beat.Answers as beat_answers
 use Rattle.rounds.specs.Beat.Status as beat
 use Rattle.rounds.specs.Marking.Status as mark
 use Rattle.rounds.specs.Look.Status as look
 use Rattle.paxos_block.specs.Shape.{Shape}
-use Rattle.host.specs.Host.{Doing, Attempts, Looks, Beats, Marks, next_of, setup_of, marking_of, look_of, beat_of}
+use Rattle.host.specs.Host.{Doing, Attempts, Looks, Beats, Marks, due_of as call_of, setup_of, marking_of, look_of, beat_of}
 use Rattle.world.specs.Entry.{Filled, called_by}
 use Rattle.world.specs.World.{World, world, IsRun}
 use Rattle.world.proofs.Looking as looking
@@ -157,7 +157,7 @@ look_lies slots s a fits = by (nat_lt (length a) 1)
 
 -- THE CALL THAT IS DUE
 
-module _ (c : Shape) (log : List Filled) (run : IsRun c log) (h k : ℕ) (call : Call) (next : next_of c h ((world c log).host h) ≡ Some (k, call)) where
+module _ (c : Shape) (log : List Filled) (run : IsRun c log) (h k : ℕ) (call : Call) (next : call_of c h ((world c log).host h) k ≡ Some call) where
   abbrev w : World
   w = world c log
 
@@ -175,25 +175,26 @@ module _ (c : Shape) (log : List Filled) (run : IsRun c log) (h k : ℕ) (call :
       let s = setup_of c h m t.operation in
       let f = on t.heard in
       let d = due_of c w ms h k call some.answer some.left m t (record { tied = tied; running = it.running; does = it.does; next = next; step = some.step }) in
-      let both : Some (k, call_by s k f d.is.kind) ≡ Some (k, call) = sym (next_is s f d.is.phase k d.is.kind d.is.due d.is.kind_is) ∙ it.due in
-      let pair : (k, call_by s k f d.is.kind) ≡ (k, call) = cc in
-      subst (Lies c.slots) (ap (λ (q : ℕ × Call). q.1) pair)
-      (vote_lies c.slots (length m.learned) h (call_by s k f d.is.kind) d.trying.fits d.run.below d.inside (attempt_reads c.slots s k f d.is.kind d.trying.fits))
+      let both : Some (call_by s k f d.is.made.kind) ≡ Some call = sym d.is.made.call_is ∙ it.due in
+      let same : call_by s k f d.is.made.kind ≡ call = cc in
+      subst (Lies c.slots) same
+      (vote_lies c.slots (length m.learned) h (call_by s k f d.is.made.kind) d.trying.fits d.run.below d.inside (attempt_reads c.slots s k f d.is.made.kind d.trying.fits))
   by (Looks t) it =
       let s = look_of c it.memory t.first in
       let f = on t.heard in
-      subst (Lies c.slots) (due_call s f (look.status s f) k call it.due) (look_lies c.slots s (f k) (looking.fits c log h it.memory t run it.running it.does))
+      subst (Lies c.slots) (due_call s f (look.status s f) k call (only_is k (look.next_call s f) call it.due)) (look_lies c.slots s (f k) (looking.fits c log h it.memory t run it.running it.does))
   by (Beats heard) it =
       let running = running_at c w ms tied h it.memory it.running in
-      beat_lies c.slots h call running.below (beat_within (beat_of c h) (beat_answers.on heard) k call it.due)
-      (status_reads c.slots (beat_of c h) (beat_answers.on heard) (beat.status (beat_of c h) (beat_answers.on heard)) k call it.due)
+      let next = only_is k (beat.next_call (beat_of c h) (beat_answers.on heard)) call it.due in
+      beat_lies c.slots h call running.below (beat_within (beat_of c h) (beat_answers.on heard) k call next)
+      (status_reads c.slots (beat_of c h) (beat_answers.on heard) (beat.status (beat_of c h) (beat_answers.on heard)) k call next)
   by (Marks t) it =
       let m = it.memory in
       let running = running_at c w ms tied h m it.running in
       let marking : IsMarkingSlot c w h m t = subst (IsDoing c w ms h m) it.does running.doing in
       let s = marking_of c h m t.slot in
       let a = on t.heard k in
-      let due = mark_due s (on t.heard) k call it.due in
+      let due = mark_due s (on t.heard) k call (only_is k (mark.next_call s (on t.heard)) call it.due) in
       let within = mark_within s a (fills cluster_version (mark.with_mark (mark.own_block s a).says) (own_long s a running.below (marking.votes k))) due.kind in
       subst (Lies c.slots) (sym due.call_is)
       (vote_lies c.slots t.slot h (mark.call_by s a due.kind) marking.fits running.below within (mark_reads c.slots s a due.kind marking.fits))

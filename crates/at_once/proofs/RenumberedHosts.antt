@@ -1,6 +1,7 @@
 -- A host that hears other boot numbers: it does the same, under those numbers, and so far as it is idle it knows the same.
 use Rattle.std.specs.Prelude.{if◌then◌else◌, ◌-◌, nat_lt, nat_le, option_map, is_none}
-use Rattle.std.proofs.Common.{ℕ, ◌≡◌, Bool, true, false, true≢false, Option, Some, None, List, [], ◌∷◌, ◌++◌, length, refl, sym, ap, ◌∙◌}
+use Rattle.std.proofs.Common.{ℕ, ◌≡◌, ◌==◌, inl, inr, Bool, true, false, true≢false, Option, Some, None, List, [], ◌∷◌, ◌++◌, length, refl, sym, ap, ◌∙◌}
+use Rattle.std.proofs.lemmas.Bool.{cases_Bool, eqb-true}
 use Rattle.std.proofs.lemmas.List.{map-append}
 use Rattle.disk.specs.Disk as device
 use Rattle.disk.specs.Disk.{Answer}
@@ -13,7 +14,7 @@ use Rattle.attempt.specs.Answers.{heard_as}
 use Rattle.attempt.specs.Setup.{Setup}
 use Rattle.attempt.specs.Status as attempt
 use Rattle.attempt.specs.Status.{Status, Due, Ended, End, status, taken}
-use Rattle.attempt.specs.NextCall.{next_call}
+use Rattle.attempt.specs.NextCall.{call_due}
 use Rattle.rounds.specs.Beat.Answers as beat_answers
 use Rattle.rounds.specs.Beat.Status as beat
 use Rattle.rounds.specs.Marking.Status as mark
@@ -23,13 +24,26 @@ use Rattle.lock_command.specs.Reading.{decoded}
 use Rattle.paxos_block.specs.Shape.{Shape}
 use Rattle.attempt.specs.declared.refusal.Refusal.TheVariants as refusal
 use Rattle.host.specs.declared.answer.HostAnswer.TheVariants.{Looked, Refused}
-use Rattle.host.specs.Host.{Operation, Submitting, Recovering, Attempt, Marking, Looking, Doing, Attempts, Looks, Beats, Marks, Memory, Host, Stopped, Running, says, does, with_floor, learns, setup_of, begins, full_answer, goes_on, is_submitted, after_learning, takes, tries_again, ended, by_status, with_heard, goes_by, look_of, looks_on, takes_marked, look_ended, look_by, looking_with, beat_of, beat_ended, beat_by, marking_of, marking_ended, marking_by, marking_with, starts, hears_from, is_idle, next_doing, next_in, next_of, is_stopped, idles}
+use Rattle.host.specs.Host.{Operation, Submitting, Recovering, Attempt, Marking, Looking, Doing, Attempts, Looks, Beats, Marks, Memory, Host, Stopped, Running, says, does, with_floor, learns, setup_of, begins, full_answer, goes_on, is_submitted, after_learning, takes, tries_again, ended, by_status, with_heard, goes_by, look_of, looks_on, takes_marked, look_ended, look_by, looking_with, beat_of, beat_ended, beat_by, marking_of, marking_ended, marking_by, marking_with, starts, hears_from, is_idle, only_on, due_doing, due_of, is_stopped, idles}
 use Rattle.host.specs.declared.task.Task.{Task}
 use Rattle.host.specs.declared.task.Task.TheVariants.{Submit, Recover, Look, Beat, Mark}
 use Rattle.world.specs.Entry.{Filled, Begin, Called, host_step}
-use Rattle.at_once.specs.Power.{answer_later, entry_later}
-use Rattle.at_once.proofs.Renumbering.{heard_later, one_later, all_later, on_later, due_later, status_later, taken_later, next_later}
+use Rattle.at_once.specs.Power.{call_later, answer_later, entry_later}
+use Rattle.at_once.proofs.Renumbering.{heard_later, one_later, all_later, on_later, due_later, status_later, taken_later, call_due_later}
 use Rattle.at_once.proofs.RenumberedBeside.{beat_status_later, beat_next_later, mark_status_later, mark_next_later, look_status_later, look_next_later}
+
+-- a call that is due on one disk alone is so under the later number
+only_later : (losses : ℕ → ℕ) (k : ℕ) (o : Option (ℕ × device.Call)) → only_on k (due_later losses o) ≡ option_map (call_later (losses k)) (only_on k o)
+only_later losses k None = refl
+only_later losses k (Some (d, call)) = elim (cases_Bool (d == k)) [
+  | inl same ↦
+      ap (λ (b : Bool). if b then Some (call_later (losses d) call) else None) same
+      ∙ ap (λ (e : ℕ). Some (call_later (losses e) call)) (eqb-true d k same)
+      ∙ ap (λ (b : Bool). option_map (call_later (losses k)) (if b then Some call else None)) (sym same)
+  | inr off ↦
+      ap (λ (b : Bool). if b then Some (call_later (losses d) call) else None) off
+      ∙ ap (λ (b : Bool). option_map (call_later (losses k)) (if b then Some call else None)) (sym off)
+]
 
 module _ (losses : ℕ → ℕ) where
   -- WHAT IT KNOWS
@@ -200,15 +214,19 @@ module _ (losses : ℕ → ℕ) where
 
     -- WHAT IT DOES NEXT
 
-    next_so : (o : Option Doing) → next_doing c h l (option_map doing_later o) ≡ due_later losses (next_doing c h m o)
-    next_so None = refl
-    next_so (Some (Attempts t)) = let s = setup_of c h m t.operation in ap (next_call s) (on_later losses t.heard) ∙ next_later s losses (on t.heard)
-    next_so (Some (Looks t)) = let s = look_of c m t.first in ap (look.next_call s) (on_later losses t.heard) ∙ look_next_later s losses (on t.heard)
-    next_so (Some (Beats heard)) = ap (beat.next_call (beat_of c h)) (on_later losses heard) ∙ beat_next_later (beat_of c h) losses (on heard)
-    next_so (Some (Marks t)) = let s = marking_of c h m t.slot in ap (mark.next_call s) (on_later losses t.heard) ∙ mark_next_later s losses (on t.heard)
-
-    pub due_so : next_in c h l ≡ due_later losses (next_in c h m)
-    due_so = next_so m.doing
+    -- on each disk
+    due_so : (o : Option Doing) (k : ℕ) → due_doing c h l (option_map doing_later o) k ≡ option_map (call_later (losses k)) (due_doing c h m o k)
+    due_so None k = refl
+    due_so (Some (Attempts t)) k = let s = setup_of c h m t.operation in ap (λ (f : attempt_answers.Answers). call_due s f k) (on_later losses t.heard) ∙ call_due_later s losses (on t.heard) k
+    due_so (Some (Looks t)) k =
+        let s = look_of c m t.first in
+        ap (only_on k) (ap (look.next_call s) (on_later losses t.heard) ∙ look_next_later s losses (on t.heard)) ∙ only_later losses k (look.next_call s (on t.heard))
+    due_so (Some (Beats heard)) k =
+        let s = beat_of c h in
+        ap (only_on k) (ap (beat.next_call s) (on_later losses heard) ∙ beat_next_later s losses (on heard)) ∙ only_later losses k (beat.next_call s (on heard))
+    due_so (Some (Marks t)) k =
+        let s = marking_of c h m t.slot in
+        ap (only_on k) (ap (mark.next_call s) (on_later losses t.heard) ∙ mark_next_later s losses (on t.heard)) ∙ only_later losses k (mark.next_call s (on t.heard))
 
   -- IDLE
 
@@ -224,9 +242,9 @@ module _ (losses : ℕ → ℕ) where
   stopped_later Stopped = refl
   stopped_later (Running m) = refl
 
-  pub next_of_later : (c : Shape) (h : ℕ) (host : Host) → next_of c h (host_later host) ≡ due_later losses (next_of c h host)
-  next_of_later c h Stopped = refl
-  next_of_later c h (Running m) = due_so c h m
+  pub due_of_later : (c : Shape) (h : ℕ) (host : Host) (k : ℕ) → due_of c h (host_later host) k ≡ option_map (call_later (losses k)) (due_of c h host k)
+  due_of_later c h Stopped k = refl
+  due_of_later c h (Running m) k = due_so c h m m.doing k
 
   -- an idle host knows the same
   same_doing : (o : Option Doing) → is_none o ≡ true → option_map doing_later o ≡ o

@@ -23,7 +23,7 @@ use Rattle.attempt.specs.Setup.{Setup}
 use Rattle.attempt.specs.Visits.{is_stuck, takes_part, waits, visited, is_past, is_left_at, are_enough}
 use Rattle.attempt.specs.Proposal.{top_in, ballot, own_in, own_below, best_in, best_below, or_else, proposal, decided_in, decided_below, others_top, others_mbal}
 use Rattle.attempt.specs.Status.{Status, Due, Ended, Committed, Outrun, NoMajority, BallotsSpent, next_or, proposing, voting, promising, balloting, unless_decided, status, taken_by, if_open, taken}
-use Rattle.attempt.specs.NextCall.{some_value, says_for, write_on, call_by, call_on, with_disk, next_in, next_call}
+use Rattle.attempt.specs.NextCall.{some_value, says_for, write_on, call_by, call_on, may_be_called, call_due, with_disk}
 use Rattle.at_once.specs.Power.{later, call_later}
 
 -- ANSWERS
@@ -117,6 +117,11 @@ pub with_disk_later : (losses : ℕ → ℕ) (d : ℕ) (o : Option device.Call) 
 with_disk_later losses d None = refl
 with_disk_later losses d (Some call) = refl
 
+-- so is a call that may be made
+made_later : (b : Bool) (raised : device.Call → device.Call) (o : Option device.Call) → (if b then option_map raised o else None) ≡ option_map raised (if b then o else None)
+made_later true raised o = refl
+made_later false raised o = refl
+
 -- the call of a kind, where there is one
 pub kind_later : {K : Type 0} (n : ℕ) (before after : K → device.Call) → ((kind : K) → after kind ≡ call_later n (before kind)) → (o : Option K) → option_map after o ≡ option_map (call_later n) (option_map before o)
 kind_later n before after same None = refl
@@ -206,9 +211,12 @@ module _ (s : Setup) (losses : ℕ → ℕ) (f : attempt.Answers) where
   calls : (d : ℕ) → call_on s d g ≡ option_map (call_later (losses d)) (call_on s d f)
   calls d = ap (λ (n : ℕ). option_map (call_by s d g) (slice_get seventeen n)) (length_later losses f d) ∙ kind_later (losses d) (call_by s d f) (call_by s d g) (calling d) (slice_get seventeen (length (f d)))
 
-  by_status : (st : Status) → next_in s g st ≡ due_later losses (next_in s f st)
-  by_status (Due p d) = ap (with_disk d) (calls d) ∙ with_disk_later losses d (call_on s d f)
-  by_status (Ended end) = refl
+  maying : (d : ℕ) (st : Status) → may_be_called s g d st ≡ may_be_called s f d st
+  maying d (Due p e) = λ i. waiting p d i && ((d == e) || nat_lt (suc (length_later losses f d i)) (goal p))
+  maying d (Ended end) = refl
 
-  pub next_later : next_call s g ≡ due_later losses (next_call s f)
-  next_later = ap (next_in s g) status_later ∙ by_status (status s f)
+  pub call_due_later : (d : ℕ) → call_due s g d ≡ option_map (call_later (losses d)) (call_due s f d)
+  call_due_later d =
+      (λ i. if nat_lt d s.disks && may_be_called s g d (status_later i) then calls d i else None)
+      ∙ ap (λ (b : Bool). if nat_lt d s.disks && b then option_map (call_later (losses d)) (call_on s d f) else None) (maying d (status s f))
+      ∙ made_later (nat_lt d s.disks && may_be_called s f d (status s f)) (call_later (losses d)) (call_on s d f)

@@ -5,7 +5,7 @@ use Rattle.disk.specs.Disk.{DiskState, Step, Crashes, lost}
 use Rattle.torn_block.specs.declared.layout.TheConstants.{HOSTS}
 use Rattle.lock_command.specs.declared.command.Command.{Command}
 use Rattle.paxos_block.specs.Shape.{Shape}
-use Rattle.host.specs.Host.{Host, Stopped, next_of, is_stopped, idles}
+use Rattle.host.specs.Host.{Host, Stopped, due_of, is_stopped, idles}
 use Rattle.world.specs.Entry.{Filled, Start, Stop, Begin, Called, Torn, Crashed, Lost, Migrated, on_disk, of_host, host_step, host_after}
 use Rattle.world.specs.World.{MayBeGiven, Tears, opening_disk, world, CanMigrate, IsFreshRun, IsRun}
 use Rattle.world.specs.Chosen.{at}
@@ -19,8 +19,8 @@ abbrev pub MayDo : Shape → ℕ → Host → Filled → Type 0
 MayDo c h host (Start g) = (h < HOSTS) × IsTrue (is_stopped host)
 MayDo c h host (Stop g) = is_stopped host ≡ false
 MayDo c h host (Begin g task) = IsTrue (idles host) × MayBeGiven c h task
-MayDo c h host (Called g k call answer left) = next_of c h host ≡ Some (k, call)
-MayDo c h host (Torn g k call left) = next_of c h host ≡ Some (k, call)
+MayDo c h host (Called g k call answer left) = due_of c h host k ≡ Some call
+MayDo c h host (Torn g k call left) = due_of c h host k ≡ Some call
 MayDo c h host other = ⊥
 
 -- one after the other

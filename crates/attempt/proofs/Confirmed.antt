@@ -16,7 +16,7 @@ use Rattle.attempt.specs.Calls.{Phase, Opening, One, Two, start, goal, Kind, Rea
 use Rattle.attempt.specs.Answers.{Heard, Done, Told, Answered, Answers, on, is_bad, all_good, told, row_in, later_row, last_row, seen_block, boot_of}
 use Rattle.attempt.specs.Setup.{Setup}
 use Rattle.attempt.specs.Proposal.{ballot, others_top, others_mbal}
-use Rattle.attempt.specs.NextCall.{some_value, says_for, write_on, call_by, next_call}
+use Rattle.attempt.specs.NextCall.{some_value, says_for, write_on, call_by, call_due}
 use Rattle.attempt.specs.History.{Fits, IsHistory}
 use Rattle.attempt.specs.Standing.{IsIn}
 use Rattle.attempt.specs.Prepared.{IsAnswered, step_of, IsConfirmedOn}
@@ -25,7 +25,7 @@ use Rattle.attempt.proofs.Rows.{AreSameRows, ballot_same, own_same, proposal_sam
 use Rattle.attempt.proofs.Visitors.{waiting_is}
 use Rattle.attempt.proofs.Replies.{reading_tells, putting_tells}
 use Rattle.attempt.proofs.OneDisk.{IsDisk}
-use Rattle.attempt.proofs.Histories.{Same, Before, After, order, visit}
+use Rattle.attempt.proofs.Histories.{Same, Before, After, order}
 use Rattle.attempt.proofs.Moments.{Moment, place_in, before_nth, moment, in_order, Lasts, lasts, rest_at, good_at, take_more, take_first}
 
 -- WHICH CALL
@@ -119,23 +119,23 @@ module _ (s : Setup) (heard : List Answered) (is : IsHistory s heard) (d : ℕ) 
     prior i = before_nth heard d (start p + i)
 
     -- they are to these calls
-    kind_at : (i : ℕ) (l : i ≤ 6) (kind : Kind) → slice_get seventeen (start p + i) ≡ Some kind → (at_step i l).kind ≡ kind
-    kind_at i l kind here = let both : Some (at_step i l).kind ≡ Some kind = sym (at_step i l).kind_is ∙ here in cc
+    kind_at : (i : ℕ) (l : i ≤ 6) (kind : Kind) → slice_get seventeen (start p + i) ≡ Some kind → (at_step i l).made.kind ≡ kind
+    kind_at i l kind here = let both : Some (at_step i l).made.kind ≡ Some kind = sym (at_step i l).kind_is ∙ here in cc
 
     -- and fit them
     fits_at : (i : ℕ) (l : i ≤ 6) (kind : Kind) → slice_get seventeen (start p + i) ≡ Some kind → Fits (call_by s d (on (prior i)) kind) (at_step i l).answer
     fits_at i l kind here = subst (λ (k : Kind). Fits (call_by s d (on (prior i)) k) (at_step i l).answer) (kind_at i l kind here) (at_step i l).fits
 
     -- and those were due
-    due_at : (i : ℕ) (l : i ≤ 6) (kind : Kind) → slice_get seventeen (start p + i) ≡ Some kind → next_call s (on (prior i)) ≡ Some (d, call_by s d (on (prior i)) kind)
-    due_at i l kind here = (at_step i l).due ∙ ap (λ (k : Kind). Some (d, call_by s d (on (prior i)) k)) (kind_at i l kind here)
+    due_at : (i : ℕ) (l : i ≤ 6) (kind : Kind) → slice_get seventeen (start p + i) ≡ Some kind → call_due s (on (prior i)) d ≡ Some (call_by s d (on (prior i)) kind)
+    due_at i l kind here = (at_step i l).made.call_is ∙ ap (λ (k : Kind). Some (call_by s d (on (prior i)) k)) (kind_at i l kind here)
 
     -- in the phase
-    phase_at : (i : ℕ) (l : i ≤ 6) → (at_step i l).phase ≡ p
+    phase_at : (i : ℕ) (l : i ≤ 6) → (at_step i l).made.phase ≡ p
     phase_at i l =
         let at = at_step i l in
-        let waiting = waiting_is s at.phase (on (prior i) d) (visit s at.phase d (on (prior i)) at.due_at).passes in
-        elim (order at.phase p) [
+        let waiting = waiting_is s at.made.phase (on (prior i) d) at.made.waits_for in
+        elim (order at.made.phase p) [
           | Same same ↦ same
           | Before before ↦ absurd (omega (arith, waiting.short, at.count))
           | After after ↦ absurd (omega (arith, waiting.part.come, at.count, seven_calls p puts))
@@ -198,7 +198,7 @@ module _ (s : Setup) (heard : List Answered) (is : IsHistory s heard) (d : ℕ) 
         let l : step_of call ≤ 6 = omega (arith, step_below call) in
         record {
           due = due_at (step_of call) l (Putting p call) (puts_at p call puts)
-              ∙ ap₂ (λ (w : Write128) (boot : ℕ). Some (d, call_of call w boot)) (write_at (step_of call) l) (boot_at (step_of call) l);
+              ∙ ap₂ (λ (w : Write128) (boot : ℕ). Some (call_of call w boot)) (write_at (step_of call) l) (boot_at (step_of call) l);
           answered = (at_step (step_of call) l).at.here ∙ ap (λ (x : Heard). Some (record { disk = d; heard = x })) (done_at call l);
         }
 
@@ -229,7 +229,7 @@ module _ (s : Setup) (heard : List Answered) (is : IsHistory s heard) (d : ℕ) 
           wrote = wrote;
           row = row_read.0;
           read = record {
-            due = due_at 6 (omega arith) Reading (reads_at p puts) ∙ ap (λ (boot : ℕ). Some (d, device.Read boot (row_place s.version s.slot) (row_length s.version))) (boot_at 6 (omega arith));
+            due = due_at 6 (omega arith) Reading (reads_at p puts) ∙ ap (λ (boot : ℕ). Some (device.Read boot (row_place s.version s.slot) (row_length s.version))) (boot_at 6 (omega arith));
             answered = read_at.at.here ∙ ap (λ (x : Heard). Some (record { disk = d; heard = x })) row_read.1;
           };
           is_row = row_is;

@@ -1,30 +1,31 @@
 -- What every history is like: how the disks stand to each other, and while a call is due.
 use Rattle.std.specs.Prelude.{slice_get}
-use Rattle.std.proofs.Common.{ℕ, ◌<◌, ◌≤◌, ◌≡◌, inl, inr, true, false, Some, None, List, [], ◌∷◌, ◌++◌, length, is_some, refl, sym, subst, ap, ◌∙◌, arith}
-use Rattle.std.proofs.lemmas.Bool.{cases_lt, both_ways}
+use Rattle.std.proofs.Common.{ℕ, ◌+◌, ◌<◌, ◌≤◌, ◌≡◌, ◌≢◌, inl, inr, true, false, Some, None, List, [], ◌∷◌, ◌++◌, length, is_some, refl, sym, subst, ap, ◌∙◌, arith}
+use Rattle.std.proofs.lemmas.Bool.{cases_lt, cases_eq, both_ways}
 use Rattle.attempt.specs.Calls.{Phase, Opening, One, Two, start, goal}
 use Rattle.attempt.specs.Answers.{Heard, Booted, Answered, Answers, on, more, all_good, row_in}
 use Rattle.attempt.specs.Setup.{Setup}
-use Rattle.attempt.specs.NextCall.{next_call}
+use Rattle.attempt.specs.NextCall.{call_due}
 use Rattle.attempt.specs.Status.{Due, status}
-use Rattle.attempt.specs.History.{IsAnswerTo, IsHistory}
-use Rattle.attempt.specs.Visits.{waits, takes_part, visited}
+use Rattle.attempt.specs.History.{IsAnswerOn, IsHistory}
+use Rattle.attempt.specs.Visits.{waits, visited}
 use Rattle.attempt.specs.Standing.{IsIn}
 use Rattle.attempt.proofs.Firsts.{IsFirst, some_below}
-use Rattle.attempt.proofs.Lists.{length_more}
-use Rattle.attempt.proofs.More.{more_there, by_disk, on_more}
-use Rattle.attempt.proofs.Visitors.{IsWaiting, part_is, waiting_is}
+use Rattle.attempt.proofs.Lists.{length_more, row_none}
+use Rattle.attempt.proofs.More.{more_here, more_there, by_disk, on_more}
+use Rattle.attempt.proofs.Visitors.{IsWaiting, waiting_is}
+use Rattle.attempt.proofs.Rows.{IsLast}
 use Rattle.attempt.proofs.Statuses.{IsDueAt, due_is, in_kept}
-use Rattle.attempt.proofs.Hearing.{by_history}
-use Rattle.attempt.proofs.Replies.{IsAnswer, answer_is}
-use Rattle.attempt.proofs.Totals.{total, history_total}
+use Rattle.attempt.proofs.Hearing.{by_history_on}
+use Rattle.attempt.proofs.Replies.{IsDueOn, IsAnswer, answer_is}
+use Rattle.attempt.proofs.Totals.{total, history_total_on}
 use Rattle.attempt.proofs.OneDisk.{IsDisk, disk_new, disk_more}
 
 -- ALL DISKS
 
--- who takes part in a phase: those behind a disk are at its start
-abbrev Rises : Phase → ℕ → Answers → Type 0
-Rises p d f = (e : ℕ) → d < e → takes_part p (f e) ≡ true → length (f e) ≡ start p
+-- where a disk is through with a phase, no lower one waits in it: rows are read by rising number
+abbrev AreReadRising : Setup → Phase → Answers → Type 0
+AreReadRising s p f = (d e : ℕ) → d < e → e < s.disks → goal p ≤ length (f e) → waits s p (f d) ≡ false
 
 -- where an attempt stands after any history: the phase of its last call, in which no disk has come further
 pub record IsReached (s : Setup) (f : Answers) : Type 0 where
@@ -33,9 +34,17 @@ pub record IsReached (s : Setup) (f : Answers) : Type 0 where
   pub phase : Phase
   pub come : IsIn s phase f
   pub behind : (e : ℕ) → length (f e) ≤ goal phase
-  pub rising : (p : Phase) (d : ℕ) → IsDueAt s p d f → Rises p d f
+  pub rows : AreReadRising s phase f
 
--- what a due call tells of its disk
+-- A call of the phase is made on a disk: this is the lowest one that waits; it waits itself; and its row comes in last.
+pub record IsCalledIn (s : Setup) (p : Phase) (d : ℕ) (f : Answers) : Type 0 where
+  pub first : ℕ
+  pub at : IsDueAt s p first f
+  pub below : d < s.disks
+  pub waiting : IsWaiting s p (f d)
+  pub last : length (f d) + 1 ≡ goal p → IsLast s p d f
+
+-- what a due call tells of the lowest disk
 pub visit : (s : Setup) (p : Phase) (d : ℕ) (f : Answers) → IsDueAt s p d f → IsFirst s.disks (λ e. waits s p (f e)) d
 visit s p d f is = some_below s.disks (λ e. waits s p (f e)) d is.visits
 
@@ -58,7 +67,7 @@ order Two Opening = After (omega arith)
 order Two One = After (omega arith)
 
 -- the phases before are over
-over_before : (s : Setup) (p q : Phase) (f : Answers) → goal q ≤ start p → IsIn s p f → visited s q f ≡ None
+pub over_before : (s : Setup) (p q : Phase) (f : Answers) → goal q ≤ start p → IsIn s p f → visited s q f ≡ None
 over_before s Opening Opening f l come = absurd (omega arith)
 over_before s Opening One f l come = absurd (omega arith)
 over_before s Opening Two f l come = absurd (omega arith)
@@ -75,10 +84,10 @@ begins Opening = omega arith
 begins One = omega arith
 begins Two = omega arith
 
--- the disk on which a call is due has come to each phase that the attempt has come to
-pub come_so_far : (s : Setup) (f : Answers) (p q : Phase) (d : ℕ) → IsIn s p f → IsDueAt s q d f → start p ≤ length (f d)
-come_so_far s f p q d come is =
-    let waiting = waiting_is s q (f d) (visit s q d f is).passes in
+-- a disk that waits in the phase that is due has come to each phase that the attempt has come to
+pub come_so_far : (s : Setup) (f : Answers) (p q : Phase) (d e : ℕ) → IsIn s p f → IsDueAt s q e f → waits s q (f d) ≡ true → start p ≤ length (f d)
+come_so_far s f p q d e come is waits_for =
+    let waiting = waiting_is s q (f d) waits_for in
     elim (order p q) [
       | Same same ↦ subst (λ (r : Phase). start r ≤ length (f d)) (sym same) waiting.part.come
       | Before l ↦ omega (arith, begins p, waiting.part.come)
@@ -94,61 +103,96 @@ behind_due s f p d reached is e =
       | After l ↦ (let over = over_before s reached.phase p f l reached.come in let visits = is.visits in absurd (cc))
     ]
 
-module _ (s : Setup) (f : Answers) (d : ℕ) (x : Heard) (p : Phase) (is : IsDueAt s p d f) (reached : IsReached s f) where
-  abbrev then : Answers
-  then = more f d x
+-- a phase has a call
+some_calls : (p : Phase) → start p < goal p
+some_calls Opening = omega arith
+some_calls One = omega arith
+some_calls Two = omega arith
 
-  -- the disk is the first that waits
-  visiting : IsFirst s.disks (λ e. waits s p (f e)) d
-  visiting = visit s p d f is
+-- nor has one its row of it while a lower one waits
+pub rows_due : (s : Setup) (f : Answers) (p : Phase) (d : ℕ) → IsReached s f → IsDueAt s p d f → AreReadRising s p f
+rows_due s f p d reached is b e l below over =
+    elim (order reached.phase p) [
+      | Same same ↦ subst (λ (q : Phase). AreReadRising s q f) same reached.rows b e l below over
+      | Before early ↦ absurd (omega (arith, reached.behind e, some_calls p))
+      | After late ↦ (let none = over_before s reached.phase p f late reached.come in let visits = is.visits in absurd (cc))
+    ]
 
-  -- and waits
-  waiting : IsWaiting s p (f d)
-  waiting = waiting_is s p (f d) visiting.passes
+module _ (s : Setup) (f : Answers) (d : ℕ) (due : IsDueOn s f d) (reached : IsReached s f) where
+  -- the status
+  abbrev at : IsDueAt s due.phase due.first f
+  at = due_is s f due.phase due.first due.due
 
-  -- with its answer no disk is beyond the phase
-  behind_then : (e : ℕ) → length (then e) ≤ goal p
-  behind_then = by_disk f d x (λ e a. length a ≤ goal p) (omega (arith, length_more (f d) x, waiting.short)) (λ e off. behind_due s f p d reached is e)
+  -- the disk waits
+  waiting : IsWaiting s due.phase (f d)
+  waiting = waiting_is s due.phase (f d) due.waits_for
 
-  -- nor has the attempt left it
-  come_then : IsIn s p then
-  come_then = in_kept s f d x p waiting.part.come is.come
+  -- whoever has the row of the phase is before it
+  not_behind : (e : ℕ) → d < e → e < s.disks → goal due.phase ≤ length (f e) → ⊥
+  not_behind e l below over = both_ways (waits s due.phase (f d)) (rows_due s f due.phase due.first reached at d e l below over) due.waits_for
 
-  -- in the same phase the visited disk is this one or one behind it
-  rises_on : (e : ℕ) → IsFirst s.disks (λ k. waits s p (then k)) e → Rises p e then
-  rises_on e next =
-      elim (cases_lt e d) [
-        | inl before ↦
-            absurd (both_ways (waits s p (f e)) (visiting.none e before) (ap (waits s p) (sym (more_there f d x e (λ same. omega arith))) ∙ next.passes))
-        | inr after ↦ (λ k l takes.
-            let same : then k ≡ f k = more_there f d x k (λ e. omega arith) in
-            ap length same ∙ reached.rising p d is k (omega arith) (ap (takes_part p) (sym same) ∙ takes))
-      ]
-
-  -- nor in a later phase do disks behind the visited one begin
-  rises_then : (q : Phase) (e : ℕ) → IsDueAt s q e then → Rises q e then
-  rises_then q e due =
-      elim (order p q) [
-        | Same same ↦ subst (λ (r : Phase). IsFirst s.disks (λ k. waits s r (then k)) e → Rises r e then) same (rises_on e) (visit s q e then due)
-        | Before l ↦ (λ k above takes. omega (arith, (part_is q (then k) takes).come, behind_then k))
-        | After l ↦ (let over = over_before s p q then l come_then in let visits = due.visits in absurd (cc))
-      ]
-
-  -- so all of it is so with the answer
-  reached_then : IsAnswer s f d x → IsReached s then
-  reached_then answer =
+  -- so the row that it reads comes in last
+  pub is_last : length (f d) + 1 ≡ goal due.phase → IsLast s due.phase d f
+  is_last last =
       record {
-        disk = by_disk f d x (λ e a. IsDisk a) (disk_more s f d x answer waiting.part.good (reached.disk d)) (λ e off. reached.disk e);
-        inside = by_disk f d x (λ e a. s.disks ≤ e → a ≡ []) (λ l. absurd (omega (arith, visiting.below))) (λ e off. reached.inside e);
-        phase = p;
-        come = come_then;
-        behind = behind_then;
-        rising = rises_then;
+        below = due.below;
+        last = last;
+        behind = λ e l below. elim (cases_lt (length (f e)) (goal due.phase)) [
+          | inl short ↦ row_none due.phase (f e) short
+          | inr over ↦ absurd (not_behind e l below over)
+        ];
       }
+
+  -- so a call of the phase is made there
+  pub called_in : IsCalledIn s due.phase d f
+  called_in = record { first = due.first; at = at; below = due.below; waiting = waiting; last = is_last }
+
+  module _ (x : Heard) where
+    abbrev then : Answers
+    then = more f d x
+
+    -- with its answer no disk is beyond the phase
+    pub behind_then : (e : ℕ) → length (then e) ≤ goal due.phase
+    behind_then = by_disk f d x (λ e a. length a ≤ goal due.phase) (omega (arith, length_more (f d) x, waiting.short)) (λ e off. behind_due s f due.phase due.first reached at e)
+
+    -- nor has the attempt left it
+    pub come_then : IsIn s due.phase then
+    come_then = in_kept s f d x due.phase waiting.part.come at.come
+
+    -- where it has read its row, it was the lowest that waits
+    rows_here : (b : ℕ) → b < d → goal due.phase ≤ length (f d ++ x ∷ []) → waits s due.phase (then b) ≡ false
+    rows_here b l over =
+        let same : d ≡ due.first = due.lowest (omega (arith, length_more (f d) x, waiting.short)) in
+        ap (waits s due.phase) (more_there f d x b (λ e. omega arith)) ∙ (visit s due.phase due.first f at).none b (omega arith)
+
+    -- and where another one has, that one is before it
+    rows_there : (b e : ℕ) → b < e → e < s.disks → goal due.phase ≤ length (f e) → waits s due.phase (then b) ≡ false
+    rows_there b e l below over =
+        elim (cases_eq b d) [
+          | inl here ↦ absurd (not_behind e (omega arith) below over)
+          | inr off ↦ ap (waits s due.phase) (more_there f d x b off) ∙ rows_due s f due.phase due.first reached at b e l below over
+        ]
+
+    rows_then : AreReadRising s due.phase then
+    rows_then b e =
+        by_disk f d x (λ (k : ℕ) (a : List Heard). b < k → k < s.disks → goal due.phase ≤ length a → waits s due.phase (then b) ≡ false)
+        (λ l below over. rows_here b l over) (λ k off l below over. rows_there b k l below over) e
+
+    -- so all of it is so with the answer
+    pub reached_then : IsAnswer s f d x → IsReached s then
+    reached_then answer =
+        record {
+          disk = by_disk f d x (λ e a. IsDisk a) (disk_more s f d x answer waiting.part.good (reached.disk d)) (λ e off. reached.disk e);
+          inside = by_disk f d x (λ e a. s.disks ≤ e → a ≡ []) (λ l. absurd (omega (arith, due.below))) (λ e off. reached.inside e);
+          phase = due.phase;
+          come = come_then;
+          behind = behind_then;
+          rows = rows_then;
+        }
 
 module _ (s : Setup) where
   -- it is so at the start
-  reached_start : IsReached s (on [])
+  pub reached_start : IsReached s (on [])
   reached_start =
       record {
         disk = λ e. disk_new;
@@ -156,39 +200,40 @@ module _ (s : Setup) where
         phase = Opening;
         come = tt;
         behind = λ e. omega arith;
-        rising = λ p d is e l takes. (let part = part_is p [] takes in omega (arith, part.come));
+        rows = λ d e l below over. absurd (omega arith);
       }
 
   -- and with each answer
-  reached_next : (xs : List Answered) (x : Answered) → IsReached s (on xs) → IsAnswerTo (next_call s (on xs)) x → IsReached s (on (xs ++ x ∷ []))
+  reached_next : (xs : List Answered) (x : Answered) → IsReached s (on xs) → IsAnswerOn (call_due s (on xs) x.disk) x.heard → IsReached s (on (xs ++ x ∷ []))
   reached_next xs x reached answers =
-      let answer = answer_is s (on xs) x answers in
-      subst (IsReached s) (sym (on_more xs x)) (reached_then s (on xs) x.disk x.heard answer.phase (due_is s (on xs) answer.phase x.disk answer.due) reached answer)
+      let answer = answer_is s (on xs) x.disk x.heard answers in
+      subst (IsReached s) (sym (on_more xs x)) (reached_then s (on xs) x.disk answer.made reached x.heard answer)
 
   -- so it is after every history
   pub history_reached : (heard : List Answered) → IsHistory s heard → IsReached s (on heard)
-  history_reached heard is = by_history (next_call s) (λ l. IsReached s (on l)) reached_next reached_start heard is
+  history_reached heard is = by_history_on (call_due s) (λ l. IsReached s (on l)) reached_next reached_start heard is
+
+-- where a row is read, no disk above has one of the phase
+pub last_in : (s : Setup) (heard : List Answered) (d : ℕ) (due : IsDueOn s (on heard) d) (p : Phase) (e : ℕ) → IsHistory s heard → status s (on heard) ≡ Due p e → length (on heard d) + 1 ≡ goal p → IsLast s p d (on heard)
+last_in s heard d due p e is at last =
+    let both : Due due.phase due.first ≡ Due p e = sym due.due ∙ at in
+    let same : due.phase ≡ p = cc in
+    subst (λ (q : Phase). IsLast s q d (on heard)) same (is_last s (on heard) d due (history_reached s heard is) (last ∙ ap goal (sym same)))
 
 -- HOW MANY
 
--- a call is due on one of the cluster's disks
-due_inside : (s : Setup) (xs : List Answered) (x : Answered) → IsAnswerTo (next_call s (on xs)) x → x.disk < s.disks
-due_inside s xs x answers =
-    let answer = answer_is s (on xs) x answers in
-    let first = visit s answer.phase x.disk (on xs) (due_is s (on xs) answer.phase x.disk answer.due) in
-    first.below
-
 -- the answers of a history are those of its disks
 pub all_counted : (s : Setup) (heard : List Answered) → IsHistory s heard → length heard ≡ total s.disks (on heard)
-all_counted s heard is = history_total (next_call s) s.disks (due_inside s) heard is
+all_counted s heard is =
+    history_total_on (call_due s) s.disks (λ xs x answers. (let answer = answer_is s (on xs) x.disk x.heard answers in answer.made.below)) heard is
 
 -- WHILE A CALL IS DUE
 
--- while a call of a phase is due on a disk: no disk is beyond the phase, those behind the disk have not begun it,
+-- while calls of a phase are due, on this disk at the lowest: no disk is beyond the phase, or through with it where a lower one waits,
 -- a row was read wherever a phase is over on a good disk, and none of the phase where a disk was dropped
 pub record IsOrderly (s : Setup) (p : Phase) (d : ℕ) (f : Answers) : Type 0 where
   pub inside : (e : ℕ) → s.disks ≤ e → f e ≡ []
-  pub rising : (e : ℕ) → d < e → takes_part p (f e) ≡ true → length (f e) ≡ start p
+  pub rows : (b e : ℕ) → b < e → e < s.disks → goal p ≤ length (f e) → waits s p (f b) ≡ false
   pub behind : (e : ℕ) → length (f e) ≤ goal p
   pub read : (q : Phase) (e : ℕ) → all_good (f e) ≡ true → goal q ≤ length (f e) → is_some (row_in q (f e)) ≡ true
   pub unread : (e : ℕ) → all_good (f e) ≡ false → row_in p (f e) ≡ None
@@ -201,7 +246,7 @@ orderly s heard p d is due =
     let at = due_is s (on heard) p d due in
     record {
       inside = reached.inside;
-      rising = reached.rising p d at;
+      rows = rows_due s (on heard) p d reached at;
       behind = behind_due s (on heard) p d reached at;
       read = λ q e. (reached.disk e).read q;
       unread = λ e bad. (reached.disk e).unread p bad (behind_due s (on heard) p d reached at e);

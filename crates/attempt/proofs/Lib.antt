@@ -1,6 +1,7 @@
 pub mod Firsts
 pub mod Hearing
 pub mod Histories
+pub mod InTurn
 pub mod Lists
 pub mod More
 pub mod OneDisk

@@ -1,5 +1,5 @@
 -- An attempt with the last ballot as its floor has none to take, and so ends with its opening.
-use Rattle.std.specs.Prelude.{slice_get, option_map, if◌then◌else◌}
+use Rattle.std.specs.Prelude.{slice_get, if◌then◌else◌}
 use Rattle.std.proofs.Common.{ℕ, zero, suc, ◌*◌, ◌<◌, ◌≤◌, ◌≡◌, Bool, true, false, Option, Some, None, List, length, refl, sym, subst, ap, ◌∙◌, arith}
 use Rattle.std.proofs.lemmas.Bool.{lt-ltb}
 use Rattle.disk.specs.Disk as device
@@ -10,13 +10,13 @@ use Rattle.attempt.specs.Answers.{Answered, Answers, on}
 use Rattle.attempt.specs.Setup.{Setup}
 use Rattle.attempt.specs.History.{IsHistory}
 use Rattle.attempt.specs.Looking.{LeavesBytes, EndsTheOpening}
-use Rattle.attempt.specs.NextCall.{call_by, with_disk, next_in, next_call}
+use Rattle.attempt.specs.NextCall.{call_by, call_due}
 use Rattle.attempt.specs.Proposal.{ballot, highest, decided}
 use Rattle.attempt.specs.Standing.{IsIn, HasBallot}
 use Rattle.attempt.specs.Status.{Status, Due, Ended, End, Decided, NoMajority, BallotsSpent, next_or, promising, balloting, unless_decided, status, taken, taken_by, if_open, is_opened}
-use Rattle.attempt.specs.Visits.{waits, visited, is_left, are_enough}
-use Rattle.attempt.proofs.Firsts.{IsFirst}
-use Rattle.attempt.proofs.Histories.{history_reached, visit, all_counted}
+use Rattle.attempt.specs.Visits.{visited, is_left, are_enough}
+use Rattle.attempt.proofs.Histories.{history_reached, all_counted}
+use Rattle.attempt.proofs.Replies.{due_on}
 use Rattle.attempt.proofs.Statuses.{due_is}
 use Rattle.attempt.proofs.Totals.{total_bound}
 use Rattle.attempt.proofs.Visitors.{waiting_is}
@@ -25,12 +25,6 @@ use Rattle.attempt.proofs.Visitors.{waiting_is}
 abbrev IsQuiet : Kind → Type 0
 IsQuiet (Putting p call) = ⊥
 IsQuiet other = Unit {0}
-
-same_call : (d e : ℕ) (one other : device.Call) → with_disk d (Some one) ≡ Some (e, other) → one ≡ other
-same_call d e one other is =
-    let same : (d, one) ≡ (e, other) = cc in
-    let P : ℕ × device.Call → device.Call = λ p. p.1 in
-    ap P same
 
 early : (n : ℕ) (kind : Kind) → n < 3 → slice_get seventeen n ≡ Some kind → IsQuiet kind
 early zero kind l is = let same : Attaching ≡ kind = cc in subst IsQuiet same tt
@@ -95,22 +89,13 @@ module _ (s : Setup) (f : Answers) (high : LAST_BALLOT ≤ s.floor) where
   quiet d Reading is = tt
   quiet d (Putting p call) is = absurd is
 
-  reads_on : (d e : ℕ) (call : device.Call) → length (f d) < 3 → (o : Option Kind) → slice_get seventeen (length (f d)) ≡ o → with_disk d (option_map (call_by s d f) o) ≡ Some (e, call) → LeavesBytes call
-  reads_on d e call short None at is = absurd (cc)
-  reads_on d e call short (Some kind) at is =
-      subst LeavesBytes (same_call d e (call_by s d f kind) call is) (quiet d kind (early (length (f d)) kind short at))
-
-  reads_in : (e : ℕ) (call : device.Call) (st : Status) → status s f ≡ st → next_in s f st ≡ Some (e, call) → LeavesBytes call
-  reads_in e call (Due p d) due is =
-      let at = due_is s f p d due in
-      let first : IsFirst s.disks (λ e. waits s p (f e)) d = visit s p d f at in
-      let waiting = waiting_is s p (f d) first.passes in
-      let short : length (f d) < goal Opening = subst (λ (q : Phase). length (f d) < goal q) (in_opening p at.come) waiting.short in
-      reads_on d e call short (slice_get seventeen (length (f d))) refl is
-  reads_in e call (Ended end) due is = absurd (cc)
-
-  pub reads : (d : ℕ) (call : device.Call) → next_call s f ≡ Some (d, call) → LeavesBytes call
-  reads d call is = reads_in d call (status s f) refl is
+  pub reads : (d : ℕ) (call : device.Call) → call_due s f d ≡ Some call → LeavesBytes call
+  reads d call is =
+      let made = due_on s f d call is in
+      let due = made.0 in
+      let waiting = waiting_is s due.phase (f d) due.waits_for in
+      let short : length (f d) < goal Opening = subst (λ (q : Phase). length (f d) < goal q) (opening due.phase due.first due.due) waiting.short in
+      subst LeavesBytes made.1 (quiet d due.kind (early (length (f d)) due.kind short due.kind_is))
 
 -- at most three a disk
 pub three : (s : Setup) (heard : List Answered) → LAST_BALLOT ≤ s.floor → IsHistory s heard → length heard ≤ 3 * s.disks

@@ -6,12 +6,12 @@ use Rattle.std.proofs.lemmas.Bool.{eqb-true, cases_lt}
 use Rattle.attempt.specs.Calls.{Phase, start, goal, Kind, seventeen}
 use Rattle.attempt.specs.Answers.{Heard, Answered, Answers, on, is_bad, all_good}
 use Rattle.attempt.specs.Setup.{Setup}
-use Rattle.attempt.specs.NextCall.{call_by, next_call}
-use Rattle.attempt.specs.History.{Fits, IsAnswerTo, IsHistoryFrom, IsHistory}
+use Rattle.attempt.specs.NextCall.{call_by, call_due}
+use Rattle.attempt.specs.History.{Fits, IsAnswerOn, IsHistoryFrom, IsHistory}
 use Rattle.attempt.specs.Standing.{IsIn}
 use Rattle.attempt.proofs.More.{on_more}
 use Rattle.attempt.proofs.Rows.{AreSameRows, rows_kept}
-use Rattle.attempt.proofs.Replies.{IsAnswer, answer_is, next_is}
+use Rattle.attempt.proofs.Replies.{IsDueOn, IsAnswer, answer_is}
 use Rattle.attempt.proofs.Statuses.{IsDueAt, due_is, in_kept}
 use Rattle.attempt.proofs.Histories.{come_so_far}
 
@@ -70,14 +70,14 @@ on_rises (y ∷ heard) d (suc i) (suc j) l = go (y.disk == d) (on_rises heard d 
 
 module _ (s : Setup) where
   -- the answer at a place is to the call due there
-  answers_at : (before heard : List Answered) (place : ℕ) (x : Answered) → IsHistoryFrom s before heard → slice_get heard place ≡ Some x → IsAnswerTo (next_call s (on (before ++ take place heard))) x
+  answers_at : (before heard : List Answered) (place : ℕ) (x : Answered) → IsHistoryFrom s before heard → slice_get heard place ≡ Some x → IsAnswerOn (call_due s (on (before ++ take place heard)) x.disk) x.heard
   answers_at before [] place x is at = absurd (cc)
   answers_at before (y ∷ heard) zero x is at =
       let both : Some y ≡ Some x = at in
       let same : y ≡ x = cc in
-      subst (IsAnswerTo (next_call s (on (before ++ [])))) same (subst (λ (l : List Answered). IsAnswerTo (next_call s (on l)) y) (sym (append-nil before)) is.0)
+      subst (λ (z : Answered). IsAnswerOn (call_due s (on (before ++ [])) z.disk) z.heard) same (subst (λ (l : List Answered). IsAnswerOn (call_due s (on l) y.disk) y.heard) (sym (append-nil before)) is.0)
   answers_at before (y ∷ heard) (suc place) x is at =
-      subst (λ (l : List Answered). IsAnswerTo (next_call s (on l)) x) (append_assoc before (y ∷ []) (take place heard)) (answers_at (before ++ y ∷ []) heard place x is.1 at)
+      subst (λ (l : List Answered). IsAnswerOn (call_due s (on l) x.disk) x.heard) (append_assoc before (y ∷ []) (take place heard)) (answers_at (before ++ y ∷ []) heard place x is.1 at)
 
   -- and the rest goes on from there
   pub rest_at : (before heard : List Answered) (place : ℕ) → IsHistoryFrom s before heard → IsHistoryFrom s (before ++ take place heard) (drop place heard)
@@ -94,10 +94,10 @@ pub record Lasts (s : Setup) (p : Phase) (f new : Answers) : Type 0 where
 
 module _ (s : Setup) (p : Phase) where
   -- with one answer
-  lasts_next : (xs : List Answered) (x : Answered) → IsAnswerTo (next_call s (on xs)) x → IsIn s p (on xs) → Lasts s p (on xs) (on (xs ++ x ∷ []))
+  lasts_next : (xs : List Answered) (x : Answered) → IsAnswerOn (call_due s (on xs) x.disk) x.heard → IsIn s p (on xs) → Lasts s p (on xs) (on (xs ++ x ∷ []))
   lasts_next xs x answers come =
-      let answer = answer_is s (on xs) x answers in
-      let far = come_so_far s (on xs) p answer.phase x.disk come (due_is s (on xs) answer.phase x.disk answer.due) in
+      let made = (answer_is s (on xs) x.disk x.heard answers).made in
+      let far = come_so_far s (on xs) p made.phase x.disk made.first come (due_is s (on xs) made.phase made.first made.due) made.waits_for in
       subst (Lasts s p (on xs)) (sym (on_more xs x)) (record {
         come = in_kept s (on xs) x.disk x.heard p far come;
         rows = λ q l. rows_kept (on xs) x.disk x.heard q (omega arith);
@@ -158,12 +158,10 @@ pub record Moment (s : Setup) (heard : List Answered) (d n : ℕ) : Type 0 where
   pub is : slice_get (on heard d) n ≡ Some answer
   pub at : IsAt heard d n answer
   pub count : length (on (before_nth heard d n) d) ≡ n
-  pub kind : Kind
-  pub kind_is : slice_get seventeen n ≡ Some kind
-  pub due : next_call s (on (before_nth heard d n)) ≡ Some (d, call_by s d (on (before_nth heard d n)) kind)
-  pub fits : Fits (call_by s d (on (before_nth heard d n)) kind) answer
-  pub phase : Phase
-  pub due_at : IsDueAt s phase d (on (before_nth heard d n))
+  pub made : IsDueOn s (on (before_nth heard d n)) d
+  pub kind_is : slice_get seventeen n ≡ Some made.kind
+  pub fits : Fits (call_by s d (on (before_nth heard d n)) made.kind) answer
+  pub due_at : IsDueAt s made.phase made.first (on (before_nth heard d n))
 
 module _ (s : Setup) (heard : List Answered) (is : IsHistory s heard) (d : ℕ) where
   -- from the call that the answer is to
@@ -175,12 +173,10 @@ module _ (s : Setup) (heard : List Answered) (is : IsHistory s heard) (d : ℕ) 
         is = here;
         at = at;
         count = count;
-        kind = answer.kind;
-        kind_is = ap (slice_get seventeen) (sym count) ∙ answer.kind_is;
-        due = next_is s (on (before_nth heard d n)) answer.phase d answer.kind answer.due answer.kind_is;
+        made = answer.made;
+        kind_is = ap (slice_get seventeen) (sym count) ∙ answer.made.kind_is;
         fits = answer.fits;
-        phase = answer.phase;
-        due_at = due_is s (on (before_nth heard d n)) answer.phase d answer.due;
+        due_at = due_is s (on (before_nth heard d n)) answer.made.phase answer.made.first answer.made.due;
       }
 
   -- each answer has its moment
@@ -189,7 +185,7 @@ module _ (s : Setup) (heard : List Answered) (is : IsHistory s heard) (d : ℕ) 
       let some = get_some (on heard d) n l in
       let at = at_place heard d n some.0 some.1 in
       let x : Answered = record { disk = d; heard = some.0 } in
-      moment_of n some.0 l some.1 at (answer_is s (on (before_nth heard d n)) x (answers_at s [] heard (place_in heard d n) x is at.here))
+      moment_of n some.0 l some.1 at (answer_is s (on (before_nth heard d n)) d some.0 (answers_at s [] heard (place_in heard d n) x is at.here))
 
   -- they stand in their order
   pub in_order : (m n : ℕ) → m < n → n < length (on heard d) → place_in heard d m < place_in heard d n

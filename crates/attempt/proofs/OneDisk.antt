@@ -51,8 +51,8 @@ module _ (s : Setup) (f : Answers) (d : ℕ) (x : Heard) (answer : IsAnswer s f 
   -- the call was this one
   fits_at : (n : ℕ) (kind : Kind) → length (f d) ≡ n → slice_get seventeen n ≡ Some kind → Fits (call_by s d f kind) x
   fits_at n kind at is =
-      let both : Some answer.kind ≡ Some kind = sym answer.kind_is ∙ ap (slice_get seventeen) at ∙ is in
-      let same : answer.kind ≡ kind = cc in
+      let both : Some answer.made.kind ≡ Some kind = sym answer.made.kind_is ∙ ap (slice_get seventeen) at ∙ is in
+      let same : answer.made.kind ≡ kind = cc in
       subst (λ (k : Kind). Fits (call_by s d f k) x) same answer.fits
 
   -- the last read of a phase tells its row

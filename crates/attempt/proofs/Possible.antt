@@ -14,7 +14,7 @@ use Rattle.attempt.specs.Answers.{Heard, Booted, Done, Told, Fault, Answered, An
 use Rattle.attempt.specs.Setup.{Setup}
 use Rattle.attempt.specs.NextCall.{call_by, next_call}
 use Rattle.attempt.specs.Status.{Status, Due, Ended, status}
-use Rattle.attempt.specs.History.{Fits, IsAnswerTo, IsHistory}
+use Rattle.attempt.specs.History.{Fits, IsAnswerTo, IsHistoryInTurn}
 use Rattle.attempt.specs.Laws.{AnswersWell, OthersRest, CanEnd}
 use Rattle.attempt.proofs.More.{on_more, by_disk}
 use Rattle.attempt.proofs.Hearing.{history_more}
@@ -22,6 +22,7 @@ use Rattle.attempt.proofs.Replies.{next_is}
 use Rattle.attempt.proofs.Visitors.{waiting_is}
 use Rattle.attempt.proofs.Statuses.{due_is}
 use Rattle.attempt.proofs.Histories.{visit}
+use Rattle.attempt.proofs.InTurn.{in_turn}
 use Rattle.attempt.proofs.Moments.{get_some}
 use Rattle.attempt.proofs.Ends.{ends_at, going}
 
@@ -135,7 +136,7 @@ plain_fits s d f (Putting p call) = done_fits call _ _
 module _ (s : Setup) where
   -- a history of plain answers
   record IsPlainHistory (heard : List Answered) : Type 0 where
-    is : IsHistory s heard
+    is : IsHistoryInTurn s heard
     plain : (d : ℕ) → ArePlain (on heard d)
 
   -- a list with a plain answer more
@@ -172,7 +173,7 @@ module _ (s : Setup) where
   -- so the end comes, within seventeen calls a disk
   to_end : (n : ℕ) (heard : List Answered) → IsPlainHistory heard → 17 * s.disks ≤ length heard + n → CanEnd s
   to_end zero heard so enough =
-      ends heard so (status s (on heard)) refl (λ p d due. (let fewer = going s heard so.is p d due in absurd (omega arith)))
+      ends heard so (status s (on heard)) refl (λ p d due. (let fewer = going s heard (in_turn s heard so.is) p d due in absurd (omega arith)))
   to_end (suc n) heard so enough =
       ends heard so (status s (on heard)) refl (λ p d due. (
       let more = plain_next heard so p d due in

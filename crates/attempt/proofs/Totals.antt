@@ -2,9 +2,9 @@
 use Rattle.std.proofs.Common.{ℕ, zero, suc, ◌+◌, ◌*◌, ◌<◌, ◌≤◌, ◌≡◌, inl, inr, Option, List, [], ◌∷◌, ◌++◌, length, refl, sym, ap, ap₂, ◌∙◌, subst, arith, length-append}
 use Rattle.std.proofs.lemmas.Bool.{cases_eq}
 use Rattle.disk.specs.Disk as device
-use Rattle.attempt.specs.Heard.{Heard, Answered, Answers, on, more, IsAnswerTo, IsHistoryBy}
+use Rattle.attempt.specs.Heard.{Heard, Answered, Answers, on, more, IsAnswerOn, IsHistoryByDisk, IsAnswerTo, IsHistoryBy}
 use Rattle.attempt.proofs.More.{more_here, more_there, by_disk, on_more}
-use Rattle.attempt.proofs.Hearing.{by_history}
+use Rattle.attempt.proofs.Hearing.{by_history, by_history_on}
 
 module _ {A : Type 0} where
   -- the answers of the first n disks
@@ -58,19 +58,26 @@ total_none A (suc n) = omega (arith, total_none A n)
 
 -- HISTORIES
 
+-- an answer of one of the disks is counted once
+counts_next : {A : Type 0} (disks : ℕ) (xs : List (Answered A)) (x : Answered A) → x.disk < disks → length xs ≡ total disks (on xs) → length (xs ++ x ∷ []) ≡ total disks (on (xs ++ x ∷ []))
+counts_next disks xs x inside before =
+    length-append xs (x ∷ [])
+    ∙ ap (λ (k : ℕ). k + 1) before
+    ∙ sym (total_more disks (on xs) x.disk x.heard inside)
+    ∙ ap (total disks) (sym (on_more xs x))
+
+-- where calls are due on so many disks alone, the answers of a history by disk are those of its disks
+pub history_total_on : {A : Type 0} (due : Answers A → ℕ → Option device.Call) (disks : ℕ) → ((xs : List (Answered A)) (x : Answered A) → IsAnswerOn (due (on xs) x.disk) x.heard → x.disk < disks)
+    → (heard : List (Answered A)) → IsHistoryByDisk due heard → length heard ≡ total disks (on heard)
+history_total_on {A} due disks inside heard is =
+    by_history_on due (λ l. length l ≡ total disks (on l)) (λ xs x before answers. counts_next disks xs x (inside xs x answers) before) (sym (total_none A disks)) heard is
+
 module _ {A : Type 0} (next : Answers A → Option (ℕ × device.Call)) where
   module _ (disks : ℕ) (inside : (xs : List (Answered A)) (x : Answered A) → IsAnswerTo (next (on xs)) x → x.disk < disks) where
-    -- where calls are due on so many disks alone, each answer is counted once
-    counts_next : (xs : List (Answered A)) (x : Answered A) → length xs ≡ total disks (on xs) → IsAnswerTo (next (on xs)) x → length (xs ++ x ∷ []) ≡ total disks (on (xs ++ x ∷ []))
-    counts_next xs x before answers =
-        length-append xs (x ∷ [])
-        ∙ ap (λ (k : ℕ). k + 1) before
-        ∙ sym (total_more disks (on xs) x.disk x.heard (inside xs x answers))
-        ∙ ap (total disks) (sym (on_more xs x))
-
-    -- the answers of a history are those of its disks
+    -- and those of one in turn
     pub history_total : (heard : List (Answered A)) → IsHistoryBy next heard → length heard ≡ total disks (on heard)
-    history_total heard is = by_history next (λ l. length l ≡ total disks (on l)) counts_next (sym (total_none A disks)) heard is
+    history_total heard is =
+        by_history next (λ l. length l ≡ total disks (on l)) (λ xs x before answers. counts_next disks xs x (inside xs x answers) before) (sym (total_none A disks)) heard is
 
   module _ (k : ℕ) (short : (xs : List (Answered A)) (x : Answered A) → IsAnswerTo (next (on xs)) x → length (on xs x.disk) < k) where
     abbrev AreAtMost : List (Answered A) → Type 0

@@ -9,6 +9,9 @@ mod refusal;
 
 pub use device::{answer_of, is_within};
 pub use heard::Heard;
-pub use law::{alone_answered, disks_in_any_order, prepared_and_proposed, seventeen_calls_a_disk, without_a_ballot};
+pub use law::{
+    alone_answered, disks_in_any_order, prepared_and_proposed, seventeen_calls_a_disk,
+    without_a_ballot,
+};
 pub use need::{DeviceCall, Need};
 pub use refusal::Refusal;

@@ -14,12 +14,10 @@ use Rattle.attempt.specs.Setup.{Setup}
 use Rattle.attempt.specs.Proposal.{ballot}
 use Rattle.attempt.specs.NextCall.{call_by}
 use Rattle.attempt.specs.History.{Fits}
-use Rattle.attempt.proofs.Lists.{row_none}
 use Rattle.attempt.proofs.Replies.{IsAnswer}
-use Rattle.attempt.proofs.Visitors.{IsWaiting, waiting_is, part_if}
-use Rattle.attempt.proofs.Rows.{IsLast, AreSameRows, ballot_same, own_same, rows_kept}
-use Rattle.attempt.proofs.Statuses.{IsDueAt}
-use Rattle.attempt.proofs.Histories.{IsReached, visit, behind_due}
+use Rattle.attempt.proofs.Visitors.{IsWaiting, part_if}
+use Rattle.attempt.proofs.Rows.{AreSameRows, ballot_same, own_same, rows_kept}
+use Rattle.attempt.proofs.Histories.{IsCalledIn}
 use Rattle.agreement.specs.State.{Cell, seen, wrote_one, read_one, wrote_two, read_two}
 use Rattle.agreement.specs.State.Mind.{Opening as OpeningMind, One as OneMind}
 use Rattle.agreement.specs.Event.{Event, being_written, at_rest, at_stage, IsRow, Allowed, AllAllowed, after, run}
@@ -61,7 +59,7 @@ pub record IsFaster (s : Setup) (p : Phase) (f : Answers) (d : ℕ) (x : Heard) 
 
 -- EVENTS
 
-module _ (s : Setup) (f : Answers) (d : ℕ) (m : Machine) (holds : Holds s.disks m) (of_cluster : IsOfCluster s) (reached : IsReached s f) where
+module _ (s : Setup) (f : Answers) (d : ℕ) (m : Machine) (holds : Holds s.disks m) (of_cluster : IsOfCluster s) where
   abbrev c : Cell (List ℕ)
   c = m.cell s.host d
 
@@ -72,9 +70,9 @@ module _ (s : Setup) (f : Answers) (d : ℕ) (m : Machine) (holds : Holds s.disk
       let same : kind ≡ k = cc in
       subst (λ (k : Kind). OwnBlock s f k x c new) same block
 
-  module _ (p : Phase) (due : IsDueAt s p d f) (stands : StandsIn s p f m) where
-    waiting : IsWaiting s p (f d)
-    waiting = waiting_is s p (f d) (visit s p d f due).passes
+  module _ (p : Phase) (due : IsCalledIn s p d f) (stands : StandsIn s p f m) where
+    abbrev waiting : IsWaiting s p (f d)
+    waiting = due.waiting
 
     was : c.stage ≡ stage_at (length (f d))
     was = stands.stages d (part_if p (f d) waiting.part)
@@ -128,24 +126,6 @@ module _ (s : Setup) (f : Answers) (d : ℕ) (m : Machine) (holds : Holds s.disk
         refl (mind_stays s p f d Done m waiting.part.come stands refl) (λ g off. refl)
         (λ good. sym sixth.1) (record { confirmed = refl; writing = refl })
 
-    -- no disk behind has a row of the phase
-    last_in : length (f d) + 1 ≡ goal p → IsLast s p d f
-    last_in last =
-        record {
-          below = (visit s p d f due).below;
-          last = last;
-          behind = λ e l u. elim (cases_lt (length (f e)) (goal p)) [
-            | inl short ↦ row_none p (f e) short
-            | inr over ↦ elim (cases_Bool (all_good (f e))) [
-              | inl good ↦
-                  (let takes = part_if p (f e) (record { good = good; come = omega (arith, waiting.part.come, waiting.short) }) in
-                  let still = reached.rising p d due e l takes in
-                  absurd (omega (arith, waiting.part.come, waiting.short)))
-              | inr bad ↦ (reached.disk e).unread p bad (behind_due s f p d reached due e)
-            ]
-          ];
-        }
-
   -- THE ROWS
 
   module _ (row : List DecodedBlock) (reads : IsNext (f d) Reading) where
@@ -153,10 +133,10 @@ module _ (s : Setup) (f : Answers) (d : ℕ) (m : Machine) (holds : Holds s.disk
     x = Told (Some row)
 
     -- the opening's: the host sees its own block
-    sees : (due : IsDueAt s Opening d f) → StandsIn s Opening f m → RegistersAllow s.host d (f d) x m → length (f d) + 1 ≡ goal Opening → Moves s Opening f d x m
+    sees : (due : IsCalledIn s Opening d f) → StandsIn s Opening f m → RegistersAllow s.host d (f d) x m → length (f d) + 1 ≡ goal Opening → Moves s Opening f d x m
     sees due stands allow last =
         let e : Event (List ℕ) = Sees s.host d (opened s f) (opened s (more f d x)) in
-        let all = last_in Opening due stands last in
+        let all = due.last last in
         by_event Opening due stands Reading x e (at_stage c seen) reads refl (λ value puts. puts)
         (stands.mind, can_see s f d row c of_cluster.is_host all (allow.own_rests row (last, refl)) (allow.own_read row (last, refl)))
         refl (put_same m.mind s.host (OpeningMind (opened s (more f d x)))) (λ g off. put_other m.mind s.host (OpeningMind (opened s (more f d x))) g off)
@@ -169,11 +149,11 @@ module _ (s : Setup) (f : Answers) (d : ℕ) (m : Machine) (holds : Holds s.disk
         record { reads = allow.others row refl; below = λ g l off. omega (arith, others_below s.version of_cluster.version s.host row g l off) }
 
     -- phase 1's: the host takes the latest vote
-    reads_one : (due : IsDueAt s One d f) → StandsIn s One f m → RegistersAllow s.host d (f d) x m → length (f d) + 1 ≡ goal One → nat_lt (ballot s f) (highest_mbal_of_others s.version s.host row) ≡ false → Moves s One f d x m
+    reads_one : (due : IsCalledIn s One d f) → StandsIn s One f m → RegistersAllow s.host d (f d) x m → length (f d) + 1 ≡ goal One → nat_lt (ballot s f) (highest_mbal_of_others s.version s.host row) ≡ false → Moves s One f d x m
     reads_one due stands allow last below =
         let g = more f d x in
         let e : Event (List ℕ) = ReadsOne s.host d (blocks_said row) (asking s f) (asking s g).best in
-        let all = last_in One due stands last in
+        let all = due.last last in
         let opening : AreSameRows Opening g f = rows_kept f d x Opening (omega (arith, last)) in
         let knows : mind_in s One g ≡ OneMind (record { ballot = ballot s f; own = (asking s f).own; best = (asking s g).best }) = rw (ballot_same s g f opening, own_same s g f opening s.disks) refl in
         let nine : length (f d) ≡ 9 = omega (arith, last) in
@@ -184,7 +164,7 @@ module _ (s : Setup) (f : Answers) (d : ℕ) (m : Machine) (holds : Holds s.disk
         (λ good. ap stage_at (sym last)) (record { confirmed = refl; writing = refl })
 
     -- phase 2's: the ballot is accepted on the disk
-    reads_two : (due : IsDueAt s Two d f) → StandsIn s Two f m → RegistersAllow s.host d (f d) x m → length (f d) + 1 ≡ goal Two → nat_lt (ballot s f) (highest_mbal_of_others s.version s.host row) ≡ false → Moves s Two f d x m
+    reads_two : (due : IsCalledIn s Two d f) → StandsIn s Two f m → RegistersAllow s.host d (f d) x m → length (f d) + 1 ≡ goal Two → nat_lt (ballot s f) (highest_mbal_of_others s.version s.host row) ≡ false → Moves s Two f d x m
     reads_two due stands allow last below =
         let g = more f d x in
         let e : Event (List ℕ) = ReadsTwo s.host d (blocks_said row) (telling s f) in
@@ -202,14 +182,14 @@ module _ (s : Setup) (f : Answers) (d : ℕ) (m : Machine) (holds : Holds s.disk
     above_or p true is last later below = inr (record { row = row; is = refl; last = last; later = later; above = is; block = only Reading x c reads (block_same c) })
     above_or p false is last later below = inl (below is)
 
-    reads_row : (p : Phase) (due : IsDueAt s p d f) → StandsIn s p f m → RegistersAllow s.host d (f d) x m → length (f d) + 1 ≡ goal p → Moves s p f d x m ⊎ IsFaster s p f d x m
+    reads_row : (p : Phase) (due : IsCalledIn s p d f) → StandsIn s p f m → RegistersAllow s.host d (f d) x m → length (f d) + 1 ≡ goal p → Moves s p f d x m ⊎ IsFaster s p f d x m
     reads_row Opening due stands allow last = inl (sees due stands allow last)
     reads_row One due stands allow last = above_or One (nat_lt (ballot s f) (highest_mbal_of_others s.version s.host row)) refl last (omega (arith, last)) (reads_one due stands allow last)
     reads_row Two due stands allow last = above_or Two (nat_lt (ballot s f) (highest_mbal_of_others s.version s.host row)) refl last (omega (arith, last)) (reads_two due stands allow last)
 
   -- EVERY ANSWER
 
-  module _ (p : Phase) (due : IsDueAt s p d f) (stands : StandsIn s p f m) where
+  module _ (p : Phase) (due : IsCalledIn s p d f) (stands : StandsIn s p f m) where
     abbrev Found : Heard → Type 0
     Found x = Moves s p f d x m ⊎ IsFaster s p f d x m
 
@@ -251,6 +231,6 @@ module _ (s : Setup) (f : Answers) (d : ℕ) (m : Machine) (holds : Holds s.disk
         subst (λ (r : Phase). IsNext (f d) (Putting r call) → Fits (call_by s d f (Putting r call)) x → Found x) (sym (table.putting p (length (f d)) here q call is))
         (λ is fits. putting call x is fits allow (table.writing p call (length (f d)) is)) is fits
 
-    -- an answer to the call due is at most one event, or tells of a greater ballot
+    -- an answer to the call due on the disk is at most one event, or tells of a greater ballot
     pub answered : (x : Heard) → IsAnswer s f d x → RegistersAllow s.host d (f d) x m → Moves s p f d x m ⊎ IsFaster s p f d x m
-    answered x answer allow = by_kind answer.kind x answer.kind_is answer.fits allow
+    answered x answer allow = by_kind answer.made.kind x answer.made.kind_is answer.fits allow

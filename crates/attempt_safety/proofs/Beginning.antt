@@ -1,5 +1,6 @@
 -- An attempt begins; and a write of it may begin whose first call gets no answer.
-use Rattle.std.proofs.Common.{ℕ, zero, suc, ◌≡◌, ◌<◌, List, [], ◌∷◌, ◌++◌, length, refl, sym, subst, ap, ap₂, ◌∙◌, arith}
+use Rattle.std.proofs.Common.{ℕ, zero, suc, ◌≡◌, ◌<◌, true, Some, List, [], ◌∷◌, ◌++◌, length, refl, sym, subst, ap, ap₂, ◌∙◌, arith}
+use Rattle.disk.specs.Disk.{Call}
 use Rattle.torn_block.specs.declared.write_steps.WriteCall.TheVariants.{CloseGate}
 use Rattle.paxos_block.specs.Saying.{Said as PBlock}
 use Rattle.paxos_block.specs.Row.{blank}
@@ -9,8 +10,11 @@ use Rattle.attempt.specs.Answers.{Answered, on}
 use Rattle.attempt.specs.Setup.{Setup}
 use Rattle.attempt.specs.Proposal.{own_below}
 use Rattle.attempt.specs.Status.{Status, Due, Ended, Committed, Decided, Empty, Outrun, NoMajority, BallotsSpent, status}
+use Rattle.attempt.specs.NextCall.{call_due}
+use Rattle.attempt.specs.Visits.{waits}
 use Rattle.attempt.proofs.Visitors.{waiting_is}
-use Rattle.attempt.proofs.Statuses.{IsOver, Tells, status_tells, due_is}
+use Rattle.attempt.proofs.Replies.{due_on}
+use Rattle.attempt.proofs.Statuses.{IsOver, Tells, status_tells}
 use Rattle.attempt.proofs.Histories.{visit}
 use Rattle.agreement.specs.State.{Cell, none_opened, start}
 use Rattle.agreement.specs.State.Mind.{Opening as OpeningMind}
@@ -22,7 +26,7 @@ use Rattle.agreement.proofs.Runs.{holds_reached}
 use Rattle.attempt_safety.specs.Machine.{Machine, vote_said, mind_in, write_in}
 use Rattle.attempt_safety.specs.Follows.{StandsIn, Agrees, Follows}
 use Rattle.attempt_safety.specs.Registers.{IsNext}
-use Rattle.attempt_safety.proofs.Stages.{writing}
+use Rattle.attempt_safety.proofs.Stages.{writing, putting}
 use Rattle.attempt_safety.proofs.Writes.{may_begin}
 use Rattle.attempt_safety.proofs.Turning.{none_over}
 
@@ -77,12 +81,16 @@ module _ (s : Setup) where
 
 -- A WRITE
 
--- where its first call is due, it may begin
-pub write_begins : (s : Setup) (early : List (Event (List ℕ))) (heard : List Answered) (p : Phase) (d : ℕ) → IsRun s.disks early → Follows s heard (state_after early)
-    → status s (on heard) ≡ Due p d → IsNext (on heard d) (Putting p CloseGate) → IsRun s.disks (early ++ Begins s.host d (write_in s p (on heard)) ∷ [])
-write_begins s early heard p d is_run follows due is =
-    let stands : StandsIn s p (on heard) (state_after early) = subst (Agrees s (on heard) (state_after early)) due follows.agrees in
-    let waiting = waiting_is s p (on heard d) (visit s p d (on heard) (due_is s (on heard) p d due)).passes in
+-- where its first call is due on a disk, it may begin
+pub write_begins : (s : Setup) (early : List (Event (List ℕ))) (heard : List Answered) (p : Phase) (d : ℕ) (call : Call) → IsRun s.disks early → Follows s heard (state_after early)
+    → call_due s (on heard) d ≡ Some call → IsNext (on heard d) (Putting p CloseGate) → IsRun s.disks (early ++ Begins s.host d (write_in s p (on heard)) ∷ [])
+write_begins s early heard p d call is_run follows made is =
+    let due = (due_on s (on heard) d call made).0 in
+    let here = waiting_is s due.phase (on heard d) due.waits_for in
+    let same : p ≡ due.phase = putting due.phase (length (on heard d)) (record { come = here.part.come; short = here.short }) p CloseGate is in
+    let at : status s (on heard) ≡ Due p due.first = due.due ∙ ap (λ (q : Phase). Due q due.first) (sym same) in
+    let stands : StandsIn s p (on heard) (state_after early) = subst (Agrees s (on heard) (state_after early)) at follows.agrees in
+    let waiting = waiting_is s p (on heard d) (subst (λ (q : Phase). waits s q (on heard d) ≡ true) (sym same) due.waits_for) in
     let marked = writing p CloseGate (length (on heard d)) is in
     one_more s.disks early (Begins s.host d (write_in s p (on heard))) is_run
     (may_begin s p (on heard) d (state_after early) (holds_reached s.disks early is_run) stands waiting.part marked.0 marked.1)

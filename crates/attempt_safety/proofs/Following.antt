@@ -1,4 +1,4 @@
--- One answer, from the call that was due to the status behind it, is a few events of the machine.
+-- One answer, from the call that was due on its disk to the status behind it, is a few events of the machine.
 use Rattle.std.specs.Prelude.{nat_lt, not}
 use Rattle.std.specs.List.{All}
 use Rattle.std.proofs.Common.{ℕ, ◌+◌, ◌<◌, ◌≤◌, ◌≡◌, inl, inr, true, false, Some, List, [], ◌∷◌, ◌++◌, length, length-append, sym, subst, ap, ◌∙◌, arith}
@@ -12,20 +12,20 @@ use Rattle.attempt.specs.Answers.{Heard, Told, Answered, Answers, on, is_bad, to
 use Rattle.attempt.specs.Setup.{Setup}
 use Rattle.attempt.specs.Visits.{takes_part, visited, is_left, are_enough}
 use Rattle.attempt.specs.Proposal.{ballot, others_top, others_mbal}
-use Rattle.attempt.specs.NextCall.{next_call}
+use Rattle.attempt.specs.NextCall.{call_due}
 use Rattle.attempt.specs.Standing.{IsIn}
 use Rattle.attempt.specs.Status.{Ended, Outrun, status}
-use Rattle.attempt.specs.History.{IsAnswerTo, IsHistory}
+use Rattle.attempt.specs.History.{IsAnswerOn, IsHistory}
 use Rattle.attempt.specs.Chosen.{accepts_in, accepts, Chooses}
 use Rattle.attempt.specs.Prepared.{Proposes}
 use Rattle.attempt.proofs.Lists.{length_more, row_last}
 use Rattle.attempt.proofs.More.{more_here, more_there, by_disk, on_more}
-use Rattle.attempt.proofs.Hearing.{history_more}
+use Rattle.attempt.proofs.Hearing.{history_more_on}
 use Rattle.attempt.proofs.Replies.{IsAnswer, answer_is}
 use Rattle.attempt.proofs.Rows.{ballot_same, rows_kept}
-use Rattle.attempt.proofs.Visitors.{IsWaiting, waiting_is, part_if, part_more, left_is}
-use Rattle.attempt.proofs.Statuses.{IsDueAt, due_is, status_tells, in_kept, EnoughBefore, enough_before, enough_more, outrun_one, outrun_two}
-use Rattle.attempt.proofs.Histories.{IsReached, history_reached, visit, behind_due}
+use Rattle.attempt.proofs.Visitors.{IsWaiting, part_if, part_more, left_is}
+use Rattle.attempt.proofs.Statuses.{status_tells, in_kept, EnoughBefore, enough_before, enough_more, outrun_one, outrun_two}
+use Rattle.attempt.proofs.Histories.{IsReached, history_reached, behind_due, IsCalledIn, called_in}
 use Rattle.agreement.specs.State.{Cell, start as beginning}
 use Rattle.agreement.specs.Event.{Event, Allowed, AllAllowed, after, run, IsRun, state_after}
 use Rattle.agreement.specs.Chosen.{IsProposing, IsCommitted}
@@ -59,18 +59,18 @@ pub record Comes (s : Setup) (f : Answers) (d : ℕ) (x : Heard) (g : Answers) (
   pub allowed : AllAllowed s.disks m events
   pub goes : Goes s f d x g m (run m events)
 
-module _ (s : Setup) (f : Answers) (d : ℕ) (x : Heard) (m : Machine) (p : Phase) (due : IsDueAt s p d f) (reached : IsReached s f) (stands : StandsIn s p f m) (reached_then : IsReached s (more f d x)) (of_cluster : IsOfCluster s) where
+module _ (s : Setup) (f : Answers) (d : ℕ) (x : Heard) (m : Machine) (p : Phase) (due : IsCalledIn s p d f) (reached : IsReached s f) (stands : StandsIn s p f m) (reached_then : IsReached s (more f d x)) (of_cluster : IsOfCluster s) where
   abbrev g : Answers
   g = more f d x
 
   waiting : IsWaiting s p (f d)
-  waiting = waiting_is s p (f d) (visit s p d f due).passes
+  waiting = due.waiting
 
   come_then : IsIn s p g
-  come_then = in_kept s f d x p waiting.part.come due.come
+  come_then = in_kept s f d x p waiting.part.come due.at.come
 
   behind_then : (e : ℕ) → length (g e) ≤ goal p
-  behind_then = by_disk f d x (λ e a. length a ≤ goal p) (omega (arith, length_more (f d) x, waiting.short)) (λ e off. behind_due s f p d reached due e)
+  behind_then = by_disk f d x (λ e a. length a ≤ goal p) (omega (arith, length_more (f d) x, waiting.short)) (λ e off. behind_due s f p due.first reached due.at e)
 
   -- the answer's event, and the turn
   by_moves : Moves s p f d x m → Comes s f d x g m
@@ -101,7 +101,7 @@ module _ (s : Setup) (f : Answers) (d : ℕ) (x : Heard) (m : Machine) (p : Phas
     above_then : nat_lt (ballot s g) (others_mbal s p g) ≡ true
     above_then =
         let over : ballot s f < highest_mbal_of_others s.version s.host row = ltb-true (ballot s f) (highest_mbal_of_others s.version s.host row) above in
-        let most = greatest_is_greatest s.disks (λ e. others_top s.version s.host (row_in p (g e))) d (visit s p d f due).below in
+        let most = greatest_is_greatest s.disks (λ e. others_top s.version s.host (row_in p (g e))) d due.below in
         let here : others_top s.version s.host (row_in p (g d)) ≡ highest_mbal_of_others s.version s.host row = ap (others_top s.version s.host) row_then in
         let same = ballot_then in
         lt-ltb (ballot s g) (others_mbal s p g) (omega arith)
@@ -113,7 +113,7 @@ module _ (s : Setup) (f : Answers) (d : ℕ) (x : Heard) (m : Machine) (p : Phas
         (λ left. part_if p (f d ++ x ∷ []) (part_more p (f d) x (ap is_bad is) waiting.part))
         (λ k off left. part_if p (f k) (left_is s p (visited s p f) f k left))
         e left)
-        due.enough
+        due.at.enough
 
 -- whatever the phase, the status is that end
 outrun_is : (s : Setup) (g : Answers) (p : Phase) → IsIn s p g → EnoughBefore s p g → nat_lt (ballot s g) (others_mbal s p g) ≡ true → start One < goal p → status s g ≡ Ended (Outrun (others_mbal s p g))
@@ -126,7 +126,7 @@ module _ (s : Setup) (f : Answers) (d : ℕ) (x : Heard) (m : Machine) where
   abbrev then : Answers
   then = more f d x
 
-  faster_commits : (p : Phase) (due : IsDueAt s p d f) (reached : IsReached s f) (stands : StandsIn s p f m) (reached_then : IsReached s then) (of_cluster : IsOfCluster s)
+  faster_commits : (p : Phase) (due : IsCalledIn s p d f) (reached : IsReached s f) (stands : StandsIn s p f m) (reached_then : IsReached s then) (of_cluster : IsOfCluster s)
       (row : List DecodedBlock) (is : x ≡ Told (Some row)) (last : length (f d) + 1 ≡ goal p) (later : start One ≤ length (f d)) (above : nat_lt (ballot s f) (highest_mbal_of_others s.version s.host row) ≡ true)
       → (value : List ℕ) → Chooses s then value → IsCommitted s.disks m s.host (ballot s then) value
   faster_commits Opening due reached stands reached_then of_cluster row is last later above value chooses = absurd (omega arith)
@@ -153,7 +153,7 @@ module _ (s : Setup) (f : Answers) (d : ℕ) (x : Heard) (m : Machine) where
           ∙ ap not above
 
   -- as is what was proposed before it
-  faster_proposes : (p : Phase) (due : IsDueAt s p d f) (reached : IsReached s f) (stands : StandsIn s p f m) (reached_then : IsReached s then) (of_cluster : IsOfCluster s)
+  faster_proposes : (p : Phase) (due : IsCalledIn s p d f) (reached : IsReached s f) (stands : StandsIn s p f m) (reached_then : IsReached s then) (of_cluster : IsOfCluster s)
       (row : List DecodedBlock) (is : x ≡ Told (Some row)) (last : length (f d) + 1 ≡ goal p) (later : start One ≤ length (f d)) (above : nat_lt (ballot s f) (highest_mbal_of_others s.version s.host row) ≡ true)
       → (value : List ℕ) → Proposes s then value → IsProposing m s.host (ballot s then) value
   faster_proposes Opening due reached stands reached_then of_cluster row is last later above value p = absurd (omega arith)
@@ -162,7 +162,7 @@ module _ (s : Setup) (f : Answers) (d : ℕ) (x : Heard) (m : Machine) where
   faster_proposes Two due reached stands reached_then of_cluster row is last later above value p =
       stands.mind ∙ sym (mind_same s then f (rows_kept f d x Opening later) (rows_kept f d x One (omega (arith, last))) Two) ∙ knows_two s then value p.has.is
 
-module _ (s : Setup) (f : Answers) (d : ℕ) (x : Heard) (m : Machine) (p : Phase) (due : IsDueAt s p d f) (reached : IsReached s f) (stands : StandsIn s p f m) (reached_then : IsReached s (more f d x)) (of_cluster : IsOfCluster s) where
+module _ (s : Setup) (f : Answers) (d : ℕ) (x : Heard) (m : Machine) (p : Phase) (due : IsCalledIn s p d f) (reached : IsReached s f) (stands : StandsIn s p f m) (reached_then : IsReached s (more f d x)) (of_cluster : IsOfCluster s) where
   by_faster : IsFaster s p f d x m → Comes s f d x (more f d x) m
   by_faster k =
       let enough = enough_before s p (more f d x) (enough_then s f d x m p due reached stands reached_then of_cluster k.row k.is k.last k.later k.above) in
@@ -184,7 +184,7 @@ module _ (s : Setup) (f : Answers) (d : ℕ) (x : Heard) (m : Machine) (p : Phas
 
   comes : (holds : Holds s.disks m) → IsAnswer s f d x → RegistersAllow s.host d (f d) x m → Comes s f d x (more f d x) m
   comes holds answer allow =
-      elim (answered s f d m holds of_cluster reached p due stands x answer allow) [
+      elim (answered s f d m holds of_cluster p due stands x answer allow) [
         | inl one ↦ by_moves s f d x m p due reached stands reached_then of_cluster one
         | inr faster ↦ by_faster faster
       ]
@@ -213,14 +213,16 @@ module _ (s : Setup) (early : List (Event (List ℕ))) (heard : List Answered) (
         };
       }
 
-  pub leads : IsOfCluster s → IsRun s.disks early → Follows s heard (state_after early) → IsAnswerTo (next_call s (on heard)) x
+  pub leads : IsOfCluster s → IsRun s.disks early → Follows s heard (state_after early) → IsAnswerOn (call_due s (on heard) x.disk) x.heard
       → RegistersAllow s.host x.disk (on heard x.disk) x.heard (state_after early) → Leads s early heard x
   leads of_cluster is_run follows answers allow =
-      let answer = answer_is s (on heard) x answers in
-      let history = history_more (next_call s) heard x follows.history answers in
+      let answer = answer_is s (on heard) x.disk x.heard answers in
+      let made = answer.made in
+      let history = history_more_on (call_due s) heard x follows.history answers in
+      let reached = history_reached s heard follows.history in
       let reached_then = subst (IsReached s) (on_more heard x) (history_reached s new history) in
-      let stands : StandsIn s answer.phase (on heard) (state_after early) = subst (Agrees s (on heard) (state_after early)) answer.due follows.agrees in
+      let stands : StandsIn s made.phase (on heard) (state_after early) = subst (Agrees s (on heard) (state_after early)) made.due follows.agrees in
       leads_by is_run history
       (subst (λ (g : Answers). Comes s (on heard) x.disk x.heard g (state_after early)) (sym (on_more heard x))
-      (comes s (on heard) x.disk x.heard (state_after early) answer.phase (due_is s (on heard) answer.phase x.disk answer.due)
-      (history_reached s heard follows.history) stands reached_then of_cluster (holds_reached s.disks early is_run) answer allow))
+      (comes s (on heard) x.disk x.heard (state_after early) made.phase (called_in s (on heard) x.disk made reached)
+      reached stands reached_then of_cluster (holds_reached s.disks early is_run) answer allow))

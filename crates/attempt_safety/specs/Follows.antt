@@ -27,7 +27,7 @@ Agrees s f m (Ended (Outrun mbal)) = Unit {0}
 Agrees s f m (Ended NoMajority) = Unit {0}
 Agrees s f m (Ended BallotsSpent) = Unit {0}
 
--- the machine agrees with the attempt's status after these answers, each of which was to the call due
+-- the machine agrees with the attempt's status after these answers, each of which was to the call due on its disk
 pub record Follows (s : Setup) (heard : List Answered) (m : Machine) : Type 0 where
   pub history : IsHistory s heard
   pub agrees : Agrees s (on heard) m (status s (on heard))

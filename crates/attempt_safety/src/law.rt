@@ -1,15 +1,16 @@
 // What an attempt does is what agreement allows.
-ghost use Rattle.std.specs.Prelude.{◌≡◌, ◌≢◌, ◌∷◌, ◌++◌, ◌<◌, ℕ, List, [], length};
+ghost use Rattle.std.specs.Prelude.{◌≡◌, ◌≢◌, ◌∷◌, ◌++◌, ◌<◌, ℕ, List, [], length, Some};
+ghost use Rattle.disk.specs.Disk.{Call};
 ghost use Rattle.torn_block.specs.declared.write_steps.WriteCall.TheVariants.{CloseGate};
 ghost use Rattle.attempt.specs.Calls.{Phase, Putting};
 ghost use Rattle.attempt.specs.Answers.{Answered, on};
 ghost use Rattle.attempt.specs.Setup.{Setup};
 ghost use Rattle.attempt.specs.Proposal.{ballot};
-ghost use Rattle.attempt.specs.NextCall.{next_call};
-ghost use Rattle.attempt.specs.Status.{Due, Ended, Committed, Empty, status};
+ghost use Rattle.attempt.specs.NextCall.{call_due};
+ghost use Rattle.attempt.specs.Status.{Ended, Committed, Empty, status};
 ghost use Rattle.attempt.specs.Chosen.{Chooses};
 ghost use Rattle.attempt.specs.Prepared.{Proposes};
-ghost use Rattle.attempt.specs.History.{IsAnswerTo, IsHistory};
+ghost use Rattle.attempt.specs.History.{IsAnswerOn, IsHistory};
 ghost use Rattle.agreement.specs.State.{Block};
 ghost use Rattle.agreement.specs.Event.{Event, IsRun, state_after, after};
 ghost use Rattle.agreement.specs.Event.Event.{Stops, Starts, Begins, Settles, Crashes};
@@ -32,12 +33,12 @@ pub fn attempt_begins()
         Follows s [] (state_after (early ++ Starts s.host ∷ [])) }
 {}
 
-/// Any answer to the call that is due, if the registers allow it, is at most two events of the machine.
+/// Any answer to the call that is due on its disk, if the registers allow it, is at most two events of the machine.
 /// Each of them is allowed, and after them the machine follows the attempt with that answer.
 pub fn answers_lead()
     ensures { (s : Setup) (early : List (Event (List ℕ))) (heard : List Answered) (x : Answered) →
         IsOfCluster s → IsRun s.disks early → Follows s heard (state_after early) →
-        IsAnswerTo (next_call s (on heard)) x →
+        IsAnswerOn (call_due s (on heard) x.disk) x.heard →
         RegistersAllow s.host x.disk (on heard x.disk) x.heard (state_after early) →
         Leads s early heard x }
 {}
@@ -45,8 +46,8 @@ pub fn answers_lead()
 /// If a host stops in the first call of a write, that call has no answer, but the write may begin.
 pub fn torn_writes_begin()
     ensures { (s : Setup) (early : List (Event (List ℕ))) (heard : List Answered)
-        (p : Phase) (d : ℕ) → IsRun s.disks early → Follows s heard (state_after early) →
-        status s (on heard) ≡ Due p d → IsNext (on heard d) (Putting p CloseGate) →
+        (p : Phase) (d : ℕ) (call : Call) → IsRun s.disks early → Follows s heard (state_after early) →
+        call_due s (on heard) d ≡ Some call → IsNext (on heard d) (Putting p CloseGate) →
         IsRun s.disks (early ++ Begins s.host d (write_in s p (on heard)) ∷ []) }
 {}
 

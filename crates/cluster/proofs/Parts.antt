@@ -5,7 +5,8 @@ use Rattle.disk.specs.Disk.{DiskState, Answer, Step, Crashes}
 use Rattle.disk.specs.Steps.{WritesOn}
 use Rattle.torn_block.specs.declared.layout.TheConstants.{HOSTS}
 use Rattle.paxos_block.specs.Shape.{Shape}
-use Rattle.host.specs.Host.{Stopped, is_stopped, idles, next_of}
+use Rattle.host.specs.Host.{Host, Stopped, is_stopped, idles, due_of}
+use Rattle.host.proofs.Due.{due_next}
 use Rattle.world.specs.Entry.{Filled, Start, Stop, Begin, Called, Torn, Crashed, Lost, Migrated, is_of, disk_after, host_after}
 use Rattle.world.specs.Entry as entry
 use Rattle.world.specs.World.{world, opening_disk, MayFollow, IsRunFrom, IsFreshRun}
@@ -41,7 +42,7 @@ calls c log seat book answer disk run of_seat of_book due fits step =
     let there : disk ≡ entry.disk_step (disk_in c book) e = leaves (disk_in c book) disk call answer fits step in
     let done : Step (disk_in c book) call answer (entry.disk_step (disk_in c book) e) = subst (λ (d : DiskState). Step (disk_in c book) call answer d) there step in
     runs.fresh_more c log e run (
-      ap (next_of c seat.number) (host_is c log seat of_seat) ∙ due,
+      ap (λ (host : Host). due_of c seat.number host book.number) (host_is c log seat of_seat) ∙ due_next c seat.number (host_in c seat) book.number call due,
       subst (λ (d : DiskState). Step d call answer (entry.disk_step d e)) (sym (disk_is c log book of_book)) done,
     )
 
@@ -66,8 +67,8 @@ module _ (c : Shape) (h : ℕ) (above : HOSTS ≤ h) (before : List Filled) (non
   not_its (Start g) may is = let same : g ≡ h = eqb-true g h is in omega (arith, may.0, same, above)
   not_its (Stop g) may is = let no : false ≡ true = sym may ∙ ap is_stopped (stopped g (eqb-true g h is)) in cc no
   not_its (Begin g task) may is = let no : true ≡ false = sym may.0 ∙ ap idles (stopped g (eqb-true g h is)) in cc no
-  not_its (Called g k call answer left) may is = let no = sym may.0 ∙ ap (next_of c g) (stopped g (eqb-true g h is)) in cc no
-  not_its (Torn g k call left) may is = let no = sym may.0 ∙ ap (next_of c g) (stopped g (eqb-true g h is)) in cc no
+  not_its (Called g k call answer left) may is = let no = sym may.0 ∙ ap (λ (host : Host). due_of c g host k) (stopped g (eqb-true g h is)) in cc no
+  not_its (Torn g k call left) may is = let no = sym may.0 ∙ ap (λ (host : Host). due_of c g host k) (stopped g (eqb-true g h is)) in cc no
   not_its (Crashed k left) may is = cc is
   not_its (Lost k) may is = cc is
   not_its (Migrated disks log) may is = absurd may

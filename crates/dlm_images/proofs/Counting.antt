@@ -7,11 +7,12 @@ use Rattle.std.proofs.lemmas.Bool.{ltb-true, leb-false}
 use Rattle.std.proofs.lemmas.List.{length-append, length-set}
 use Rattle.attempt.specs.Answers.{Answered, on}
 use Rattle.attempt.specs.History.{IsAnswerTo, IsHistory}
-use Rattle.attempt.specs.NextCall.{next_call}
+use Rattle.attempt.specs.NextCall.{call_due, next_call}
 use Rattle.attempt.specs.Status as attempt
 use Rattle.attempt.specs.Status.{Status, Due, Ended, status, taken}
 use Rattle.attempt.proofs.Ends as ends
-use Rattle.attempt.proofs.Hearing.{history_more}
+use Rattle.attempt.proofs.Hearing.{history_more, history_more_on, answers_on}
+use Rattle.attempt.proofs.InTurn.{next_is_due}
 use Rattle.disk.specs.Disk as device
 use Rattle.lock_command.specs.declared.command.Command.{Command}
 use Rattle.lock_command.specs.Reading.{decoded}
@@ -165,7 +166,9 @@ module _ (c : Shape) (h : ℕ) where
   goes m t ballot (Ended attempt.BallotsSpent) is = tt
 
   longer : (m : Memory) (t : Attempt) (x : Answered) → IsAttempt c h m t → IsAnswerTo (next_call (setup_of c h m t.operation) (on t.heard)) x → IsHistory (setup_of c h m t.operation) (t.heard ++ x ∷ [])
-  longer m t x is answers = history_more (next_call (setup_of c h m t.operation)) t.heard x is.history answers
+  longer m t x is answers =
+      let s = setup_of c h m t.operation in
+      history_more_on (call_due s) t.heard x is.history (answers_on (call_due s) (next_call s) (next_is_due s) (on t.heard) x answers)
 
   goes_further : (m : Memory) (t : Attempt) (x : Answered) → IsAttempt c h m t → IsAnswerTo (next_call (setup_of c h m t.operation) (on t.heard)) x → IsGoing (hears c h m t x)
   goes_further m t x is answers = goes m (with_heard t x) _ _ (record { history = longer m t x is answers; tries = is.tries; slot = is.slot })

@@ -16,7 +16,7 @@ use Rattle.lock_table.specs.Carrying.{carried_over}
 use Rattle.lock_table.specs.Picture.{Shown, IsPictureOf}
 use Rattle.host.specs.declared.task.Task.{Task}
 use Rattle.host.specs.declared.task.Task.TheVariants as task
-use Rattle.host.specs.Host.{Operation, Submitting, Recovering, Doing, Attempts, Memory, Stopped, Running, next_in, idles, is_stopped}
+use Rattle.host.specs.Host.{Operation, Submitting, Recovering, Doing, Attempts, Memory, Stopped, Running, due_in, idles, is_stopped}
 use Rattle.epoch_deeds.specs.Deeds.{Deed, Deeds, Calls, CallsIn, Starts, Begins, Stops, past_on, core_in}
 
 abbrev pub image_of : Shape → ℕ
@@ -88,11 +88,11 @@ SubmitsWhatIsDue c h e deeds learned other = Unit {0}
 
 -- WHAT IT MAY DO
 
--- Its core in an epoch has this call due on a disk, and submits nothing but what is due.
+-- Its core in an epoch may make this call on a disk, and submits nothing but what is due.
 pub record HasDue (c : Shape) (h e : ℕ) (deeds : Deeds) (d : ℕ) (call : Call) : Type 0 where
   pub memory : Memory
   pub runs : core_in c h e deeds ≡ Running memory
-  pub next : next_in c h memory ≡ Some (d, call)
+  pub due : due_in c h memory d ≡ Some call
   pub submits : SubmitsWhatIsDue c h e deeds memory.learned memory.doing
 
 -- A row that the core hears was read by the deed before. Now the standings are read once more, and show it.

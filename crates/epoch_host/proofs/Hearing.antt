@@ -16,6 +16,7 @@ use Rattle.standings.specs.Past.{Made, Past, made, number_write, MayCall, MayCal
 use Rattle.attempt.specs.DeviceCalls.{call_of_need, device_call_of}
 use Rattle.attempt.specs.declared.need.Need.{Need}
 use Rattle.host.specs.Host.{Memory, hears_from, next_in}
+use Rattle.host.proofs.Due.{due_doing_next}
 use Rattle.host.specs.Kept.{Kept, LeadsTo, due_call}
 use Rattle.host.proofs.Hosts.{idle_is}
 use Rattle.lock_command.specs.declared.command.Command.{Command}
@@ -261,7 +262,7 @@ module _ (c : Shape) (h : ℕ) (deeds : Deeds) (s : Stay) (led : LeadsToStay c h
 
     may_hear : MayDo c h deeds deed
     may_hear = (
-      record { memory = led.memory; runs = led.runs; next = next; submits = submits_due c h s.epoch deeds s.over what led.memory.learned led.memory.doing led.over works_so.submits works_so.spelled },
+      record { memory = led.memory; runs = led.runs; due = due_doing_next c h led.memory led.memory.doing d wanted next; submits = submits_due c h s.epoch deeds s.over what led.memory.learned led.memory.doing led.over works_so.submits works_so.spelled },
       at_here (λ slots host e. MayCallIn (image_length cluster_version slots) e host (past_on d deeds) wanted) (may (pasts_of deeds) led.window (works_so.ready d wanted next)),
       heard_by wanted refl cause at_once is_answered,
     )

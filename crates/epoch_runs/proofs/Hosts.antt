@@ -7,7 +7,7 @@ use Rattle.paxos_block.specs.Shape.{Shape}
 use Rattle.standings.specs.Past.{Made}
 use Rattle.host.specs.declared.task.Task.{Task}
 use Rattle.host.specs.declared.task.Task.TheVariants as task
-use Rattle.host.specs.Host.{Host, Stopped, Running, fresh, next_of, is_stopped, idles}
+use Rattle.host.specs.Host.{Host, Stopped, Running, fresh, due_of, is_stopped, idles}
 use Rattle.world.specs.Entry.{Filled, Start, Stop, Begin, Called, Torn, is_of, of_host, host_step, host_after, hears_on, begins_on}
 use Rattle.world.specs.World as one_world
 use Rattle.at_once.specs.AtOnce as acting
@@ -185,8 +185,8 @@ given_back c h (task.Mark slot) may = may
 pub tasks_are_the_same : TasksAreTheSame
 tasks_are_the_same c h given = (given_same c h given, given_back c h given)
 
-due_next : (c : Shape) (h e : ℕ) (deeds : Deeds) (d : ℕ) (call : Call) → HasDue c h e deeds d call → next_of c h (core_in c h e deeds) ≡ Some (d, call)
-due_next c h e deeds d call due = ap (next_of c h) due.runs ∙ due.next
+due_there : (c : Shape) (h e : ℕ) (deeds : Deeds) (d : ℕ) (call : Call) → HasDue c h e deeds d call → due_of c h (core_in c h e deeds) d ≡ Some call
+due_there c h e deeds d call due = ap (λ (core : Host). due_of c h core d) due.runs ∙ due.due
 
 -- ONE ENTRY
 
@@ -284,8 +284,9 @@ module _ (crashing : Crashing) (c : Shape) (w : World) (entries : List Entry) (e
           let same : k ≡ s.disk = cc in
           leads_in c h e s.epoch (Called h k s.call s.heard []) core (shown_to c h e core (Some s)) (same_self h)
           (λ here.
-          (let next : next_of c h (core_in c h s.epoch (w.deeds h)) ≡ Some (s.disk, s.call) = ap (next_of c h) (sym (core_more c h s.epoch Stopped (w.deeds h) (Calls k made))) ∙ due_next c h s.epoch (w.deeds h ++ Calls k made ∷ []) s.disk s.call pending.due in (
-            subst (λ (x : ℕ). next_of c h (core_in c h x (w.deeds h)) ≡ Some (k, s.call)) here (next ∙ ap (λ (d : ℕ). Some (d, s.call)) (sym same)),
+          (let next : due_of c h (core_in c h s.epoch (w.deeds h)) s.disk ≡ Some s.call =
+          ap (λ (core : Host). due_of c h core s.disk) (sym (core_more c h s.epoch Stopped (w.deeds h) (Calls k made))) ∙ due_there c h s.epoch (w.deeds h ++ Calls k made ∷ []) s.disk s.call pending.due in (
+            subst (λ (x : ℕ). due_of c h (core_in c h x (w.deeds h)) k ≡ Some s.call) here (ap (due_of c h (core_in c h s.epoch (w.deeds h))) same ∙ next),
             hearing_same c h core k s.heard ∙ ap (λ (d : ℕ). hearing c h core d s.heard) same ∙ ap (λ (b : Bool). cond b (hearing c h core s.disk s.heard) core) (sym (eq-eqb s.epoch e here)),
           )))
           (λ there. ap (λ (b : Bool). cond b (hearing c h core s.disk s.heard) core) (sym there))
@@ -303,7 +304,7 @@ module _ (crashing : Crashing) (c : Shape) (w : World) (entries : List Entry) (e
       either false =
           leads_in c h e epoch (Called h k call heard []) core (cond (epoch == e) (hearing c h core k heard) core) (same_self h)
           (λ here. (
-            subst (λ (x : ℕ). next_of c h (core_in c h x (w.deeds h)) ≡ Some (k, call)) here (due_next c h epoch (w.deeds h) k call due),
+            subst (λ (x : ℕ). due_of c h (core_in c h x (w.deeds h)) k ≡ Some call) here (due_there c h epoch (w.deeds h) k call due),
             hearing_same c h core k heard ∙ ap (λ (b : Bool). cond b (hearing c h core k heard) core) (sym (eq-eqb epoch e here)),
           ))
           (λ there. ap (λ (b : Bool). cond b (hearing c h core k heard) core) (sym there))
@@ -367,7 +368,7 @@ module _ (crashing : Crashing) (c : Shape) (w : World) (entries : List Entry) (e
             leads_one c h core Stopped (of_host h (part e (lived_at c w.deeds (BreaksIn epoch h k call) entries))) (Torn h k call [])
             (one_in h e epoch (Torn h k call []) (others_stop c h epoch (w.deeds h)) (same_self h) here
             ∙ ap (λ (l : List Filled). Torn h k call [] ∷ l) (stops_none h e stopped (below (w.deeds h)) (inl (or_left (epoch == e) (has_stopped c h (w.deeds h) e) here))))
-            (subst (λ (x : ℕ). next_of c h (core_in c h x (w.deeds h)) ≡ Some (k, call)) (eqb-true epoch e here) (due_next c h epoch (w.deeds h) k call due)) refl
+            (subst (λ (x : ℕ). due_of c h (core_in c h x (w.deeds h)) k ≡ Some call) (eqb-true epoch e here) (due_there c h epoch (w.deeds h) k call due)) refl
         | inr there ↦
             subst (λ (l : List Filled). Leads c h core l Stopped) (sym (none_in h e epoch (Torn h k call []) (others_stop c h epoch (w.deeds h)) there))
             (leads_stops c h e (w.deeds h) stopped (ap (λ (b : Bool). b || has_stopped c h (w.deeds h) e) there))

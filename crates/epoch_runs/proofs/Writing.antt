@@ -11,7 +11,8 @@ use Rattle.torn_block.specs.declared.write_steps.WriteCall.TheVariants.{CloseGat
 use Rattle.attempt.specs.Answers.{Heard, Answers, Answered, on, told, heard_as}
 use Rattle.attempt.specs.Calls.{One, Two, Kind, Putting, seventeen}
 use Rattle.attempt.specs.Chosen.{accepts_in, accepts}
-use Rattle.attempt.specs.NextCall.{call_by, next_call, next_in, with_disk}
+use Rattle.attempt.specs.NextCall.{call_by, call_due}
+use Rattle.attempt.proofs.Replies.{due_on}
 use Rattle.attempt.specs.Numbers.{count}
 use Rattle.attempt.specs.Setup.{Setup}
 use Rattle.attempt.specs.Status.{Status, Due, Ended, Committed, Decided, Empty, Outrun, NoMajority, BallotsSpent, status, taken}
@@ -21,7 +22,7 @@ use Rattle.lock_command.specs.Reading.{decoded}
 use Rattle.host.specs.declared.answer.HostAnswer.TheVariants.{Looked, Refused}
 use Rattle.host.specs.declared.task.Task.{Task}
 use Rattle.host.specs.declared.task.Task.TheVariants.{Submit, Recover, Look, Beat, Mark}
-use Rattle.host.specs.Host.{Operation, Submitting, Recovering, Attempt, Marking, Looking, Doing, Attempts, Looks, Beats, Marks, Memory, Host, Stopped, Running, does, says, learns, with_floor, setup_of, begins, full_answer, goes_on, is_submitted, after_learning, takes, tries_again, by_status, with_heard, look_of, looks_on, takes_marked, look_by, looking_with, beat_of, beat_by, marking_of, marking_by, marking_with, starts, hears_from, next_doing, next_of}
+use Rattle.host.specs.Host.{Operation, Submitting, Recovering, Attempt, Marking, Looking, Doing, Attempts, Looks, Beats, Marks, Memory, Host, Stopped, Running, does, says, learns, with_floor, setup_of, begins, full_answer, goes_on, is_submitted, after_learning, takes, tries_again, by_status, with_heard, look_of, looks_on, takes_marked, look_by, looking_with, beat_of, beat_by, marking_of, marking_by, marking_with, starts, hears_from, due_doing, due_of}
 use Rattle.rounds.specs.Beat.Answers as beat_answers
 use Rattle.rounds.specs.Beat.Status as beat
 use Rattle.rounds.specs.Marking.Status as mark
@@ -33,35 +34,17 @@ use Rattle.at_once.specs.AtOnce as acting
 
 -- THE FOURTH CALL
 
-first_part : Option (ℕ × Call) → ℕ
-first_part None = 0
-first_part (Some p) = p.0
-
-second_part : Option (ℕ × Call) → Call
-second_part None = Attach
-second_part (Some p) = p.1
-
 -- the call is a write
 abbrev pub IsWrite : Call → Type 0
 IsWrite call = (boot : ℕ) × (at : ℕ) × (from : List ℕ) × (call ≡ Write boot at from)
 
 -- behind three calls an attempt writes
-fourth_writes : (s : Setup) (f : Answers) (k : ℕ) (call : Call) → next_call s f ≡ Some (k, call) → length (f k) ≡ 3 → IsWrite call
-unfolding first_part second_part
-fourth_writes s f k call next three = by_status_is (status s f) next
-  where
-    by_kind : (d : ℕ) (o : Option Kind) → slice_get seventeen (length (f d)) ≡ o → with_disk d (option_map (call_by s d f) o) ≡ Some (k, call) → IsWrite call
-    by_kind d None is there = absurd (cc)
-    by_kind d (Some kind) is there =
-        let same : d ≡ k = ap first_part there in
-        let long : length (f d) ≡ 3 = ap (λ (x : ℕ). length (f x)) same ∙ three in
-        let third : Some kind ≡ Some (Putting One CloseGate) = sym is ∙ ap (slice_get seventeen) long in
-        let kinds : kind ≡ Putting One CloseGate = cc in
-        (_, _, _, sym (ap second_part there) ∙ ap (call_by s d f) kinds)
-
-    by_status_is : (st : Status) → next_in s f st ≡ Some (k, call) → IsWrite call
-    by_status_is (Ended end) is = absurd (cc)
-    by_status_is (Due p d) is = by_kind d (slice_get seventeen (length (f d))) refl is
+fourth_writes : (s : Setup) (f : Answers) (k : ℕ) (call : Call) → call_due s f k ≡ Some call → length (f k) ≡ 3 → IsWrite call
+fourth_writes s f k call due three =
+    let made = due_on s f k call due in
+    let third : Some made.0.kind ≡ Some (Putting One CloseGate) = sym made.0.kind_is ∙ ap (slice_get seventeen) three in
+    let kinds : made.0.kind ≡ Putting One CloseGate = cc in
+    (_, _, _, sym made.1 ∙ ap (call_by s k f) kinds)
 
 -- what a disk answered once more
 on_more : (xs : List Answered) (x : Answered) (d : ℕ) → length (on (xs ++ x ∷ []) d) ≡ length (on xs d) + cond (x.disk == d) 1 0
@@ -148,7 +131,7 @@ module _ (c : Shape) (h d : ℕ) where
   marking_goes m t (mark.Ended mark.NoMajority) = tt
 
   -- by an answer it is so again, or the call was a write there
-  hears_few : (m : Memory) (o : Option Doing) (k : ℕ) (call : Call) (answer : Answer) → next_doing c h m o ≡ Some (k, call) → FewBy o → Few (hears_from c h m o k answer) ⊎ ((k ≡ d) × IsWrite call)
+  hears_few : (m : Memory) (o : Option Doing) (k : ℕ) (call : Call) (answer : Answer) → due_doing c h m o k ≡ Some call → FewBy o → Few (hears_from c h m o k answer) ⊎ ((k ≡ d) × IsWrite call)
   hears_few m None k call answer next few = absurd (cc)
   hears_few m (Some (Looks t)) k call answer next few =
       let more = looking_with t (record { disk = k; heard = heard_as answer }) in inl (look_goes m more (look.status (look_of c m t.first) (on more.heard)))

@@ -7,7 +7,7 @@ use Rattle.torn_block.specs.declared.layout.TheConstants.{ROW_LENGTH}
 use Rattle.paxos_block.specs.Shape.{Shape}
 use Rattle.standings.specs.Epochs.{epoch_of, base_of}
 use Rattle.standings.specs.Past.{made}
-use Rattle.host.specs.Host.{Host, Stopped, Running, next_doing, next_in}
+use Rattle.host.specs.Host.{Host, Stopped, Running, Doing, due_doing, due_in}
 use Rattle.endless.specs.Lived.{part, now}
 use Rattle.endless.specs.WithoutEnd.{host_by}
 use Rattle.epoch_deeds.specs.Deeds.{Deed, Deeds, Calls, core_in}
@@ -130,9 +130,8 @@ module _ (crashing : Crashing) (c : Shape) (entries : List Entry) (goes : Goes c
   not_idle h deeds s is idle =
       let due = is.due in
       let nothing = idle s.epoch due.memory due.runs in
-      let none : next_in c h due.memory ≡ None = ap (next_doing c h due.memory) nothing in
-      let there : ℕ × Call = (s.disk, s.call) in
-      let clash : None ≡ Some there = sym none ∙ due.next in
+      let none : due_in c h due.memory s.disk ≡ None = ap (λ (o : Option Doing). due_doing c h due.memory o s.disk) nothing in
+      let clash : None ≡ Some s.call = sym none ∙ due.due in
       absurd (cc)
 
   idle_unshown : (i h : ℕ) → AreIdleBy c h (deeds_at entries h i) → showing_next h (drop i entries) ≡ None

@@ -5,7 +5,7 @@ use Rattle.std.proofs.lemmas.Bool.{cases_lt, eqb-true}
 use Rattle.disk.specs.Disk.{Call}
 use Rattle.paxos_block.specs.Shape.{Shape}
 use Rattle.host.specs.declared.answer.HostAnswer.{HostAnswer}
-use Rattle.host.specs.Host.{Host, Stopped, Running, said_of, next_doing, next_of}
+use Rattle.host.specs.Host.{Host, Stopped, Running, said_of, Doing, due_doing, due_of}
 use Rattle.world.specs.Entry.{Filled, Called, Crashed, Lost, is_of}
 use Rattle.world.specs.World.{World, IsRun}
 use Rattle.world.specs.Chosen.{at, SaysAt, IsRecovery}
@@ -19,9 +19,9 @@ IsIdle Stopped = Unit {0}
 IsIdle (Running m) = m.doing ≡ None
 
 -- so no call is due
-idle_calls : (c : Shape) (h : ℕ) (host : Host) → IsIdle host → next_of c h host ≡ None
-idle_calls c h Stopped idle = refl
-idle_calls c h (Running m) idle = ap (next_doing c h m) idle
+idle_calls : (c : Shape) (h : ℕ) (host : Host) (k : ℕ) → IsIdle host → due_of c h host k ≡ None
+idle_calls c h Stopped k idle = refl
+idle_calls c h (Running m) k idle = ap (λ (o : Option Doing). due_doing c h m o k) idle
 
 module _ (c : Shape) (log : List Filled) (h : ℕ) where
   abbrev host_at : ℕ → Host
@@ -88,8 +88,7 @@ module _ (c : Shape) (log : List Filled) (h : ℕ) where
     not_called k e above upto found idle own =
         let call = recovery.calls k e above upto found own in
         let may = each c log k (Called h call.disk call.call call.answer call.left) run (found ∙ ap (λ (x : Filled). Some x) call.is) in
-        let there : ℕ × Call = (call.disk, call.call) in
-        let clash : None ≡ Some there = sym (idle_calls c h (host_at k) idle) ∙ may.0 in
+        let clash : None ≡ Some call.call = sym (idle_calls c h (host_at k) call.disk idle) ∙ may.0 in
         absurd (cc)
 
     -- so it stays so

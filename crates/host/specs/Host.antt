@@ -1,12 +1,12 @@
 -- Of the headline. A host: what follows from its tasks and the answers that it has heard since its start.
-use Rattle.std.specs.Prelude.{◌-◌, ℕ, Bool, true, false, List, [], ◌∷◌, ◌++◌, length, max, nat_lt, nat_le, slice_get, Option, Some, None, is_none, if◌then◌else◌, bytes_eq}
+use Rattle.std.specs.Prelude.{◌-◌, ◌==◌, ℕ, Bool, true, false, List, [], ◌∷◌, ◌++◌, length, max, nat_lt, nat_le, slice_get, Option, Some, None, is_none, if◌then◌else◌, bytes_eq}
 use Rattle.disk.specs.Disk as device
 use Rattle.torn_block.specs.Layout.{cluster_version}
 use Rattle.attempt.specs.Answers.{Answered, on, heard_as}
 use Rattle.attempt.specs.Setup.{Setup}
 use Rattle.attempt.specs.Status.{Status, Due, Ended, End, status, taken}
 use Rattle.attempt.specs.Status as attempt
-use Rattle.attempt.specs.NextCall.{next_call}
+use Rattle.attempt.specs.NextCall.{call_due, next_call}
 use Rattle.heartbeat.specs.Suggesting.{Readings, suggestion}
 use Rattle.rounds.specs.Beat.Answers as beat_answers
 use Rattle.rounds.specs.Beat.Status as beat
@@ -265,11 +265,13 @@ hears_from c h m (Some (Looks t)) d answer = hears_look c m t (record { disk = d
 hears_from c h m (Some (Beats heard)) d answer = hears_beat c h m heard (record { disk = d; heard = beat_answers.heard_as answer })
 hears_from c h m (Some (Marks t)) d answer = hears_marking c h m t (record { disk = d; heard = heard_as answer })
 
--- WHAT A HOST DOES NEXT
+-- WHAT A HOST MAY DO NEXT
 
 -- nothing is under way
 abbrev pub is_idle : Memory → Bool
 is_idle m = is_none m.doing
+
+-- IN TURN
 
 abbrev pub next_doing : Shape → ℕ → Memory → Option Doing → Option (ℕ × device.Call)
 next_doing c h m None = None
@@ -278,13 +280,36 @@ next_doing c h m (Some (Looks t)) = look.next_call (look_of c m t.first) (on t.h
 next_doing c h m (Some (Beats heard)) = beat.next_call (beat_of c h) (beat_answers.on heard)
 next_doing c h m (Some (Marks t)) = mark.next_call (marking_of c h m t.slot) (on t.heard)
 
--- the disk and the device call that are due
+-- the disk and the device call that are next
 abbrev pub next_in : Shape → ℕ → Memory → Option (ℕ × device.Call)
 next_in c h m = next_doing c h m m.doing
 
 abbrev pub next_of : Shape → ℕ → Host → Option (ℕ × device.Call)
 next_of c h Stopped = None
 next_of c h (Running m) = next_in c h m
+
+-- IN ANY ORDER
+
+-- a call that is due on one disk alone
+abbrev pub only_on : ℕ → Option (ℕ × device.Call) → Option device.Call
+only_on k None = None
+only_on k (Some due) = if due.0 == k then Some due.1 else None
+
+-- of an attempt the disks of a phase may be called in any order; of the rest only the next call may be made
+abbrev pub due_doing : Shape → ℕ → Memory → Option Doing → ℕ → Option device.Call
+due_doing c h m None k = None
+due_doing c h m (Some (Attempts t)) k = call_due (setup_of c h m t.operation) (on t.heard) k
+due_doing c h m (Some (Looks t)) k = only_on k (next_doing c h m (Some (Looks t)))
+due_doing c h m (Some (Beats heard)) k = only_on k (next_doing c h m (Some (Beats heard)))
+due_doing c h m (Some (Marks t)) k = only_on k (next_doing c h m (Some (Marks t)))
+
+-- the device call that may be made on a disk
+abbrev pub due_in : Shape → ℕ → Memory → ℕ → Option device.Call
+due_in c h m k = due_doing c h m m.doing k
+
+abbrev pub due_of : Shape → ℕ → Host → ℕ → Option device.Call
+due_of c h Stopped k = None
+due_of c h (Running m) k = due_in c h m k
 
 abbrev pub is_stopped : Host → Bool
 is_stopped Stopped = true

@@ -91,7 +91,7 @@ module _ (c : Shape) (h : ℕ) (number : h < HOSTS) where
   moved_own area (Sync boot) own = tt
 
   due_own : (deeds : Deeds) (e d : ℕ) (call : Call) → HasDue c h e deeds d call → IsOwn h (moved (base_of n (epoch_of e).area) call)
-  due_own deeds e d call due = moved_own (epoch_of e).area call (doing_own h number d call c due.memory due.memory.doing due.next)
+  due_own deeds e d call due = moved_own (epoch_of e).area call (doing_own h number d call c due.memory due.memory.doing due.due)
 
   a_read : (call : Call) (boot at len : ℕ) → call ≡ Read boot at len → IsOwn h call
   a_read call boot at len is = subst (IsOwn h) (sym is) tt

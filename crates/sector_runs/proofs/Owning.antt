@@ -17,13 +17,15 @@ use Rattle.attempt.specs.Calls.{Kind, Attaching, Syncing, Reading, Putting, seve
 use Rattle.attempt.specs.Answers.{Heard, Answers, on, boot_of}
 use Rattle.attempt.specs.Setup.{Setup}
 use Rattle.attempt.specs.Status.{Status, Due, Ended, status}
-use Rattle.attempt.specs.NextCall.{with_disk, write_on, call_by, next_in}
+use Rattle.attempt.specs.NextCall.{with_disk, write_on, call_by, call_due}
+use Rattle.attempt.proofs.Replies.{due_on}
 use Rattle.rounds.specs.Beat.Answers as beat_answers
 use Rattle.rounds.specs.Beat.Status as beat
 use Rattle.rounds.specs.Marking.Status as mark
 use Rattle.rounds.specs.Look.Status as look
 use Rattle.paxos_block.specs.Shape.{Shape}
-use Rattle.host.specs.Host.{Doing, Attempts, Looks, Beats, Marks, Memory, Host, Stopped, Running, setup_of, beat_of, marking_of, look_of, next_of, next_doing}
+use Rattle.host.specs.Host.{Doing, Attempts, Looks, Beats, Marks, Memory, Host, Stopped, Running, setup_of, beat_of, marking_of, look_of, due_of, due_doing}
+use Rattle.host.proofs.Due.{only_is}
 use Rattle.world.specs.Entry.{Filled, Start, Stop, Begin, Called, Torn, is_on, is_of, on_disk, of_host, host_step}
 use Rattle.at_once.specs.AtOnce.{MayDo, Does}
 use Rattle.world_safety.specs.Cluster.{at_cluster}
@@ -61,13 +63,8 @@ module _ (h : ℕ) (below : h < HOSTS) (k : ℕ) (call : Call) where
       let w = write_on (at_cluster s) p d f in
       puts_own w.place h (VoteOf s.slot s.host) refl is below w.block w.body (boot_of (f d)) put
 
-  attempt_by : (any : Setup) (d : ℕ) (f : Answers) (o : Option Kind) → any.host ≡ h → with_disk d (option_map (call_by (at_cluster any) d f) o) ≡ Some (k, call) → IsOwn h call
-  attempt_by s d f None is due = absurd (cc)
-  attempt_by s d f (Some kind) is due = same_call h d k (call_by (at_cluster s) d f kind) call due (attempt_kind s d f kind is)
-
-  attempt_in : (any : Setup) (f : Answers) (st : Status) → any.host ≡ h → next_in (at_cluster any) f st ≡ Some (k, call) → IsOwn h call
-  attempt_in s f (Due p d) is due = attempt_by s d f (slice_get seventeen (length (f d))) is due
-  attempt_in s f (Ended end) is due = absurd (cc)
+  attempt_own : (any : Setup) (f : Answers) → any.host ≡ h → call_due (at_cluster any) f k ≡ Some call → IsOwn h call
+  attempt_own s f is due = let made = due_on (at_cluster s) f k call due in subst (IsOwn h) made.1 (attempt_kind s k f made.0.kind is)
 
   mark_kind : (s : mark.Setup) (a : List Heard) (kind : Kind) → s.host ≡ h → IsOwn h (mark.call_by s a kind)
   mark_kind s a Attaching is = tt
@@ -109,14 +106,14 @@ module _ (h : ℕ) (below : h < HOSTS) (k : ℕ) (call : Call) where
   look_in s f (look.Due d) due = same_call h d k (look.call_on s (f d)) call due (look_kind s (f d) (nat_lt (length (f d)) 1))
   look_in s f (look.Ended end) due = absurd (cc)
 
-  pub doing_own : (c : Shape) (m : Memory) (o : Option Doing) → next_doing c h m o ≡ Some (k, call) → IsOwn h call
+  pub doing_own : (c : Shape) (m : Memory) (o : Option Doing) → due_doing c h m o k ≡ Some call → IsOwn h call
   doing_own c m None due = absurd (cc)
-  doing_own c m (Some (Attempts t)) due = let s = setup_of c h m t.operation in attempt_in s (on t.heard) (status s (on t.heard)) refl due
-  doing_own c m (Some (Looks t)) due = let s = look_of c m t.first in look_in s (on t.heard) (look.status s (on t.heard)) due
-  doing_own c m (Some (Beats heard)) due = beat_in (beat_of c h) (beat_answers.on heard) (beat.status (beat_of c h) (beat_answers.on heard)) refl due
-  doing_own c m (Some (Marks t)) due = let s = marking_of c h m t.slot in mark_in s (on t.heard) (mark.status s (on t.heard)) refl due
+  doing_own c m (Some (Attempts t)) due = attempt_own (setup_of c h m t.operation) (on t.heard) refl due
+  doing_own c m (Some (Looks t)) due = let s = look_of c m t.first in look_in s (on t.heard) (look.status s (on t.heard)) (only_is k (look.next_call s (on t.heard)) call due)
+  doing_own c m (Some (Beats heard)) due = beat_in (beat_of c h) (beat_answers.on heard) (beat.status (beat_of c h) (beat_answers.on heard)) refl (only_is k (beat.next_call (beat_of c h) (beat_answers.on heard)) call due)
+  doing_own c m (Some (Marks t)) due = let s = marking_of c h m t.slot in mark_in s (on t.heard) (mark.status s (on t.heard)) refl (only_is k (mark.next_call s (on t.heard)) call due)
 
-  next_own : (c : Shape) (host : Host) → next_of c h host ≡ Some (k, call) → IsOwn h call
+  next_own : (c : Shape) (host : Host) → due_of c h host k ≡ Some call → IsOwn h call
   next_own c Stopped due = absurd (cc)
   next_own c (Running m) due = doing_own c m m.doing due
 

@@ -15,11 +15,11 @@ use Rattle.host.specs.declared.answer.HostAnswer.{HostAnswer}
 use Rattle.host.specs.declared.answer.HostAnswer.TheVariants.{Refused}
 use Rattle.host.specs.declared.task.Task.{Task}
 use Rattle.host.specs.declared.task.Task.TheVariants.{Submit, Recover, Look, Beat, Mark}
-use Rattle.host.specs.Host.{Submitting, Marks, Host, Stopped, Running, begins, does, says, full_answer, is_stopped, idles, next_of, said_of}
+use Rattle.host.specs.Host.{Submitting, Marks, Host, Stopped, Running, begins, does, says, full_answer, is_stopped, idles, next_of, due_of, said_of}
 use Rattle.world.specs.Entry as entries
 use Rattle.world.specs.Entry.{Filled, host_step}
 use Rattle.world.specs.World.{World, world}
-use Rattle.world.specs.Happens.{Event, Start, Stop, Begin, Step, Tear, FailCall, DiskCrash, DiskGone, Line, brings_if, spread_over, torn_entry, torn, submitted, task_entry, host_of, entry_of}
+use Rattle.world.specs.Happens.{Event, Start, Stop, Begin, Step, Tear, FailCall, StepOn, TearOn, FailOn, DiskCrash, DiskGone, Line, brings_if, spread_over, torn_entry, torn, torn_on, submitted, task_entry, host_of, entry_of}
 use Rattle.world.proofs.Projections.{host_here}
 use Rattle.simulator.specs.declared.simulated_cluster.Said.{Said}
 use Rattle.simulator.specs.Answers.{is_pictured, may_be_pictured}
@@ -102,9 +102,15 @@ module _ (c : Shape) (h : ℕ) (said : HostAnswer) (tells : is_pictured said ≡
     no_tear g given None is = cc
     no_tear g given (Some x) is = no_tear_by g given x.0 x.1 (refusal_of (w.disk x.0) x.1) is
 
+    no_tear_on : (g k : ℕ) (given : List ℕ) (due : Option Call) → option_and_then (torn_on w g given k) due ≡ Some f → ⊥
+    no_tear_on g k given None is = cc
+    no_tear_on g k given (Some call) is = no_tear_by g given k call (refusal_of (w.disk k) call) is
+
     only_these : (event : Event) → entry_of c w event ≡ Some f → may_be_pictured event ≡ true
     only_these (Step g) is = refl
     only_these (FailCall g given) is = refl
+    only_these (StepOn g k) is = refl
+    only_these (FailOn g k given) is = refl
     only_these (Start g) is =
         absurd (given_if (nat_lt g HOSTS && is_stopped (w.host g)) (Some (entries.Start g)) f ⊥ is (λ passed same.
         (let one : entries.Start g ≡ f = cc in
@@ -123,6 +129,8 @@ module _ (c : Shape) (h : ℕ) (said : HostAnswer) (tells : is_pictured said ≡
         go true one = one
         go false none = absurd (given_if (idles (w.host g)) (task_entry c g task) f ⊥ is (λ passed same. no_task g task none same))
     only_these (Tear g given) is = absurd (given_if _ (option_and_then (torn w g given) (next_of c g (w.host g))) f ⊥ is (λ passed same. no_tear g given (next_of c g (w.host g)) same))
+    only_these (TearOn g k given) is =
+        absurd (given_if _ (option_and_then (torn_on w g given k) (due_of c g (w.host g) k)) f ⊥ is (λ passed same. no_tear_on g k given (due_of c g (w.host g) k) same))
     only_these (DiskCrash k given) is =
         absurd (given_if _ (Some (entries.Crashed k _)) f ⊥ is (λ passed same. (let one = ap (option_and_then host_of) same in let both : None ≡ Some h = one ∙ of in cc)))
     only_these (DiskGone k) is =

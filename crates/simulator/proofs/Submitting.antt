@@ -10,12 +10,12 @@ use Rattle.lock_command.specs.Reading.{decoded}
 use Rattle.paxos_block.specs.Shape.{Shape}
 use Rattle.host.specs.declared.task.Task.{Task}
 use Rattle.host.specs.declared.task.Task.TheVariants.{Submit, Recover, Look, Beat, Mark}
-use Rattle.host.specs.Host.{idles, next_of}
+use Rattle.host.specs.Host.{idles, next_of, due_of}
 use Rattle.host.proofs.Hosts.{decoded_spelled}
 use Rattle.world.specs.Entry as entries
 use Rattle.world.specs.Entry.{Filled}
 use Rattle.world.specs.World.{World, may_submit}
-use Rattle.world.specs.Happens.{Event, Start, Stop, Begin, Step, Tear, FailCall, DiskCrash, DiskGone, brings_if, stepped, failed_entry, failed, torn_entry, torn, submitted, task_entry, entry_of}
+use Rattle.world.specs.Happens.{Event, Start, Stop, Begin, Step, Tear, FailCall, StepOn, TearOn, FailOn, DiskCrash, DiskGone, brings_if, stepped, stepped_on, failed_entry, failed, failed_on, torn_entry, torn, torn_on, submitted, task_entry, entry_of}
 
 -- an entry that is brought under a test is the one that stands there
 brought : (b : Bool) (o : Option Filled) (e : Filled) → brings_if b o ≡ Some e → o ≡ Some e
@@ -56,6 +56,19 @@ module _ (c : Shape) (w : World) (h : ℕ) (command : Command) (tries : ℕ) whe
   no_torn g given None is = cc
   no_torn g given (Some x) is = no_tear g given x.0 x.1 (refusal_of (w.disk x.0) x.1) is
 
+  -- nor is one of a disk
+  no_step_on : (g k : ℕ) (due : Option Call) → option_map (stepped_on w g k) due ≡ Some (entries.Begin h (Submit command tries)) → ⊥
+  no_step_on g k None is = cc
+  no_step_on g k (Some call) is = cc
+
+  no_failed_on : (g k : ℕ) (given : List ℕ) (due : Option Call) → option_and_then (failed_on w g given k) due ≡ Some (entries.Begin h (Submit command tries)) → ⊥
+  no_failed_on g k given None is = cc
+  no_failed_on g k given (Some call) is = no_failure g given (k, call) (refusal_of (w.disk k) call) is
+
+  no_torn_on : (g k : ℕ) (given : List ℕ) (due : Option Call) → option_and_then (torn_on w g given k) due ≡ Some (entries.Begin h (Submit command tries)) → ⊥
+  no_torn_on g k given None is = cc
+  no_torn_on g k given (Some call) is = no_tear g given k call (refusal_of (w.disk k) call) is
+
   of_submit : (g t : ℕ) (given : Command) (o : Option Command) → decoded (spelling given) ≡ o → submitted g t o ≡ Some (entries.Begin h (Submit command tries))
       → Submits (Begin g (Submit given t)) h command tries
   of_submit g t given None reads is = absurd (cc)
@@ -85,5 +98,8 @@ module _ (c : Shape) (w : World) (h : ℕ) (command : Command) (tries : ℕ) whe
   of_submission (Step g) is = absurd (no_step g (next_of c g (w.host g)) is)
   of_submission (Tear g given) is = absurd (no_torn g given (next_of c g (w.host g)) (brought _ (option_and_then (torn w g given) (next_of c g (w.host g))) _ is))
   of_submission (FailCall g given) is = absurd (no_failed g given (next_of c g (w.host g)) (brought _ (option_and_then (failed w g given) (next_of c g (w.host g))) _ is))
+  of_submission (StepOn g k) is = absurd (no_step_on g k (due_of c g (w.host g) k) is)
+  of_submission (TearOn g k given) is = absurd (no_torn_on g k given (due_of c g (w.host g) k) (brought _ (option_and_then (torn_on w g given k) (due_of c g (w.host g) k)) _ is))
+  of_submission (FailOn g k given) is = absurd (no_failed_on g k given (due_of c g (w.host g) k) (brought _ (option_and_then (failed_on w g given k) (due_of c g (w.host g) k)) _ is))
   of_submission (DiskCrash k given) is = absurd (let some = brought _ (Some (entries.Crashed k _)) _ is in cc)
   of_submission (DiskGone k) is = absurd (let some = brought _ (Some (entries.Lost k)) _ is in cc)

@@ -8,7 +8,7 @@ use Rattle.host.specs.declared.task.Task.TheVariants.{Recover, Look}
 use Rattle.host.specs.Host.{learned_of}
 use Rattle.world.specs.Entry.{Filled}
 use Rattle.world.specs.World.{World, world}
-use Rattle.world.specs.Happens.{Event, Begin, Step, FailCall, Line}
+use Rattle.world.specs.Happens.{Event, Begin, Step, FailCall, StepOn, FailOn, Line}
 use Rattle.world.specs.Opening.{Opening, world_after}
 use Rattle.world.specs.Told.{ShowsTable}
 use Rattle.simulator.specs.declared.answer.Answer.{Answer}
@@ -35,6 +35,8 @@ may_be_pictured (Begin h (Recover tries)) = true
 may_be_pictured (Begin h Look) = true
 may_be_pictured (Step h) = true
 may_be_pictured (FailCall h given) = true
+may_be_pictured (StepOn h k) = true
+may_be_pictured (FailOn h k given) = true
 may_be_pictured other = false
 
 -- beside a recovery or a look there is a picture of this table, and beside no other answer there is one

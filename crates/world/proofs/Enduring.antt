@@ -7,7 +7,7 @@ use Rattle.attempt.specs.Answers.{heard_as}
 use Rattle.attempt.specs.History.{Fits}
 use Rattle.paxos_block.specs.Shape.{Shape}
 use Rattle.host.specs.declared.task.Task.{Task}
-use Rattle.host.specs.Host.{Memory, Host, Stopped, Running, fresh, starts, hears_from, is_idle, idles, next_in, next_of}
+use Rattle.host.specs.Host.{Memory, Host, Stopped, Running, fresh, starts, hears_from, is_idle, idles, due_in, due_of}
 use Rattle.world.specs.Entry.{Filled, Start, Stop, Begin, Called, Torn, Crashed, Lost, Migrated, is_of, host_step, hears_on, started, begins_on}
 use Rattle.world.specs.World.{World, world, MayBegin, IsRun}
 use Rattle.world.proofs.Projections.{host_here, host_there}
@@ -42,11 +42,11 @@ abbrev pub On : (Memory → Type 0) → Host → Type 0
 On P Stopped = Unit {0}
 On P (Running m) = P m
 
--- It holds at a start, what an idle host begins keeps it, and so does an answer to the call that is due.
+-- It holds at a start, what an idle host begins keeps it, and so does an answer to a call that may be made.
 pub record Endures (c : Shape) (h : ℕ) (P : Memory → Type 0) : Type 0 where
   pub at_first : P fresh
   pub begun : (m : Memory) (task : Task) → is_idle m ≡ true → P m → P (starts c m task)
-  pub answered : (m : Memory) (k : ℕ) (call : Call) (answer : Answer) → next_in c h m ≡ Some (k, call) → Fits call (heard_as answer) → P m → P (hears_from c h m m.doing k answer)
+  pub answered : (m : Memory) (k : ℕ) (call : Call) (answer : Answer) → due_in c h m k ≡ Some call → Fits call (heard_as answer) → P m → P (hears_from c h m m.doing k answer)
 
 module _ (c : Shape) (h : ℕ) (P : Memory → Type 0) (is : Endures c h P) where
   starts_so : (old : Host) → On P old → On P (started old)
@@ -57,7 +57,7 @@ module _ (c : Shape) (h : ℕ) (P : Memory → Type 0) (is : Endures c h P) wher
   begins_so Stopped task idle so = tt
   begins_so (Running m) task idle so = is.begun m task idle so
 
-  hears_so : (old : Host) (k : ℕ) (call : Call) (answer : Answer) → next_of c h old ≡ Some (k, call) → Fits call (heard_as answer) → On P old → On P (hears_on c h old k answer)
+  hears_so : (old : Host) (k : ℕ) (call : Call) (answer : Answer) → due_of c h old k ≡ Some call → Fits call (heard_as answer) → On P old → On P (hears_on c h old k answer)
   hears_so Stopped k call answer next fits so = tt
   hears_so (Running m) k call answer next fits so = is.answered m k call answer next fits so
 
@@ -67,7 +67,7 @@ module _ (c : Shape) (h : ℕ) (P : Memory → Type 0) (is : Endures c h P) wher
   step_so w (Stop g) of m so = tt
   step_so w (Begin g task) of m so = begins_so (w.host h) task (subst (λ (i : ℕ). idles (w.host i) ≡ true) (eqb-true g h of) m.0) so
   step_so w (Called g k call answer left) of m so =
-      let next : next_of c h (w.host h) ≡ Some (k, call) = subst (λ (i : ℕ). next_of c i (w.host i) ≡ Some (k, call)) (eqb-true g h of) m.0 in
+      let next : due_of c h (w.host h) k ≡ Some call = subst (λ (i : ℕ). due_of c i (w.host i) k ≡ Some call) (eqb-true g h of) m.0 in
       hears_so (w.host h) k call answer next (step_fits (w.disk k) _ call answer m.1) so
   step_so w (Torn g k call left) of m so = tt
   step_so w (Crashed k left) of m so = absurd (cc)

@@ -18,12 +18,13 @@ use Rattle.std.proofs.lemmas.Slice.Eq.{bytes_eq-Decides}
 use Rattle.paxos_block.specs.Shape.{Shape}
 use Rattle.host.specs.declared.task.Task.{Task}
 use Rattle.host.specs.declared.task.Task.TheVariants.{Submit, Recover, Look, Beat, Mark}
-use Rattle.host.specs.Host.{is_stopped, idles, next_of}
+use Rattle.host.specs.Host.{is_stopped, idles, next_of, due_of}
+use Rattle.host.proofs.Due.{due_next}
 use Rattle.host.proofs.Hosts.{decoded_spelled}
 use Rattle.world.specs.Entry as entries
 use Rattle.world.specs.Entry.{Filled, Called, Torn, Crashed, called_by}
 use Rattle.world.specs.World.{World, MayFollow, ReadsBack, HasDisk, may_submit}
-use Rattle.world.specs.Happens.{Event, Start, Stop, Begin, Step, Tear, FailCall, DiskCrash, DiskGone, answer_by, answer_of, spread_over, stepped, failed_entry, failed, torn_entry, torn, brings_if, are_some, has_disk, submitted, task_entry, entry_of}
+use Rattle.world.specs.Happens.{Event, Start, Stop, Begin, Step, Tear, FailCall, DiskCrash, DiskGone, answer_by, answer_of, spread_over, StepOn, TearOn, FailOn, stepped, stepped_on, failed_entry, failed, failed_on, torn_entry, torn, torn_on, brings_if, are_some, has_disk, submitted, task_entry, entry_of}
 
 -- WHAT A TEST TELLS
 
@@ -116,27 +117,25 @@ module _ (c : Shape) (w : World) (whole : (k : ℕ) → IsWhole (w.disk k)) wher
   beginning h Beat e idle is = some_if true _ e (MayFollow c w) is (λ t. (idle, tt))
   beginning h (Mark slot) e idle is = some_if _ _ e (MayFollow c w) is (λ inside. (idle, ltb-true _ _ inside))
 
-  stepping : (h : ℕ) (o : Option (ℕ × Call)) (e : Filled) → next_of c h (w.host h) ≡ o → option_map (stepped w h) o ≡ Some e → MayFollow c w e
-  stepping h None e is s = absurd (cc)
-  stepping h (Some next) e is s =
-      let same : stepped w h next ≡ e = cc in
-      subst (MayFollow c w) same (is, answer_steps (w.disk next.0) next.1)
+  -- a call that may be made on a disk: it is made,
+  made_so : (h k : ℕ) (call : Call) → due_of c h (w.host h) k ≡ Some call → MayFollow c w (stepped w h (k, call))
+  made_so h k call is = (is, answer_steps (w.disk k) call)
 
-  failing : (h : ℕ) (given : List ℕ) (o : Option (ℕ × Call)) (e : Filled) → next_of c h (w.host h) ≡ o → option_and_then (failed w h given) o ≡ Some e → MayFollow c w e
-  failing h given None e is s = absurd (cc)
-  failing h given (Some next) e is s = go (refusal_of (w.disk next.0) next.1) refl s
+  -- or it fails,
+  failed_so : (h : ℕ) (given : List ℕ) (k : ℕ) (call : Call) (e : Filled) → due_of c h (w.host h) k ≡ Some call → failed w h given (k, call) ≡ Some e → MayFollow c w e
+  failed_so h given k call e is s = go (refusal_of (w.disk k) call) refl s
     where
-      go : (r : Option DiskFault) → refusal_of (w.disk next.0) next.1 ≡ r → failed_entry h given next r ≡ Some e → MayFollow c w e
+      go : (r : Option DiskFault) → refusal_of (w.disk k) call ≡ r → failed_entry h given (k, call) r ≡ Some e → MayFollow c w e
       go (Some fault) er s' = absurd (cc)
       go None er s' =
-          let same : Called h next.0 next.1 (Fault Failed) (spread_over next.1 given) ≡ e = cc in
-          subst (MayFollow c w) same (is, fails (w.disk next.0) next.1 given (open_of (w.disk next.0) next.1 er))
+          let same : Called h k call (Fault Failed) (spread_over call given) ≡ e = cc in
+          subst (MayFollow c w) same (is, fails (w.disk k) call given (open_of (w.disk k) call er))
 
-  tearing : (h : ℕ) (given : List ℕ) (o : Option (ℕ × Call)) (e : Filled) → next_of c h (w.host h) ≡ o → option_and_then (torn w h given) o ≡ Some e → MayFollow c w e
-  tearing h given None e is s = absurd (cc)
-  tearing h given (Some (k, call)) e is s = go call is (refusal_of (w.disk k) call) refl s
+  -- or it is torn
+  torn_so : (h : ℕ) (given : List ℕ) (k : ℕ) (call : Call) (e : Filled) → due_of c h (w.host h) k ≡ Some call → torn w h given (k, call) ≡ Some e → MayFollow c w e
+  torn_so h given k call e is s = go call is (refusal_of (w.disk k) call) refl s
     where
-      go : (call' : Call) → next_of c h (w.host h) ≡ Some (k, call') → (r : Option DiskFault) → refusal_of (w.disk k) call' ≡ r → torn_entry h given k call' r ≡ Some e → MayFollow c w e
+      go : (call' : Call) → due_of c h (w.host h) k ≡ Some call' → (r : Option DiskFault) → refusal_of (w.disk k) call' ≡ r → torn_entry h given k call' r ≡ Some e → MayFollow c w e
       go Attach is' r er s' = absurd (cc)
       go (Read boot at len) is' r er s' = absurd (cc)
       go (Sync boot) is' r er s' = absurd (cc)
@@ -146,6 +145,36 @@ module _ (c : Shape) (w : World) (whole : (k : ℕ) → IsWhole (w.disk k)) wher
           let same : Torn h k (Write boot at from) (spread given 0 (length from)) ≡ e = cc in
           let tears : TearsWrite at (length from) (w.disk k) (written (w.disk k) at (spread given 0 (length from))) = record { left = spread given 0 (length from); as_many = length-spread given 0 (length from); leaves = refl } in
           subst (MayFollow c w) same (is', (o.0, o.1, tears))
+
+  -- in turn
+  stepping : (h : ℕ) (o : Option (ℕ × Call)) (e : Filled) → next_of c h (w.host h) ≡ o → option_map (stepped w h) o ≡ Some e → MayFollow c w e
+  stepping h None e is s = absurd (cc)
+  stepping h (Some next) e is s =
+      let same : stepped w h next ≡ e = cc in
+      subst (MayFollow c w) same (made_so h next.0 next.1 (due_next c h (w.host h) next.0 next.1 is))
+
+  failing : (h : ℕ) (given : List ℕ) (o : Option (ℕ × Call)) (e : Filled) → next_of c h (w.host h) ≡ o → option_and_then (failed w h given) o ≡ Some e → MayFollow c w e
+  failing h given None e is s = absurd (cc)
+  failing h given (Some next) e is s = failed_so h given next.0 next.1 e (due_next c h (w.host h) next.0 next.1 is) s
+
+  tearing : (h : ℕ) (given : List ℕ) (o : Option (ℕ × Call)) (e : Filled) → next_of c h (w.host h) ≡ o → option_and_then (torn w h given) o ≡ Some e → MayFollow c w e
+  tearing h given None e is s = absurd (cc)
+  tearing h given (Some next) e is s = torn_so h given next.0 next.1 e (due_next c h (w.host h) next.0 next.1 is) s
+
+  -- on a disk
+  stepping_on : (h k : ℕ) (o : Option Call) (e : Filled) → due_of c h (w.host h) k ≡ o → option_map (stepped_on w h k) o ≡ Some e → MayFollow c w e
+  stepping_on h k None e is s = absurd (cc)
+  stepping_on h k (Some call) e is s =
+      let same : stepped w h (k, call) ≡ e = cc in
+      subst (MayFollow c w) same (made_so h k call is)
+
+  failing_on : (h k : ℕ) (given : List ℕ) (o : Option Call) (e : Filled) → due_of c h (w.host h) k ≡ o → option_and_then (failed_on w h given k) o ≡ Some e → MayFollow c w e
+  failing_on h k given None e is s = absurd (cc)
+  failing_on h k given (Some call) e is s = failed_so h given k call e is s
+
+  tearing_on : (h k : ℕ) (given : List ℕ) (o : Option Call) (e : Filled) → due_of c h (w.host h) k ≡ o → option_and_then (torn_on w h given k) o ≡ Some e → MayFollow c w e
+  tearing_on h k given None e is s = absurd (cc)
+  tearing_on h k given (Some call) e is s = torn_so h given k call e is s
 
   crashing : (k : ℕ) (given : List ℕ) (e : Filled) → entry_of c w (DiskCrash k given) ≡ Some e → MayFollow c w e
   crashing k given e is =
@@ -165,8 +194,41 @@ module _ (c : Shape) (w : World) (whole : (k : ℕ) → IsWhole (w.disk k)) wher
   may_follow (Step h) e is = stepping h (next_of c h (w.host h)) e refl is
   may_follow (Tear h given) e is = given_if _ _ e (MayFollow c w e) is (λ t s. tearing h given (next_of c h (w.host h)) e refl s)
   may_follow (FailCall h given) e is = given_if _ _ e (MayFollow c w e) is (λ t s. failing h given (next_of c h (w.host h)) e refl s)
+  may_follow (StepOn h k) e is = stepping_on h k (due_of c h (w.host h) k) e refl is
+  may_follow (TearOn h k given) e is = given_if _ _ e (MayFollow c w e) is (λ t s. tearing_on h k given (due_of c h (w.host h) k) e refl s)
+  may_follow (FailOn h k given) e is = given_if _ _ e (MayFollow c w e) is (λ t s. failing_on h k given (due_of c h (w.host h) k) e refl s)
   may_follow (DiskCrash k given) e is = crashing k given e is
   may_follow (DiskGone k) e is = some_if _ _ e (MayFollow c w) is (λ t. there k t)
+
+-- IN TURN, AND ON A DISK
+
+-- what the next call brings, the call on its disk brings
+module _ (c : Shape) (w : World) (h k : ℕ) (call : Call) (next : next_of c h (w.host h) ≡ Some (k, call)) where
+  due : due_of c h (w.host h) k ≡ Some call
+  due = due_next c h (w.host h) k call next
+
+  steps_same : entry_of c w (Step h) ≡ entry_of c w (StepOn h k)
+  steps_same = ap (option_map (stepped w h)) next ∙ ap (option_map (stepped_on w h k)) (sym due)
+
+  tears_same : (given : List ℕ) → entry_of c w (Tear h given) ≡ entry_of c w (TearOn h k given)
+  tears_same given =
+      ap (λ (o : Option (ℕ × Call)). brings_if (are_some given) (option_and_then (torn w h given) o)) next
+      ∙ ap (λ (o : Option Call). brings_if (are_some given) (option_and_then (torn_on w h given k) o)) (sym due)
+
+  fails_same : (given : List ℕ) → entry_of c w (FailCall h given) ≡ entry_of c w (FailOn h k given)
+  fails_same given =
+      ap (λ (o : Option (ℕ × Call)). brings_if (are_some given) (option_and_then (failed w h given) o)) next
+      ∙ ap (λ (o : Option Call). brings_if (are_some given) (option_and_then (failed_on w h given k) o)) (sym due)
+
+-- in the order of the law
+pub steps_on : (c : Shape) (w : World) (h k : ℕ) (call : Call) → next_of c h (w.host h) ≡ Some (k, call) → entry_of c w (Step h) ≡ entry_of c w (StepOn h k)
+steps_on c w h k call next = steps_same c w h k call next
+
+pub tears_on : (c : Shape) (w : World) (h k : ℕ) (given : List ℕ) (call : Call) → next_of c h (w.host h) ≡ Some (k, call) → entry_of c w (Tear h given) ≡ entry_of c w (TearOn h k given)
+tears_on c w h k given call next = tears_same c w h k call next given
+
+pub fails_on : (c : Shape) (w : World) (h k : ℕ) (given : List ℕ) (call : Call) → next_of c h (w.host h) ≡ Some (k, call) → entry_of c w (FailCall h given) ≡ entry_of c w (FailOn h k given)
+fails_on c w h k given call next = fails_same c w h k call next given
 
 -- A COMMAND MAY BE SUBMITTED
 

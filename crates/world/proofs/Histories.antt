@@ -7,16 +7,16 @@ use Rattle.attempt.specs.Heard.{Heard}
 use Rattle.attempt.specs.Answers.{Answered, Answers, on, heard_as, row_in}
 use Rattle.attempt.specs.Setup.{Setup}
 use Rattle.attempt.specs.Status.{Status, Due, Ended, Committed, Decided, Empty, Outrun, NoMajority, BallotsSpent, status, taken}
-use Rattle.attempt.specs.History.{Fits, IsAnswerTo, IsHistory}
+use Rattle.attempt.specs.History.{Fits, IsAnswerOn, IsAnswerTo, IsHistory}
 use Rattle.attempt.specs.Standing.{HasProposal}
 use Rattle.attempt.specs.Chosen.{accepts_in, accepts, Chooses}
 use Rattle.attempt.specs.Visits.{waits, visited, is_left}
 use Rattle.attempt.specs.Proposal.{ballot, others_top, others_mbal}
 use Rattle.attempt.specs.Calls.{Phase, Opening, One, Two, goal, seventeen}
-use Rattle.attempt.proofs.Hearing.{history_more}
+use Rattle.attempt.proofs.Hearing.{history_more, history_more_on}
 use Rattle.attempt.proofs.Replies.{next_is}
 use Rattle.attempt.specs.Numbers.{count}
-use Rattle.attempt.specs.NextCall.{call_by, next_call}
+use Rattle.attempt.specs.NextCall.{call_by, call_due, next_call}
 use Rattle.attempt.proofs.Firsts.{below_some, below_none}
 use Rattle.attempt.proofs.Moments.{get_some}
 use Rattle.attempt.proofs.Statuses.{due_is, due_if, HasChosen, told_by, enough_more}
@@ -43,7 +43,8 @@ use Rattle.attempt.specs.declared.refusal.Refusal.TheVariants as refusal
 use Rattle.host.specs.declared.answer.HostAnswer.TheVariants.{Looked, Refused}
 use Rattle.host.specs.declared.task.Task.{Task}
 use Rattle.host.specs.declared.task.Task.TheVariants.{Submit, Recover, Look, Beat, Mark}
-use Rattle.host.specs.Host.{Operation, Submitting, Recovering, Attempt, Marking, Looking, Doing, Attempts, Looks, Beats, Marks, Memory, Host, Running, does, says, learns, with_floor, setup_of, begins, full_answer, goes_on, is_submitted, after_learning, takes, tries_again, ended, by_status, with_heard, look_of, looks_on, takes_marked, look_by, looking_with, beat_of, beat_by, marking_of, marking_by, marking_with, starts as starts_on, hears_from, is_idle, next_doing, next_of}
+use Rattle.host.specs.Host.{Operation, Submitting, Recovering, Attempt, Marking, Looking, Doing, Attempts, Looks, Beats, Marks, Memory, Host, Running, does, says, learns, with_floor, setup_of, begins, full_answer, goes_on, is_submitted, after_learning, takes, tries_again, ended, by_status, with_heard, look_of, looks_on, takes_marked, look_by, looking_with, beat_of, beat_by, marking_of, marking_by, marking_with, starts as starts_on, hears_from, is_idle, next_doing, next_of, due_doing, due_of}
+use Rattle.host.proofs.Due.{only_is}
 use Rattle.host.specs.Alone.{HasHeardFew}
 use Rattle.world.specs.Entry.{Filled, Called}
 use Rattle.world.specs.World.{world, IsRun}
@@ -154,6 +155,10 @@ module _ (c : Shape) (h : ℕ) (m : Memory) where
 pub answers_to : {A : Type 0} (o : Option (ℕ × Call)) (k : ℕ) (call : Call) (heard : Heard A) → o ≡ Some (k, call) → Fits call heard → IsAnswerTo o (record { disk = k; heard = heard })
 answers_to o k call heard next fits = subst (λ (p : Option (ℕ × Call)). IsAnswerTo p (record { disk = k; heard = heard })) (sym next) (refl, fits)
 
+-- and one to the call that is due on its disk
+pub answers_due : {A : Type 0} (o : Option Call) (call : Call) (heard : Heard A) → o ≡ Some call → Fits call heard → IsAnswerOn o heard
+answers_due o call heard due fits = subst (λ (p : Option Call). IsAnswerOn p heard) (sym due) fits
+
 module _ (c : Shape) (h : ℕ) where
   -- so is whatever a host has under way
   abbrev IsHeardIn : Memory → Option Doing → Type 0
@@ -236,16 +241,17 @@ module _ (c : Shape) (h : ℕ) where
   marking_goes m t (mark.Ended (mark.Marked count)) now is = tt
   marking_goes m t (mark.Ended mark.NoMajority) now is = tt
 
-  -- so it is behind an answer to the call that was due
-  heard_from : (m : Memory) (o : Option Doing) (k : ℕ) (call : Call) (answer : Answer) → next_doing c h m o ≡ Some (k, call) → Fits call (heard_as answer) → IsHeardIn m o → IsHeard (hears_from c h m o k answer)
-  heard_from m None k call answer next fits is = absurd (cc)
-  heard_from m (Some (Attempts t)) k call answer next fits is =
+  -- so it is behind an answer to a call that might be made
+  heard_from : (m : Memory) (o : Option Doing) (k : ℕ) (call : Call) (answer : Answer) → due_doing c h m o k ≡ Some call → Fits call (heard_as answer) → IsHeardIn m o → IsHeard (hears_from c h m o k answer)
+  heard_from m None k call answer due fits is = absurd (cc)
+  heard_from m (Some (Attempts t)) k call answer due fits is =
       let s = setup_of c h m t.operation in
       let x : Answered = record { disk = k; heard = heard_as answer } in
       let more = with_heard t x in
-      goes m more (taken s (on more.heard)) (status s (on more.heard)) refl (history_more (next_call s) t.heard x is.history (answers_to (next_call s (on t.heard)) k call (heard_as answer) next fits))
-  heard_from m (Some (Looks t)) k call answer next fits is =
+      goes m more (taken s (on more.heard)) (status s (on more.heard)) refl (history_more_on (call_due s) t.heard x is.history (answers_due (call_due s (on t.heard) k) call (heard_as answer) due fits))
+  heard_from m (Some (Looks t)) k call answer due fits is =
       let s = look_of c m t.first in
+      let next = only_is k (look.next_call s (on t.heard)) call due in
       let x : Answered = record { disk = k; heard = heard_as answer } in
       let more = looking_with t x in
       look_goes m more (look.status s (on more.heard)) refl (record {
@@ -253,13 +259,15 @@ module _ (c : Shape) (h : ℕ) where
         first = is.history.first;
         history = history_more (look.next_call s) t.heard x is.history.history (answers_to (look.next_call s (on t.heard)) k call (heard_as answer) next fits);
       })
-  heard_from m (Some (Beats heard)) k call answer next fits is =
+  heard_from m (Some (Beats heard)) k call answer due fits is =
       let s = beat_of c h in
+      let next = only_is k (beat.next_call s (on heard)) call due in
       let x : beat_answers.Answered = record { disk = k; heard = beat_answers.heard_as answer } in
       beat_goes m (heard ++ x ∷ []) (beat.status s (on (heard ++ x ∷ []))) refl
       (history_more (beat.next_call s) heard x is.history (answers_to (beat.next_call s (on heard)) k call (beat_answers.heard_as answer) next (beats.fits_too call answer fits)))
-  heard_from m (Some (Marks t)) k call answer next fits is =
+  heard_from m (Some (Marks t)) k call answer due fits is =
       let s = marking_of c h m t.slot in
+      let next = only_is k (mark.next_call s (on t.heard)) call due in
       let x : Answered = record { disk = k; heard = heard_as answer } in
       let more = marking_with t x in
       marking_goes m more (mark.status s (on more.heard)) refl (history_more (mark.next_call s) t.heard x is.history (answers_to (mark.next_call s (on t.heard)) k call (heard_as answer) next fits))
@@ -268,7 +276,7 @@ module _ (c : Shape) (h : ℕ) where
   enduring = record {
     at_first = tt;
     begun = λ m task idle is. begun_task m task;
-    answered = λ m k call answer next fits is. heard_from m m.doing k call answer next fits is;
+    answered = λ m k call answer due fits is. heard_from m m.doing k call answer due fits is;
   }
 
 -- in a run it is so
@@ -315,13 +323,13 @@ hears_with c log i h k call answer left entry m running t does =
 
 module _ (c : Shape) (log : List Filled) (i : ℕ) (s : Setup) (heard : List Answered) (run : IsRun c log) (hears : Hears c log i s heard) where
   -- the call was due
-  due : next_doing c hears.host hears.memory (Some (Attempts hears.doing)) ≡ Some (hears.disk, hears.call)
+  due : due_doing c hears.host hears.memory (Some (Attempts hears.doing)) hears.disk ≡ Some hears.call
   due =
-      subst (λ (o : Option Doing). next_doing c hears.host hears.memory o ≡ Some (hears.disk, hears.call)) hears.does
-      (subst (λ (h : Host). next_of c hears.host h ≡ Some (hears.disk, hears.call)) hears.running (each c log i _ run hears.entry).0)
+      subst (λ (o : Option Doing). due_doing c hears.host hears.memory o hears.disk ≡ Some hears.call) hears.does
+      (subst (λ (h : Host). due_of c hears.host h hears.disk ≡ Some hears.call) hears.running (each c log i _ run hears.entry).0)
 
-  answered : IsAnswerTo (next_doing c hears.host hears.memory (Some (Attempts hears.doing))) (record { disk = hears.disk; heard = heard_as hears.answer })
-  answered = answers_to _ hears.disk hears.call (heard_as hears.answer) due (step_fits ((at c log i).disk hears.disk) _ hears.call hears.answer (each c log i _ run hears.entry).1)
+  answered : IsAnswerOn (due_doing c hears.host hears.memory (Some (Attempts hears.doing)) hears.disk) (heard_as hears.answer)
+  answered = answers_due _ hears.call (heard_as hears.answer) due (step_fits ((at c log i).disk hears.disk) _ hears.call hears.answer (each c log i _ run hears.entry).1)
 
   -- what the attempt has heard with this answer is a history
   pub heard_then : IsHistory s heard
@@ -329,7 +337,7 @@ module _ (c : Shape) (log : List Filled) (i : ℕ) (s : Setup) (heard : List Ans
       let before = history c (take i log) hears.host hears.memory hears.doing (beginning c log i run) hears.running hears.does in
       let t = hears.doing in
       let x : Answered = record { disk = hears.disk; heard = heard_as hears.answer } in
-      let more = history_more (next_call (setup_of c hears.host hears.memory t.operation)) t.heard x before answered in
+      let more = history_more_on (call_due (setup_of c hears.host hears.memory t.operation)) t.heard x before answered in
       subst (λ (xs : List Answered). IsHistory s xs) (sym hears.is_heard) (subst (λ (r : Setup). IsHistory r (t.heard ++ x ∷ [])) (sym hears.is_setup) more)
 
 -- WHAT IS COMMITTED

@@ -12,7 +12,7 @@ use Rattle.lock_command.specs.declared.command.Command.{Command}
 use Rattle.lock_command.specs.Reading.{decoded}
 use Rattle.paxos_block.specs.Shape.{Shape}
 use Rattle.host.specs.declared.answer.HostAnswer.TheVariants.{Looked}
-use Rattle.host.specs.Host.{Doing, Looking, Looks, Memory, Running, does, says, learns, hears_from, hears_look, look_of, look_by, looks_on, looking_with, takes_marked, next_of}
+use Rattle.host.specs.Host.{Doing, Looking, Looks, Memory, Host, Running, does, says, learns, hears_from, hears_look, look_of, look_by, looks_on, looking_with, takes_marked, due_of}
 use Rattle.world.specs.Entry.{Filled, Start, Stop, Begin, Called, Torn, Crashed, Lost, Migrated, is_of, called_by, disk_step}
 use Rattle.world.specs.Looks.{SaysLooking}
 use Rattle.world.specs.World.{World, MayFollow}
@@ -51,7 +51,7 @@ hears_so c h d m t answer is =
 
 -- WHAT IT ASKS FOR
 
-pub reads_only : (c : Shape) (h k : ℕ) (m : Memory) (t : Looking) (call : Call) → m.doing ≡ Some (Looks t) → next_of c h (Running m) ≡ Some (k, call) → OnlyReads call
+pub reads_only : (c : Shape) (h k : ℕ) (m : Memory) (t : Looking) (call : Call) → m.doing ≡ Some (Looks t) → due_of c h (Running m) k ≡ Some call → OnlyReads call
 reads_only c h k m t call is next = histories.reads (look_of c m t.first) (on t.heard) k call (next_is c h m t k call is next)
 
 -- WHAT IT LEAVES
@@ -64,10 +64,10 @@ leaves old call answer left reads = refl
 
 module _ (c : Shape) (w : World) (h d : ℕ) (m : Memory) (t : Looking) (running : w.host h ≡ Running m) (is : m.doing ≡ Some (Looks t)) where
   -- a call of its own
-  quiet : (g k : ℕ) (call : Call) → g ≡ h → next_of c g (w.host g) ≡ Some (k, call) → OnlyReads call
+  quiet : (g k : ℕ) (call : Call) → g ≡ h → due_of c g (w.host g) k ≡ Some call → OnlyReads call
   quiet g k call same next =
       reads_only c h k m t call is
-      (ap (next_of c h) (sym running) ∙ subst (λ (i : ℕ). next_of c i (w.host i) ≡ Some (k, call)) same next)
+      (ap (λ (o : Host). due_of c h o k) (sym running) ∙ subst (λ (i : ℕ). due_of c i (w.host i) k ≡ Some call) same next)
 
   torn : (g k : ℕ) (call : Call) (left : List ℕ) → g ≡ h → MayFollow c w (Torn g k call left) → ⊥
   torn g k Attach left same may = may.1

@@ -14,12 +14,12 @@ use Rattle.torn_block.specs.declared.layout.TheConstants.{HOSTS}
 use Rattle.paxos_block.specs.Shape.{Shape}
 use Rattle.host.specs.declared.task.Task.{Task}
 use Rattle.host.specs.declared.task.Task.TheVariants.{Submit, Recover, Look, Beat, Mark}
-use Rattle.host.specs.Host.{next_of}
+use Rattle.host.specs.Host.{due_of}
 use Rattle.world.specs.Entry as entries
 use Rattle.world.specs.Entry.{Filled, Called, Torn, Crashed, Lost, Migrated, torn_by, called_by, disk_step, host_step, hears_on, is_on, is_of}
 use Rattle.world.specs.World.{World, world, MayBeGiven, MayFollow, MayBegin, IsRun, HasDisk}
 use Rattle.world.specs.Happens as events
-use Rattle.world.specs.Happens.{Event, Start, Stop, Begin, Step, Tear, FailCall, DiskCrash, DiskGone, answer_by, answer_of, spread_over, stepped, failed_entry, failed, torn, brings_if, are_some, has_disk, submitted, task_entry, entry_of, with_entry, happen}
+use Rattle.world.specs.Happens.{Event, Start, Stop, Begin, StepOn, TearOn, FailOn, DiskCrash, DiskGone, answer_by, answer_of, spread_over, stepped_on, failed_entry, failed_on, torn_on, brings_if, are_some, has_disk, submitted, task_entry, entry_of, with_entry, happen}
 use Rattle.world.specs.Lines.{BringsSuch, beginning, EventsReachEach, EventsReachAll}
 use Rattle.world.proofs.Projections.{disk_here, disk_there, host_here, host_there}
 use Rattle.world.proofs.Runs.{run_whole, by_run_from, more, happen_more}
@@ -165,28 +165,28 @@ module _ (c : Shape) (w : World) (whole : (k : ℕ) → IsWhole (w.disk k)) wher
     host = λ g of. ap (hears_on c g (w.host g) k) same;
   }
 
-  stepping : (h k : ℕ) (call : Call) (answer : Answer) (left : List ℕ) → DidNotFail answer → next_of c h (w.host h) ≡ Some (k, call) → DiskStep (w.disk k) call answer (called_by (w.disk k) call answer left)
-      → BringsSuch c w (Step h) (Called h k call answer left)
+  stepping : (h k : ℕ) (call : Call) (answer : Answer) (left : List ℕ) → DidNotFail answer → due_of c h (w.host h) k ≡ Some call → DiskStep (w.disk k) call answer (called_by (w.disk k) call answer left)
+      → BringsSuch c w (StepOn h k) (Called h k call answer left)
   stepping h k call answer left did next step =
       let so = answered_so (w.disk k) _ call answer did step in
-      same_call (Step h) h k call answer (answer_of (w.disk k) call) left [] (ap (option_map (stepped w h)) next) so
+      same_call (StepOn h k) h k call answer (answer_of (w.disk k) call) left [] (ap (option_map (stepped_on w h k)) next) so
       (ap (λ (a : Answer). called_by (w.disk k) call a []) so ∙ left_so (w.disk k) call answer left did)
 
   has : (k : ℕ) → HasDisk c w k → has_disk c w k ≡ true
   has k is = both_true (lt-ltb k c.disks is.0) (not_false (w.disk k).gone is.1)
 
   -- a failure that leaves bytes in its range is that of the same bytes given
-  failing : (h k : ℕ) (call : Call) (given left : List ℕ) → next_of c h (w.host h) ≡ Some (k, call) → (w.disk k).gone ≡ false → IsUnder call (w.disk k).boot
-      → torn_by (w.disk k) call (spread_over call (some_of given)) ≡ torn_by (w.disk k) call left → BringsSuch c w (FailCall h (some_of given)) (Called h k call (Fault Failed) left)
+  failing : (h k : ℕ) (call : Call) (given left : List ℕ) → due_of c h (w.host h) k ≡ Some call → (w.disk k).gone ≡ false → IsUnder call (w.disk k).boot
+      → torn_by (w.disk k) call (spread_over call (some_of given)) ≡ torn_by (w.disk k) call left → BringsSuch c w (FailOn h k (some_of given)) (Called h k call (Fault Failed) left)
   failing h k call given left next here under leaves =
-      same_call (FailCall h (some_of given)) h k call (Fault Failed) (Fault Failed) left (spread_over call (some_of given))
-      (brought_if _ _ (are_given given) ∙ ap (option_and_then (failed w h (some_of given))) next ∙ ap (failed_entry h (some_of given) (k, call)) (open_of (w.disk k) call here under))
+      same_call (FailOn h k (some_of given)) h k call (Fault Failed) (Fault Failed) left (spread_over call (some_of given))
+      (brought_if _ _ (are_given given) ∙ ap (option_and_then (failed_on w h (some_of given) k)) next ∙ ap (failed_entry h (some_of given) (k, call)) (open_of (w.disk k) call here under))
       refl leaves
 
   torn_back : (disk : DiskState) (at : ℕ) (xs : List ℕ) (n : ℕ) → length xs ≡ n → written disk at (spread (some_of xs) 0 n) ≡ written disk at xs
   torn_back disk at xs n long = ap (λ (m : ℕ). written disk at (spread (xs ++ 0 ∷ []) 0 m)) (sym long) ∙ ap (written disk at) (spread_back [] xs (0 ∷ []))
 
-  failed_call : (h k : ℕ) (call : Call) (left : List ℕ) → next_of c h (w.host h) ≡ Some (k, call) → DiskStep (w.disk k) call (Fault Failed) (torn_by (w.disk k) call left)
+  failed_call : (h k : ℕ) (call : Call) (left : List ℕ) → due_of c h (w.host h) k ≡ Some call → DiskStep (w.disk k) call (Fault Failed) (torn_by (w.disk k) call left)
       → (event : Event) × BringsSuch c w event (Called h k call (Fault Failed) left)
   failed_call h k Attach left next step = (_, failing h k Attach [] left next step.0 step.1 refl)
   failed_call h k (Read boot at len) left next step = (_, failing h k (Read boot at len) [] left next step.0 step.1 refl)
@@ -195,13 +195,13 @@ module _ (c : Shape) (w : World) (whole : (k : ℕ) → IsWhole (w.disk k)) wher
       (_, failing h k (Write boot at from) step.2.left left next step.0 step.1 (torn_back (w.disk k) at step.2.left (length from) step.2.as_many ∙ sym step.2.leaves))
 
   -- so is a torn write
-  tearing : (h k boot at : ℕ) (from left : List ℕ) → next_of c h (w.host h) ≡ Some (k, Write boot at from) → (w.disk k).gone ≡ false → boot ≡ (w.disk k).boot
+  tearing : (h k boot at : ℕ) (from left : List ℕ) → due_of c h (w.host h) k ≡ Some (Write boot at from) → (w.disk k).gone ≡ false → boot ≡ (w.disk k).boot
       → TearsWrite at (length from) (w.disk k) (written (w.disk k) at left) → (event : Event) × BringsSuch c w event (Torn h k (Write boot at from) left)
   tearing h k boot at from left next here under tears = (
-    Tear h (some_of tears.left),
+    TearOn h k (some_of tears.left),
     record {
       brought = Torn h k (Write boot at from) (spread (some_of tears.left) 0 (length from));
-      is = brought_if _ _ (are_given tears.left) ∙ ap (option_and_then (torn w h (some_of tears.left))) next
+      is = brought_if _ _ (are_given tears.left) ∙ ap (option_and_then (torn_on w h (some_of tears.left) k)) next
           ∙ ap (events.torn_entry h (some_of tears.left) k (Write boot at from)) (open_of (w.disk k) (Write boot at from) here under);
       on_disk = λ j. refl;
       disk = λ j on. subst (λ (i : ℕ). written (w.disk i) at (spread (some_of tears.left) 0 (length from)) ≡ written (w.disk i) at left) (eqb-true k j on)
@@ -238,11 +238,11 @@ module _ (c : Shape) (w : World) (whole : (k : ℕ) → IsWhole (w.disk k)) wher
   reached (entries.Stop h) may = (Stop h, itself (Stop h) _ (brought_if _ _ (not_false _ may)))
   reached (entries.Begin h task) may = (Begin h task, itself (Begin h task) _ (brought_if _ _ may.0 ∙ given h task may.1))
   reached (Called h k call (Fault Failed) left) may = failed_call h k call left may.0 may.1
-  reached (Called h k call (Fault Gone) left) may = (Step h, stepping h k call (Fault Gone) left tt may.0 may.1)
-  reached (Called h k call (Fault Reset) left) may = (Step h, stepping h k call (Fault Reset) left tt may.0 may.1)
-  reached (Called h k call (Booted boot) left) may = (Step h, stepping h k call (Booted boot) left tt may.0 may.1)
-  reached (Called h k call (Told bytes) left) may = (Step h, stepping h k call (Told bytes) left tt may.0 may.1)
-  reached (Called h k call Done left) may = (Step h, stepping h k call Done left tt may.0 may.1)
+  reached (Called h k call (Fault Gone) left) may = (StepOn h k, stepping h k call (Fault Gone) left tt may.0 may.1)
+  reached (Called h k call (Fault Reset) left) may = (StepOn h k, stepping h k call (Fault Reset) left tt may.0 may.1)
+  reached (Called h k call (Booted boot) left) may = (StepOn h k, stepping h k call (Booted boot) left tt may.0 may.1)
+  reached (Called h k call (Told bytes) left) may = (StepOn h k, stepping h k call (Told bytes) left tt may.0 may.1)
+  reached (Called h k call Done left) may = (StepOn h k, stepping h k call Done left tt may.0 may.1)
   reached (Torn h k Attach left) may = absurd may.1
   reached (Torn h k (Read boot at len) left) may = absurd may.1
   reached (Torn h k (Write boot at from) left) may = tearing h k boot at from left may.0 may.1.0 may.1.1 may.1.2

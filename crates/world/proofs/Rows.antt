@@ -1,5 +1,5 @@
 -- Runs of events, computed by the definitions alone: a world kept beside the list, so that each event costs one step.
-use Rattle.std.specs.Prelude.{◌≡◌, ◌+◌, ℕ, Bool, true, false, List, [], ◌∷◌, ◌++◌, map, replicate, slice_index_or, Option, Some, None}
+use Rattle.std.specs.Prelude.{◌≡◌, ◌+◌, ℕ, zero, suc, Bool, true, false, List, [], ◌∷◌, ◌++◌, map, replicate, slice_index_or, Option, Some, None}
 use Rattle.std.proofs.Common.{refl}
 use Rattle.disk.specs.Disk.{DiskState}
 use Rattle.disk.specs.Simulated.{fresh_disk}
@@ -25,7 +25,7 @@ use Rattle.attempt.specs.Chosen.{accepts}
 use Rattle.std.specs.List.{range_with_len}
 use Rattle.world.specs.Entry.{Filled, Called, is_on, is_of, disk_step, host_step}
 use Rattle.world.specs.World.{World, opening_disk}
-use Rattle.world.specs.Happens.{Event, Start, Stop, Begin, Step, Tear, FailCall, DiskCrash, DiskGone, entry_of, host_of, Line, line, answers}
+use Rattle.world.specs.Happens.{Event, Start, Stop, Begin, Step, Tear, FailCall, StepOn, DiskCrash, DiskGone, entry_of, host_of, Line, line, answers}
 
 -- A WORLD BESIDE THE LIST
 
@@ -77,6 +77,11 @@ asks h = record { host = h; client = 1; request = 1; action = Enqueue 1 (100 ∷
 -- the same by n calls
 abbrev pub steps : ℕ → ℕ → List Event
 steps h n = replicate n (Step h)
+
+-- one call on each of three disks, so many times
+abbrev pub rounds : ℕ → ℕ → List Event
+rounds h zero = []
+rounds h (suc n) = StepOn h 0 ∷ StepOn h 1 ∷ StepOn h 2 ∷ rounds h n
 
 -- ROWS
 
@@ -151,6 +156,25 @@ gate_left_closed = refl
 first_reply_by_the_list : answers (record { disks = 1; slots = 4 }) (Start 0 ∷ Begin 0 (Submit (asks 0) 1) ∷ steps 0 17) ≡ at 18 0 (Ack 0 granted) ∷ []
 unfolding fresh_disk sequence_of body_of number_bytes tail_with copy_in decoded_row zeros heading body_saying number_at claim_of is_said number lock_at request_at mode_of name_at enqueue_at action_at command_at applied
 first_reply_by_the_list = refl
+
+-- IN ROUNDS
+
+-- start 0; submit 0; seventeen calls on each of three disks, one on each by turns
+in_rounds : says 3 2 (Start 0 ∷ Begin 0 (Submit (asks 0) 1) ∷ rounds 0 17) ≡ at 52 0 (Ack 0 granted) ∷ []
+unfolding fresh_disk sequence_of body_of number_bytes tail_with copy_in decoded_row zeros heading body_saying number_at claim_of is_said number lock_at request_at mode_of name_at enqueue_at action_at command_at applied
+in_rounds = refl
+
+-- a row is not read while a lower disk waits, and there is no disk 3; the rest is made in turn
+rows_wait : says 3 4 (Start 0 ∷ Begin 0 (Recover 1) ∷ StepOn 0 2 ∷ StepOn 0 2 ∷ StepOn 0 2 ∷ StepOn 0 3 ∷ steps 0 28) ≡ at 33 0 (Recovered 0) ∷ []
+unfolding fresh_disk sequence_of body_of number_bytes tail_with copy_in decoded_row zeros heading body_saying number_at claim_of is_said
+rows_wait = refl
+
+-- Answers that no host gets in turn. Host 1 has opened its gates on all disks before it reads disk 0. There it sees a ballot that host 0 took
+-- because it had seen host 1's on disk 1.
+seen_in_a_circle : says 3 2 (Start 0 ∷ Start 1 ∷ Begin 0 (Submit (asks 0) 2) ∷ (steps 0 22 ++ Begin 1 (Submit (asks 1) 1) ∷ (rounds 1 9 ++ (steps 0 16 ++ StepOn 1 0 ∷ steps 0 36))))
+    ≡ at 69 1 (Refused refusal.Outrun) ∷ at 105 0 (Ack 0 granted) ∷ []
+unfolding fresh_disk sequence_of body_of number_bytes tail_with copy_in decoded_row zeros heading body_saying number_at claim_of is_said number lock_at request_at mode_of name_at enqueue_at action_at command_at applied
+seen_in_a_circle = refl
 
 -- WHAT IS CHOSEN
 

@@ -13,7 +13,7 @@ use Rattle.paxos_block.specs.Shape.{Shape}
 use Rattle.host.specs.declared.answer.HostAnswer.{HostAnswer}
 use Rattle.host.specs.declared.task.Task.{Task}
 use Rattle.host.specs.declared.task.Task.TheVariants.{Submit, Recover, Mark}
-use Rattle.host.specs.Host.{next_of, is_stopped, idles, said_of}
+use Rattle.host.specs.Host.{next_of, due_of, is_stopped, idles, said_of}
 use Rattle.world.specs.Entry as entries
 use Rattle.world.specs.Entry.{Filled, Called, Torn, Crashed, Lost, Migrated}
 use Rattle.world.specs.World.{World, world, may_submit}
@@ -23,12 +23,16 @@ pub data Event : Type 0 where
   Stop : (host : ℕ) → Event
   -- the host is given a task
   Begin : (host : ℕ) → (task : Task) → Event
-  -- the host makes its next device call, which does not fail
+  -- the host makes its next device call in turn, which does not fail
   Step : (host : ℕ) → Event
   -- the host stops within its next call, a write, whose range takes the given bytes
   Tear : (host : ℕ) → (given : List ℕ) → Event
   -- the host's next call fails; the range of a write takes the given bytes
   FailCall : (host : ℕ) → (given : List ℕ) → Event
+  -- the same of the call that it may make on this disk
+  StepOn : (host disk : ℕ) → Event
+  TearOn : (host disk : ℕ) → (given : List ℕ) → Event
+  FailOn : (host disk : ℕ) → (given : List ℕ) → Event
   -- the disk crashes, and its unsynced positions take the given bytes
   DiskCrash : (disk : ℕ) → (given : List ℕ) → Event
   DiskGone : (disk : ℕ) → Event
@@ -70,6 +74,16 @@ torn_entry h given k call refusal = None
 abbrev pub torn : World → ℕ → List ℕ → ℕ × Call → Option Filled
 torn w h given next = torn_entry h given next.0 next.1 (refusal_of (w.disk next.0) next.1)
 
+-- so is a call of this disk
+abbrev pub stepped_on : World → ℕ → ℕ → Call → Filled
+stepped_on w h k call = stepped w h (k, call)
+
+abbrev pub failed_on : World → ℕ → List ℕ → ℕ → Call → Option Filled
+failed_on w h given k call = failed w h given (k, call)
+
+abbrev pub torn_on : World → ℕ → List ℕ → ℕ → Call → Option Filled
+torn_on w h given k call = torn w h given (k, call)
+
 -- WHAT AN EVENT BRINGS
 
 abbrev pub brings_if : Bool → Option Filled → Option Filled
@@ -103,6 +117,9 @@ entry_of c w (Begin h task) = brings_if (idles (w.host h)) (task_entry c h task)
 entry_of c w (Step h) = option_map (stepped w h) (next_of c h (w.host h))
 entry_of c w (Tear h given) = brings_if (are_some given) (option_and_then (torn w h given) (next_of c h (w.host h)))
 entry_of c w (FailCall h given) = brings_if (are_some given) (option_and_then (failed w h given) (next_of c h (w.host h)))
+entry_of c w (StepOn h k) = option_map (stepped_on w h k) (due_of c h (w.host h) k)
+entry_of c w (TearOn h k given) = brings_if (are_some given) (option_and_then (torn_on w h given k) (due_of c h (w.host h) k))
+entry_of c w (FailOn h k given) = brings_if (are_some given) (option_and_then (failed_on w h given k) (due_of c h (w.host h) k))
 entry_of c w (DiskCrash k given) = let disk = w.disk k in
     brings_if (are_some given && has_disk c w k && nat_lt disk.boot (2 ^ 62)) (Some (Crashed k (filled given 0 disk.unsynced disk.bytes)))
 entry_of c w (DiskGone k) = brings_if (has_disk c w k) (Some (Lost k))

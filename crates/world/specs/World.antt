@@ -12,7 +12,7 @@ use Rattle.lock_command.specs.Reading.{decoded}
 use Rattle.paxos_block.specs.Shape.{Shape}
 use Rattle.host.specs.declared.task.Task.{Task}
 use Rattle.host.specs.declared.task.Task.TheVariants.{Submit, Recover, Look, Beat, Mark}
-use Rattle.host.specs.Host.{Host, Stopped, next_of, is_stopped, idles}
+use Rattle.host.specs.Host.{Host, Stopped, due_of, is_stopped, idles}
 use Rattle.world.specs.Entry.{Filled, Start, Stop, Begin, Called, Torn, Crashed, Lost, Migrated, on_disk, of_host, disk_step, disk_after, host_after}
 
 -- THE WORLD
@@ -40,9 +40,9 @@ HasDisk c w k = (k < c.disks) × ((w.disk k).gone ≡ false)
 abbrev pub ReadsBack : Command → Type 0
 ReadsBack command = decoded (spelling command) ≡ Some command
 
--- the call is the host's next, on this disk
+-- the host may make the call next, on this disk
 abbrev pub IsNext : Shape → World → ℕ → ℕ → Call → Type 0
-IsNext c w h k call = next_of c h (w.host h) ≡ Some (k, call)
+IsNext c w h k call = due_of c h (w.host h) k ≡ Some call
 
 -- a write that the disk does not refuse is torn
 abbrev pub Tears : Call → DiskState → DiskState → Type 0

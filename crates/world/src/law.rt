@@ -16,11 +16,11 @@ ghost use Rattle.rounds.specs.Look.History.{IsHistory as IsLookHistory};
 ghost use Rattle.rounds.specs.Look.Status.{Setup as LookSetup};
 ghost use Rattle.paxos_block.specs.Shape.{Shape};
 ghost use Rattle.host.specs.declared.task.Task.TheVariants.{Look};
-ghost use Rattle.host.specs.Host.{Attempt, Looking, Marking, Attempts, Looks, Beats, Marks, Memory, Running, starts, hears_from, setup_of, beat_of, marking_of, look_of, is_idle, next_of};
+ghost use Rattle.host.specs.Host.{Attempt, Looking, Marking, Attempts, Looks, Beats, Marks, Memory, Running, starts, hears_from, setup_of, beat_of, marking_of, look_of, is_idle, next_of, due_of, Host};
 ghost use Rattle.world.specs.Entry.{Filled, is_on, is_of, disk_step, host_step};
 ghost use Rattle.world.specs.Looks.{HearsLooking, SaysLooking};
-ghost use Rattle.world.specs.World.{world, ReadsBack, MayFollow, CanMigrate, MayBegin, IsFreshRun, IsRun};
-ghost use Rattle.world.specs.Happens.{Event, entry_of, happens, run, run_after, lines_at, answers};
+ghost use Rattle.world.specs.World.{World, world, ReadsBack, MayFollow, CanMigrate, MayBegin, IsFreshRun, IsRun};
+ghost use Rattle.world.specs.Happens.{Event, Step, Tear, FailCall, StepOn, TearOn, FailOn, entry_of, happens, run, run_after, lines_at, answers};
 ghost use Rattle.world.specs.Chosen.{at, Hears, IsChosenAt};
 ghost use Rattle.world.specs.Account.{AccountsFor, GivesUp};
 ghost use Rattle.world.specs.Lines.{LinesAreSaid, LinesAreSaidAfter, EventsReachEach, EventsReachAll};
@@ -68,6 +68,19 @@ pub fn events_make_a_run()
     ensures one_answer_more { (c : Shape) (events : List Event) (event : Event) →
         answers c (events ++ event ∷ []) ≡ answers c events
         ++ lines_at c (run c events) (length events) (entry_of c (world c (run c events)) event) }
+{}
+
+/// What a host does in turn it may do on that disk: its next call may be made there, and the event that names no disk brings what the one brings
+/// that names it.
+pub fn in_turn_is_on_a_disk()
+    ensures due { (c : Shape) (h k : ℕ) (host : Host) (call : Call) →
+        next_of c h host ≡ Some (k, call) → due_of c h host k ≡ Some call }
+    ensures steps { (c : Shape) (w : World) (h k : ℕ) (call : Call) →
+        next_of c h (w.host h) ≡ Some (k, call) → entry_of c w (Step h) ≡ entry_of c w (StepOn h k) }
+    ensures tears { (c : Shape) (w : World) (h k : ℕ) (given : List ℕ) (call : Call) →
+        next_of c h (w.host h) ≡ Some (k, call) → entry_of c w (Tear h given) ≡ entry_of c w (TearOn h k given) }
+    ensures fails { (c : Shape) (w : World) (h k : ℕ) (given : List ℕ) (call : Call) →
+        next_of c h (w.host h) ≡ Some (k, call) → entry_of c w (FailCall h given) ≡ entry_of c w (FailOn h k given) }
 {}
 
 /// The answers of any events are what their hosts say: each line is said at the entry of its event,
@@ -162,7 +175,7 @@ pub fn looks_hear_histories()
 /// was decided is no command: it is not outrun, and has no ballot to spend.
 pub fn looks_only_read()
     ensures reads { (c : Shape) (h k : ℕ) (m : Memory) (t : Looking) (call : Call) → m.doing ≡ Some (Looks t) →
-        next_of c h (Running m) ≡ Some (k, call) → OnlyReads call }
+        due_of c h (Running m) k ≡ Some call → OnlyReads call }
     ensures disk { (c : Shape) (log : List Filled) (h k : ℕ) (m : Memory) (t : Looking) (e : Filled) →
         (world c log).host h ≡ Running m → m.doing ≡ Some (Looks t) →
         MayFollow c (world c log) e → is_of h e ≡ true →

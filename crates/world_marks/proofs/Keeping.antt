@@ -26,12 +26,14 @@ use Rattle.attempt.specs.NextCall.{call_by, write_on}
 use Rattle.attempt.specs.Proposal.{or_else, decided, decided_in, decided_below}
 use Rattle.attempt.specs.Setup.{Setup}
 use Rattle.attempt.specs.Standing.{IsIn}
-use Rattle.attempt.proofs.Histories.{visit}
 use Rattle.attempt.proofs.Votes.{told_is}
 use Rattle.rounds.specs.Beat.Answers as beat_answers
+use Rattle.rounds.specs.Beat.Status as beat
+use Rattle.rounds.specs.Look.Status as look
 use Rattle.rounds.specs.Marking.Status as mark
 use Rattle.paxos_block.specs.Shape.{Shape}
-use Rattle.host.specs.Host.{Attempt, Marking, Looking, Doing, Attempts, Looks, Beats, Marks, Memory, Running, beat_of, marking_of, look_of, setup_of, next_of}
+use Rattle.host.specs.Host.{Attempt, Marking, Looking, Doing, Attempts, Looks, Beats, Marks, Memory, Running, beat_of, marking_of, look_of, setup_of, due_of as call_of}
+use Rattle.host.proofs.Due.{only_is}
 use Rattle.world.specs.Entry.{Called, disk_step}
 use Rattle.world.specs.World.{World}
 use Rattle.world_safety.specs.Marking.{KnowsMarkFor, IsMarking, IsMarkingSlot}
@@ -125,7 +127,7 @@ own_or_other slot h P own others j g = elim (cases_eq j slot) [
 abbrev pub AttemptKnown : (ℕ → List ℕ → Type 0) → World → ℕ → Type 0
 AttemptKnown K w h = (m : Memory) (t : Attempt) → w.host h ≡ Running m → m.doing ≡ Some (Attempts t) → ((d : ℕ) → TellsTrueMarks (K (length m.learned)) (on t.heard d)) × Unmarked w h (length m.learned) t.heard
 
-module _ (c : Shape) (w : World) (ms : Moves) (tied : Tied c w ms) (h k : ℕ) (call : Call) (answer : Answer) (left : List ℕ) (next : next_of c h (w.host h) ≡ Some (k, call)) (step : Step (w.disk k) call answer (disk_step (w.disk k) (Called h k call answer left))) where
+module _ (c : Shape) (w : World) (ms : Moves) (tied : Tied c w ms) (h k : ℕ) (call : Call) (answer : Answer) (left : List ℕ) (next : call_of c h (w.host h) k ≡ Some call) (step : Step (w.disk k) call answer (disk_step (w.disk k) (Called h k call answer left))) where
   abbrev disk : DiskState
   disk = w.disk k
 
@@ -161,24 +163,24 @@ module _ (c : Shape) (w : World) (ms : Moves) (tied : Tied c w ms) (h k : ℕ) (
     undecided_in Two come later = come.1.taken.undecided
 
     -- its own block has no mark where it writes
-    own_free : (p : Phase) (put : WriteCall) → known.is.kind ≡ Putting p put → IsUnder (call_by s k f (Putting p put)) disk.boot → AllSay HasNone place disk
+    own_free : (p : Phase) (put : WriteCall) → known.is.made.kind ≡ Putting p put → IsUnder (call_by s k f (Putting p put)) disk.boot → AllSay HasNone place disk
     own_free p put same under =
-        let long = put_late (length (f k)) p put (known.is.kind_is ∙ ap Some same) in
-        let later : known.is.phase ≡ Opening → ⊥ = λ first. (let few = subst (λ (q : Phase). length (f k) < goal q) first known.waiting.short in omega (arith, few, long)) in
+        let long = put_late (length (f k)) p put (known.is.made.kind_is ∙ ap Some same) in
+        let later : known.is.made.phase ≡ Opening → ⊥ = λ first. (let few = subst (λ (q : Phase). length (f k) < goal q) first known.waiting.short in omega (arith, few, long)) in
         let good = known.waiting.part.good in
         let read = some_row (row_in Opening (f k)) ((known.reached.disk k).read Opening good long) in
-        let none = undecided_in known.is.phase known.due_at.come later in
-        let inside = (visit s known.is.phase k f known.due_at).below in
+        let none = undecided_in known.is.made.phase known.due_at.at.come later in
+        let inside = known.due_at.below in
         unmarked k (record { good = good; boot = under_is put (write_on s p k f) (boot_of (f k)) disk.boot under }) read.0 read.1
         (shows_no_mark K s f tells none k inside read.0 read.1 h known.run.below known.run.below)
 
     attempt_own : AllSay HasMark place disk → AllSay HasMark place new
-    attempt_own marked_before = by known.is.kind refl
+    attempt_own marked_before = by known.is.made.kind refl
       where
-        step_as : (kind : Kind) → known.is.kind ≡ kind → Step disk (call_by s k f kind) answer new
+        step_as : (kind : Kind) → known.is.made.kind ≡ kind → Step disk (call_by s k f kind) answer new
         step_as kind same = subst (λ (q : Kind). Step disk (call_by s k f q) answer new) same known.step_by
 
-        by : (kind : Kind) → known.is.kind ≡ kind → AllSay HasMark place new
+        by : (kind : Kind) → known.is.made.kind ≡ kind → AllSay HasMark place new
         by Attaching same = all_say_by HasMark place disk new (calm_outcomes cluster_version disk new place (call_by s k f Attaching) answer tt (step_as Attaching same)) marked_before
         by Syncing same = all_say_by HasMark place disk new (calm_outcomes cluster_version disk new place (call_by s k f Syncing) answer tt (step_as Syncing same)) marked_before
         by Reading same = all_say_by HasMark place disk new (calm_outcomes cluster_version disk new place (call_by s k f Reading) answer tt (step_as Reading same)) marked_before
@@ -193,7 +195,7 @@ module _ (c : Shape) (w : World) (ms : Moves) (tied : Tied c w ms) (h k : ℕ) (
     attempt_keeps =
         own_or_other (length m.learned) h Keeps (λ slot_below below before. attempt_own before)
         (λ slot host differ slot_below below before. all_say_by HasMark (place_of cluster_version (VoteOf slot host)) disk new
-        (spares_others c.slots (VoteOf (length m.learned) h) (VoteOf slot host) disk new (call_by s k f known.is.kind) answer (known.trying.fits, known.run.below) (slot_below, below) differ known.image known.inside known.step_by).outcomes
+        (spares_others c.slots (VoteOf (length m.learned) h) (VoteOf slot host) disk new (call_by s k f known.is.made.kind) answer (known.trying.fits, known.run.below) (slot_below, below) differ known.image known.inside known.step_by).outcomes
         before)
 
   -- A BEAT'S
@@ -203,7 +205,7 @@ module _ (c : Shape) (w : World) (ms : Moves) (tied : Tied c w ms) (h k : ℕ) (
     beat_keeps slot host slot_below below before =
         let run = running_at c w ms tied h is.memory is.running in
         all_say_by HasMark (place_of cluster_version (VoteOf slot host)) disk new
-        (spares_others c.slots (BeatOf h) (VoteOf slot host) disk new call answer run.below (slot_below, below) (λ equal. absurd (cc)) (tied.images k) (beat_within (beat_of c h) (beat_answers.on heard) k call is.due) step).outcomes
+        (spares_others c.slots (BeatOf h) (VoteOf slot host) disk new call answer run.below (slot_below, below) (λ equal. absurd (cc)) (tied.images k) (beat_within (beat_of c h) (beat_answers.on heard) k call (only_is k (beat.next_call (beat_of c h) (beat_answers.on heard)) call is.due)) step).outcomes
         before
 
   -- A MARKING'S
@@ -225,7 +227,7 @@ module _ (c : Shape) (w : World) (ms : Moves) (tied : Tied c w ms) (h k : ℕ) (
     marking = subst (IsDoing c w ms h it.memory) it.does mark_run.doing
 
     pub due : IsMarkDue q a call
-    due = mark_due q (on t.heard) k call it.due
+    due = mark_due q (on t.heard) k call (only_is k (mark.next_call q (on t.heard)) call it.due)
 
     -- what is to be marked has no mark
     free : (p : Phase) (put : WriteCall) → due.kind ≡ Putting p put → (mark.own_block q a).says.mark ≡ false
@@ -289,7 +291,7 @@ module _ (c : Shape) (w : World) (ms : Moves) (tied : Tied c w ms) (h k : ℕ) (
 
   look_keeps : (t : Looking) → IsBusyWith c h k call (w.host h) (Looks t) → (slot host : ℕ) → Keeps slot host
   look_keeps t it slot host slot_below below before =
-      let calm = is_calm (look_of c it.memory t.first) (on t.heard) k call it.due in
+      let calm = is_calm (look_of c it.memory t.first) (on t.heard) k call (only_is k (look.next_call (look_of c it.memory t.first) (on t.heard)) call it.due) in
       subst (AllSay HasMark (place_of cluster_version (VoteOf slot host))) (sym (leaves disk call answer left calm)) before
 
   -- ANY CALL

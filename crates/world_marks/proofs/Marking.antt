@@ -25,7 +25,7 @@ use Rattle.attempt.proofs.Lists.{length_more, good_more, row_kept, row_last, row
 use Rattle.attempt.proofs.More.{on_more, by_disk}
 use Rattle.rounds.specs.Marking.Status as mark
 use Rattle.paxos_block.specs.Shape.{Shape}
-use Rattle.host.specs.Host.{Marking, Doing, Marks, Memory, Host, Running, marking_of, next_of, next_doing}
+use Rattle.host.specs.Host.{Marking, Doing, Marks, Memory, Host, Running, marking_of, due_of, due_doing}
 use Rattle.world.specs.Entry.{Filled, Called, disk_step}
 use Rattle.world.specs.World.{World, MayFollow}
 use Rattle.world_safety.specs.Marking.{IsMarking, IsMarkingSlot}
@@ -67,7 +67,7 @@ goes_on : (b : Bool) (s : mark.Setup) (a : List Heard) → mark.is_to_mark s a �
 goes_on true s a is less late = is
 goes_on false s a is less late = absurd (let few = ltb-true (length a) mark.three_calls less in omega arith)
 
-module _ (c : Shape) (w : World) (ms : Moves) (tied : Tied c w ms) (h k : ℕ) (call : Call) (answer : Answer) (left : List ℕ) (next : next_of c h (w.host h) ≡ Some (k, call)) (step : Step (w.disk k) call answer (disk_step (w.disk k) (Called h k call answer left)))
+module _ (c : Shape) (w : World) (ms : Moves) (tied : Tied c w ms) (h k : ℕ) (call : Call) (answer : Answer) (left : List ℕ) (next : due_of c h (w.host h) k ≡ Some call) (step : Step (w.disk k) call answer (disk_step (w.disk k) (Called h k call answer left)))
     (t : Marking) (it : IsBusyWith c h k call (w.host h) (Marks t)) where
   abbrev disk : DiskState
   disk = w.disk k
@@ -201,7 +201,7 @@ module _ (c : Shape) (w : World) (ms : Moves) (tied : Tied c w ms) (h : ℕ) (e 
           memory = m;
           running = running;
           does = marks;
-          due = subst (λ (o : Option Doing). next_doing c h m o ≡ Some (k, call)) marks (subst (λ (old : Host). next_of c h old ≡ Some (k, call)) running may_call.0);
+          due = subst (λ (o : Option Doing). due_doing c h m o k ≡ Some call) marks (subst (λ (old : Host). due_of c h old k ≡ Some call) running may_call.0);
         }
 
     -- and what it counts with an answer

@@ -18,7 +18,7 @@ use Rattle.host.specs.declared.answer.HostAnswer.{HostAnswer}
 use Rattle.host.specs.declared.answer.HostAnswer.TheVariants.{Ack, Recovered, Looked, Beaten, Marked, Refused}
 use Rattle.host.specs.declared.task.Task.{Task}
 use Rattle.host.specs.declared.task.Task.TheVariants.{Submit, Recover, Look, Beat, Mark}
-use Rattle.host.specs.Host.{Operation, Submitting, Recovering, Attempt, Marking, Looking, Doing, Attempts, Looks, Beats, Marks, Memory, Host, Stopped, Running, does, says, setup_of, with_heard, full_answer, with_floor, learns, is_submitted, after_learning, takes, by_status, hears_from, beat_of, beat_by, starts_marking, marking_by, look_by, looks_on, takes_marked, next_doing, next_of, reply_after, said_of, suggested, is_stopped}
+use Rattle.host.specs.Host.{Operation, Submitting, Recovering, Attempt, Marking, Looking, Doing, Attempts, Looks, Beats, Marks, Memory, Host, Stopped, Running, does, says, setup_of, with_heard, full_answer, with_floor, learns, is_submitted, after_learning, takes, by_status, hears_from, beat_of, beat_by, starts_marking, marking_by, look_by, looks_on, takes_marked, due_doing, due_of, reply_after, said_of, suggested, is_stopped}
 use Rattle.world.specs.Entry.{Filled, Start, Begin, Called, is_of, started, begins_on, host_step}
 use Rattle.world.specs.Looks.{SaysLooking}
 use Rattle.world.specs.World.{MayBegin, IsRun}
@@ -106,7 +106,7 @@ pub data IsSaidBy (c : Shape) (log : List Filled) (i h : ℕ) (said : HostAnswer
   ByMarking : (t : Marking) → (there : HearsAt c log i h (Marks t)) → (is : (hears_from c h there.memory (Some (Marks t)) there.disk there.answer).said ≡ Some said) → IsSaidBy c log i h said
 
 module _ (c : Shape) (log : List Filled) (i h : ℕ) (said : HostAnswer) (apart : IsApart said) where
-  by_doing : (m : Memory) → (at c log i).host h ≡ Running m → (k : ℕ) (call : Call) (answer : Answer) (left : List ℕ) → slice_get log i ≡ Some (Called h k call answer left) → (o : Option Doing) → m.doing ≡ o → next_doing c h m o ≡ Some (k, call)
+  by_doing : (m : Memory) → (at c log i).host h ≡ Running m → (k : ℕ) (call : Call) (answer : Answer) (left : List ℕ) → slice_get log i ≡ Some (Called h k call answer left) → (o : Option Doing) → m.doing ≡ o → due_doing c h m o k ≡ Some call
       → (hears_from c h m o k answer).said ≡ Some said → IsSaidBy c log i h said
   by_doing m running k call answer left entry None does next is = absurd (cc)
   by_doing m running k call answer left entry (Some (Attempts t)) does next is =
@@ -121,7 +121,7 @@ module _ (c : Shape) (log : List Filled) (i h : ℕ) (said : HostAnswer) (apart 
   by_doing m running k call answer left entry (Some (Marks t)) does next is =
       ByMarking t (record { disk = k; call = call; answer = answer; left = left; entry = entry; memory = m; running = running; does = does }) is
 
-  by_host : (old : Host) → (at c log i).host h ≡ old → (k : ℕ) (call : Call) (answer : Answer) (left : List ℕ) → slice_get log i ≡ Some (Called h k call answer left) → next_of c h old ≡ Some (k, call)
+  by_host : (old : Host) → (at c log i).host h ≡ old → (k : ℕ) (call : Call) (answer : Answer) (left : List ℕ) → slice_get log i ≡ Some (Called h k call answer left) → due_of c h old k ≡ Some call
       → said_of (host_step c h old (Called h k call answer left)) ≡ Some said → IsSaidBy c log i h said
   by_host Stopped running k call answer left entry next is = absurd (cc)
   by_host (Running m) running k call answer left entry next is = by_doing m running k call answer left entry m.doing refl next is
@@ -135,7 +135,7 @@ module _ (c : Shape) (log : List Filled) (i h : ℕ) (said : HostAnswer) (apart 
   by_entry (Begin g task) entry may of is = let looks = task_looks c ((at c log i).host h) task said apart is in ByBeginning looks.0 looks.1
   by_entry (Called g k call answer left) entry may of is =
       by_host ((at c log i).host h) refl k call answer left (entry ∙ ap (λ (j : ℕ). Some (Called j k call answer left)) (eqb-true g h of))
-      (subst (λ (j : ℕ). next_of c j ((at c log i).host j) ≡ Some (k, call)) (eqb-true g h of) may.0) is
+      (subst (λ (j : ℕ). due_of c j ((at c log i).host j) k ≡ Some call) (eqb-true g h of) may.0) is
   by_entry other entry may of is = absurd (cc)
 
   -- whence it comes

@@ -18,7 +18,7 @@ use Rattle.attempt.proofs.Lists.{length_more, get_front, get_last, get_none}
 use Rattle.attempt.proofs.More.{on_more, by_disk}
 use Rattle.rounds.specs.Look.Status as look
 use Rattle.paxos_block.specs.Shape.{Shape}
-use Rattle.host.specs.Host.{Attempt, Looking, Doing, Attempts, Looks, Memory, Host, Running, setup_of, look_of, next_of}
+use Rattle.host.specs.Host.{Attempt, Looking, Doing, Attempts, Looks, Memory, Host, Running, setup_of, look_of, due_of as call_of}
 use Rattle.world.specs.Entry.{Filled, Called, disk_step}
 use Rattle.world.specs.World.{World, IsRun}
 use Rattle.world.specs.Chosen.{at}
@@ -103,13 +103,13 @@ module _ (c : Shape) (log : List Filled) (run : IsRun c log) (i slot g : ℕ) (s
     attempt_more t does = more_shown (λ row tells. (
         let may = each c log j (Called h k call answer left) run found in
         let known = due_of c w (moves_at c log run j) h k call answer left m t (record { tied = tied_at c log run j; running = running; does = does; next = may.0; step = may.1 }) in
-        seen_is (setup_of c h m t.operation) (on t.heard) k (w.disk k) new answer known.is.kind known.waiting.part.good known.is.kind_is known.is.fits known.step_by row tells known.run.below g below)) 2 t.heard
+        seen_is (setup_of c h m t.operation) (on t.heard) k (w.disk k) new answer known.is.made.kind known.waiting.part.good known.is.made.kind_is known.is.fits known.step_by row tells known.run.below g below)) 2 t.heard
 
     pub look_more : (t : Looking) → m.doing ≡ Some (Looks t) → Shows 1 (length m.learned) t.heard → Shows 1 (length m.learned) (t.heard ++ record { disk = k; heard = x } ∷ [])
     look_more t does = more_shown (λ row tells. (
         let may = each c log j (Called h k call answer left) run found in
         let s = look_of c m t.first in
-        let next = next_is c h m t k call does (subst (λ (host : Host). next_of c h host ≡ Some (k, call)) running may.0) in
+        let next = next_is c h m t k call does (subst (λ (host : Host). call_of c h host k ≡ Some call) running may.0) in
         look_sees s (on t.heard k) (w.disk k) new call answer (due_call s (on t.heard) (look.status s (on t.heard)) k call next) may.1 row tells g below)) 1 t.heard
 
   -- AT EACH PLACE

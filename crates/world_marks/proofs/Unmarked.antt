@@ -161,10 +161,10 @@ module _ (c : Shape) (w : World) (ms : Moves) (tied : Tied c w ms) (e : Filled) 
       read_so row tells none bytes may_be =
           let new = disk_step (w.disk k) (Called h k call answer left) in
           let good = known.waiting.part.good in
-          let here = current s (on t.heard) k (w.disk k) new answer known.is.kind good known.is.kind_is known.is.fits known.step_by row tells run.below in
-          let there = is_next_read s (on t.heard) k (w.disk k) new answer known.is.kind good known.is.kind_is known.is.fits known.step_by row tells run.below in
+          let here = current s (on t.heard) k (w.disk k) new answer known.is.made.kind good known.is.made.kind_is known.is.fits known.step_by row tells run.below in
+          let there = is_next_read s (on t.heard) k (w.disk k) new answer known.is.made.kind good known.is.made.kind_is known.is.fits known.step_by row tells run.below in
           let rests = (trying.knows k).next here Reading there in
-          let seen = seen_is s (on t.heard) k (w.disk k) new answer known.is.kind good known.is.kind_is known.is.fits known.step_by row tells run.below h run.below in
+          let seen = seen_is s (on t.heard) k (w.disk k) new answer known.is.made.kind good known.is.made.kind_is known.is.fits known.step_by row tells run.below h run.below in
           ap (λ (block : List ℕ). (says_of cluster_version (value_of cluster_version block)).mark) (rests bytes may_be) ∙ ap (λ (b : DecodedBlock). b.says.mark) (sym seen) ∙ none
 
       here_then : IsCurrent (w'.disk k) (a ++ x ∷ []) → (row : List DecodedBlock) → row_in Opening (a ++ x ∷ []) ≡ Some row → (says_in row h).mark ≡ false → AllSay HasNone place (w'.disk k)

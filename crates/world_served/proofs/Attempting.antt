@@ -13,7 +13,7 @@ use Rattle.lock_command.specs.Reading.{decoded}
 use Rattle.paxos_block.specs.Shape.{Shape}
 use Rattle.attempt.specs.declared.refusal.Refusal.TheVariants as refusal
 use Rattle.host.specs.declared.answer.HostAnswer.TheVariants.{Refused}
-use Rattle.host.specs.Host.{Operation, Attempt, Doing, Attempts, Memory, Host, Stopped, Running, setup_of, says, begins, full_answer, goes_on, with_floor, learns, is_submitted, after_learning, takes, tries_again, by_status, hears_from, next_of}
+use Rattle.host.specs.Host.{Operation, Attempt, Doing, Attempts, Memory, Host, Stopped, Running, setup_of, says, begins, full_answer, goes_on, with_floor, learns, is_submitted, after_learning, takes, tries_again, by_status, hears_from, due_of}
 use Rattle.world.specs.Entry.{Filled, Called, is_of, host_step}
 use Rattle.world.specs.World.{World, IsRun}
 use Rattle.world.specs.Chosen.{at, Hears, IsCallOf}
@@ -100,7 +100,7 @@ module _ (c : Shape) (log : List Filled) (run : IsRun c log) (i j host : ℕ) (a
     -- with an answer
     called : (d : ℕ) (call : Call) (answer : Answer) (left : List ℕ) → slice_get log k ≡ Some (Called host d call answer left) → (old : Host) → (at c log k).host host ≡ old → (o : Host) → host_step c host old (Called host d call answer left) ≡ o
         → (m : Memory) → o ≡ Running m → RestsIn c host (next_world c (at c log k) (Called host d call answer left)).disk (calls_between log i k host + 1) m
-    called d call answer left is Stopped was o now m same = absurd (let stopped : next_of c host Stopped ≡ Some (d, call) = ap (next_of c host) (sym was) ∙ (each c log k _ run is).0 in cc)
+    called d call answer left is Stopped was o now m same = absurd (let stopped : due_of c host Stopped d ≡ Some call = ap (λ (old : Host). due_of c host old d) (sym was) ∙ (each c log k _ run is).0 in cc)
     called d call answer left is (Running q) was o now m same =
         let both : Running (hears_from c host q q.doing d answer) ≡ Running m = now ∙ same in
         let one : hears_from c host q q.doing d answer ≡ m = cc in

@@ -16,8 +16,10 @@ use Rattle.attempt.specs.Setup.{Setup}
 use Rattle.attempt.specs.NextCall.{call_by}
 use Rattle.attempt.proofs.More.{on_more, by_disk}
 use Rattle.rounds.specs.Beat.Answers as beat_answers
+use Rattle.rounds.specs.Beat.Status as beat
 use Rattle.paxos_block.specs.Shape.{Shape}
-use Rattle.host.specs.Host.{Attempt, Marking, Doing, Attempts, Looks, Beats, Marks, Memory, Host, Running, setup_of, beat_of, next_doing, next_of}
+use Rattle.host.specs.Host.{Attempt, Marking, Doing, Attempts, Looks, Beats, Marks, Memory, Host, Running, setup_of, beat_of, due_doing, due_of as call_of}
+use Rattle.host.proofs.Due.{only_is}
 use Rattle.world.specs.Entry.{Filled, Called, Torn, Crashed, Lost, Migrated, is_on, is_of, disk_step}
 use Rattle.world.specs.World.{World, IsRun}
 use Rattle.world.specs.Chosen.{at}
@@ -58,7 +60,7 @@ reading_leaves (Write boot at from) reads = reads
 reading_leaves (Sync boot) reads = absurd reads
 
 -- who tries no slot, and has a call to make, makes a quiet one
-quiet_only : (c : Shape) (h k : ℕ) (call : Call) (host : Host) → next_of c h host ≡ Some (k, call) → ((m : Memory) (t : Attempt) → host ≡ Running m → m.doing ≡ Some (Attempts t) → ⊥) → IsQuietCall c h k call host
+quiet_only : (c : Shape) (h k : ℕ) (call : Call) (host : Host) → call_of c h host k ≡ Some call → ((m : Memory) (t : Attempt) → host ≡ Running m → m.doing ≡ Some (Attempts t) → ⊥) → IsQuietCall c h k call host
 quiet_only c h k call host next rests = let at_work = busy c h k call host next in (at_work.0, at_work.1, none at_work.0 at_work.1)
   where
     none : (doing : Doing) → IsBusyWith c h k call host doing → IsNoAttempt (Some doing)
@@ -101,7 +103,7 @@ module _ (c : Shape) (w : World) (ms : Moves) (tied : Tied c w ms) (h : ℕ) (m 
 
   -- AN ANSWER
 
-  module _ (k : ℕ) (call : Call) (answer : Answer) (left : List ℕ) (next : next_of c h (w.host h) ≡ Some (k, call)) (step : Step (w.disk k) call answer (disk_step (w.disk k) (Called h k call answer left))) where
+  module _ (k : ℕ) (call : Call) (answer : Answer) (left : List ℕ) (next : call_of c h (w.host h) k ≡ Some call) (step : Step (w.disk k) call answer (disk_step (w.disk k) (Called h k call answer left))) where
     abbrev x : Answered
     x = record { disk = k; heard = heard_as answer }
 
@@ -123,9 +125,9 @@ module _ (c : Shape) (w : World) (ms : Moves) (tied : Tied c w ms) (h : ℕ) (m 
     -- so its rows rest on the disk that answers
     here : RestsOn h slot (w.disk k) (f k) → RestsOn h slot new (f k ++ heard_as answer ∷ [])
     here before =
-        rests_more h slot (w.disk k) new (f k) (heard_as answer) (reached.disk k) waiting.part.good (boot_kept (w.disk k) new (call_by s k f is.kind) answer step_by)
-        (λ g off. ap (λ (says : PBlock). says.mbal) (shown_kept c.slots slot h g (w.disk k) new (call_by s k f is.kind) answer trying.fits runs.below off (tied.images k) inside step_by))
-        (λ row tells. (current s f k (w.disk k) new answer is.kind waiting.part.good is.kind_is is.fits step_by row tells runs.below, row_is s f k (w.disk k) new answer is.kind waiting.part.good is.kind_is is.fits step_by row tells runs.below))
+        rests_more h slot (w.disk k) new (f k) (heard_as answer) (reached.disk k) waiting.part.good (boot_kept (w.disk k) new (call_by s k f is.made.kind) answer step_by)
+        (λ g off. ap (λ (says : PBlock). says.mbal) (shown_kept c.slots slot h g (w.disk k) new (call_by s k f is.made.kind) answer trying.fits runs.below off (tied.images k) inside step_by))
+        (λ row tells. (current s f k (w.disk k) new answer is.made.kind waiting.part.good is.made.kind_is is.fits step_by row tells runs.below, row_is s f k (w.disk k) new answer is.made.kind waiting.part.good is.made.kind_is is.fits step_by row tells runs.below))
         before
 
     -- that disk has made a step, and the others have not
@@ -184,7 +186,7 @@ module _ (c : Shape) (w : World) (ms : Moves) (tied : Tied c w ms) (h : ℕ) (m 
       ))
   quiet_leaves g k call answer e (Looks q) it none step =
       let new : DiskState = disk_step (w.disk k) e in
-      let reads = reads_only c g k it.memory q call it.does (subst (λ (o : Option Doing). next_doing c g it.memory o ≡ Some (k, call)) (sym it.does) it.due) in
+      let reads = reads_only c g k it.memory q call it.does (subst (λ (o : Option Doing). due_doing c g it.memory o k ≡ Some call) (sym it.does) it.due) in
       let same : new.bytes ≡ (w.disk k).bytes = bytes_left (w.disk k) new call answer (reading_leaves call reads) step in
       rests_on h slot (w.disk k) new (f k) (λ current. (
         record { good = current.good; boot = current.boot ∙ boot_kept (w.disk k) new call answer step },
@@ -192,7 +194,7 @@ module _ (c : Shape) (w : World) (ms : Moves) (tied : Tied c w ms) (h : ℕ) (m 
       ))
   quiet_leaves g k call answer e (Beats heard) it none step =
       let below = (running_at c w ms tied g it.memory it.running).below in
-      let inside = beat_within (beat_of c g) (beat_answers.on heard) k call it.due in
+      let inside = beat_within (beat_of c g) (beat_answers.on heard) k call (only_is k (beat.next_call (beat_of c g) (beat_answers.on heard)) call it.due) in
       rests_on h slot (w.disk k) (disk_step (w.disk k) e) (f k) (λ current. (
         record { good = current.good; boot = current.boot ∙ boot_kept (w.disk k) (disk_step (w.disk k) e) call answer step },
         λ i off. ap (λ (says : PBlock). says.mbal) (shown_beside c.slots slot i (BeatOf g) (w.disk k) (disk_step (w.disk k) e) call answer trying.fits below (λ same. cc) (tied.images k) inside step),

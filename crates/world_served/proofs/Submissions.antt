@@ -6,7 +6,7 @@ use Rattle.disk.specs.Disk.{Call, Answer}
 use Rattle.attempt.specs.Numbers.{count}
 use Rattle.lock_command.specs.declared.command.Command.{Command}
 use Rattle.paxos_block.specs.Shape.{Shape}
-use Rattle.host.specs.Host.{Submitting, Doing, Attempts, Memory, Host, Stopped, Running, idles, learned_of, said_of, does, goes_on, next_doing, next_of}
+use Rattle.host.specs.Host.{Submitting, Doing, Attempts, Memory, Host, Stopped, Running, idles, learned_of, said_of, does, goes_on, due_doing, due_of}
 use Rattle.host.specs.declared.task.Task.TheVariants.{Submit}
 use Rattle.world.specs.Entry.{Filled, Begin, Called, is_of, host_step}
 use Rattle.world.specs.World.{World, IsRun}
@@ -89,10 +89,10 @@ module _ (c : Shape) (log : List Filled) (run : IsRun c log) (some : 1 ≤ c.dis
       }
 
   -- a host that has nothing under way makes no call
-  no_call : (k d : ℕ) (call : Call) (m : Memory) → (at c log k).host host ≡ Running m → m.doing ≡ None → next_of c host ((at c log k).host host) ≡ Some (d, call) → ⊥
+  no_call : (k d : ℕ) (call : Call) (m : Memory) → (at c log k).host host ≡ Running m → m.doing ≡ None → due_of c host ((at c log k).host host) d ≡ Some call → ⊥
   no_call k d call m running idle next =
-      let there : next_doing c host m m.doing ≡ Some (d, call) = ap (next_of c host) (sym running) ∙ next in
-      let none : next_doing c host m None ≡ Some (d, call) = ap (next_doing c host m) (sym idle) ∙ there in
+      let there : due_doing c host m m.doing d ≡ Some call = ap (λ (old : Host). due_of c host old d) (sym running) ∙ next in
+      let none : due_doing c host m None d ≡ Some call = ap (λ (o : Option Doing). due_doing c host m o d) (sym idle) ∙ there in
       absurd (cc)
 
   module _ (k : ℕ) (behind : i < k) (before : k < j) (to : ServesTo k) where

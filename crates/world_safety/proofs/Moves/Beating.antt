@@ -29,6 +29,7 @@ use Rattle.world_safety.specs.Goes.{Goes}
 use Rattle.world_safety.specs.Tied.{Moves, machine, IsRunning, TiedBut, Tied}
 use Rattle.world_safety.proofs.Blocks.Keeping.{Spares, spares_others, spares_same}
 use Rattle.world_safety.proofs.Moves.Beside.{hears_none}
+use Rattle.host.proofs.Due.{only_is}
 use Rattle.world_safety.proofs.Moves.Due.{IsBusyWith}
 use Rattle.world_safety.proofs.Moves.Hosts.{rests_late, tied_but, same_host}
 use Rattle.world_safety.proofs.Moves.Moving.{marks_by, running_at, disk_then, beside_called_goes, beside_torn_goes}
@@ -94,7 +95,7 @@ module _ (c : Shape) (w : World) (ms : Moves) (tied : Tied c w ms) where
     run = running_at c w ms tied h is.memory is.running
 
     inside : IsWithin cluster_version (BeatOf h) call
-    inside = beat_within (beat_of c h) (beat_answers.on heard) k call is.due
+    inside = beat_within (beat_of c h) (beat_answers.on heard) k call (only_is k (beat.next_call (beat_of c h) (beat_answers.on heard)) call is.due)
 
     at_disk : (P : ℕ → DiskState → Type 0) → P k (disk_step (w.disk k) e) → ((d : ℕ) → P d (w.disk d)) → (d : ℕ) → P d (disks d)
     at_disk P here there d = by_eq (λ b. P d (cond b (disk_step (w.disk d) e) (w.disk d))) k d

@@ -7,7 +7,7 @@ use Rattle.attempt.specs.Answers.{Answered, on, heard_as}
 use Rattle.attempt.specs.Setup.{Setup}
 use Rattle.attempt.specs.Status.{status, taken}
 use Rattle.paxos_block.specs.Shape.{Shape}
-use Rattle.host.specs.Host.{Attempt, Doing, Attempts, Memory, Host, Running, setup_of, by_status, hears_from, next_of}
+use Rattle.host.specs.Host.{Attempt, Doing, Attempts, Memory, Host, Running, setup_of, by_status, hears_from, due_of}
 use Rattle.world.specs.Entry.{Called, Torn, disk_step, host_step}
 use Rattle.world.specs.World.{World, Tears}
 use Rattle.agreement.specs.Event.{Event}
@@ -28,7 +28,7 @@ use Rattle.world_safety.proofs.Moves.Moving.{carries_later, chosen_later, for_ho
 module _ (c : Shape) (w : World) (ms : Moves) (tied : Tied c w ms) where
   -- A DEVICE CALL
 
-  module _ (h k : ℕ) (call : Call) (answer : Answer) (left : List ℕ) (next : next_of c h (w.host h) ≡ Some (k, call)) (step : Step (w.disk k) call answer (disk_step (w.disk k) (Called h k call answer left)))
+  module _ (h k : ℕ) (call : Call) (answer : Answer) (left : List ℕ) (next : due_of c h (w.host h) k ≡ Some call) (step : Step (w.disk k) call answer (disk_step (w.disk k) (Called h k call answer left)))
       (m : Memory) (t : Attempt) (running : w.host h ≡ Running m) (does : m.doing ≡ Some (Attempts t)) (decides : DecidesChosen c w ms (Called h k call answer left)) where
     abbrev x : Answered
     x = record { disk = k; heard = heard_as answer }
@@ -113,7 +113,7 @@ module _ (c : Shape) (w : World) (ms : Moves) (tied : Tied c w ms) where
 
   -- A TORN WRITE: its host stops within it
 
-  module _ (h k : ℕ) (call : Call) (left : List ℕ) (next : next_of c h (w.host h) ≡ Some (k, call)) (step : Step (w.disk k) call (Fault Failed) (disk_step (w.disk k) (Called h k call (Fault Failed) left)))
+  module _ (h k : ℕ) (call : Call) (left : List ℕ) (next : due_of c h (w.host h) k ≡ Some call) (step : Step (w.disk k) call (Fault Failed) (disk_step (w.disk k) (Called h k call (Fault Failed) left)))
       (m : Memory) (t : Attempt) (running : w.host h ≡ Running m) (does : m.doing ≡ Some (Attempts t)) where
     pub torn_goes : Goes c w (Torn h k call left) ms
     torn_goes =

@@ -94,16 +94,16 @@ module _ (c : Shape) (w : World) (ms : Moves) (h k : ℕ) (call : Call) (answer 
     abbrev cell : Cell (List ℕ)
     cell = (machine ms2 slot).cell h k
 
-    nothing_written : IsNext (f k) (Putting is.phase CloseGate) → old.writing ≡ None
+    nothing_written : IsNext (f k) (Putting is.made.phase CloseGate) → old.writing ≡ None
     nothing_written there =
-        (may_late after (Allowed c.disks) beginning (events_of_slot slot ms1) (Begins h k (write_in s is.phase f) ∷ [])
-        (write_begins s (events_of_slot slot ms1) t.heard is.phase k (machine_runs c.disks ms1 slot r.tied.history) r.trying.follows is.due there)).0.2
+        (may_late after (Allowed c.disks) beginning (events_of_slot slot ms1) (Begins h k (write_in s is.made.phase f) ∷ [])
+        (write_begins s (events_of_slot slot ms1) t.heard is.made.phase k (call_by s k f is.made.kind) (machine_runs c.disks ms1 slot r.tied.history) r.trying.follows is.made.call_is there)).0.2
 
-    not_spent : IsNext (f k) (Putting is.phase CloseGate) → nat_le LAST_SEQUENCE (seen_block (last_row (f k)) h).sequence ≡ false
+    not_spent : IsNext (f k) (Putting is.made.phase CloseGate) → nat_le LAST_SEQUENCE (seen_block (last_row (f k)) h).sequence ≡ false
     not_spent there =
-        ap (λ (b : Bool). b && nat_le LAST_SEQUENCE (seen_block (last_row (f k)) h).sequence) (sym (eq-eqb (length (f k)) (start is.phase) (first_number is.phase (length (f k)) there))) ∙ waiting.unspent
+        ap (λ (b : Bool). b && nat_le LAST_SEQUENCE (seen_block (last_row (f k)) h).sequence) (sym (eq-eqb (length (f k)) (start is.made.phase) (first_number is.made.phase (length (f k)) there))) ∙ waiting.unspent
 
-    own_call : IsOwnCall c.slots s is.phase k f (w.disk k) new old
+    own_call : IsOwnCall c.slots s is.made.phase k f (w.disk k) new old
     own_call =
         record {
           image = image;
@@ -117,11 +117,11 @@ module _ (c : Shape) (w : World) (ms : Moves) (h k : ℕ) (call : Call) (answer 
           knows = r.trying.knows k;
         }
 
-    can_begin : IsNext (f k) (Putting is.phase CloseGate) → CanBegin c.slots s is.phase k f (w.disk k) new answer old cell own_call
+    can_begin : IsNext (f k) (Putting is.made.phase CloseGate) → CanBegin c.slots s is.made.phase k f (w.disk k) new answer old cell own_call
     can_begin there = record { may = (may CloseGate there).may_say; full = (may CloseGate there).fills; unspent = not_spent there; rests = nothing_written there }
 
     own : After s k (more f k (heard_as answer)) new cell
-    own = own_after c.slots s is.phase k f (w.disk k) new answer old cell own_call is.kind phase_is can_begin is.kind_is is.fits (its.block is.kind is.kind_is) step_by
+    own = own_after c.slots s is.made.phase k f (w.disk k) new answer old cell own_call is.made.kind phase_is can_begin is.made.kind_is is.fits (its.block is.made.kind is.made.kind_is) step_by
 
     -- what is written has no mark
     unmarked : (p : Phase) → (says_for s p f).mark ≡ false
@@ -134,10 +134,10 @@ module _ (c : Shape) (w : World) (ms : Moves) (h k : ℕ) (call : Call) (answer 
 
     own_kept : AllSay (IsKept slot h k) (place_of cluster_version (VoteOf slot h)) new
     own_kept =
-        own_says c.slots s is.phase k f (w.disk k) new answer old cell own_call (IsKept slot h k)
-        (λ marked. absurd (true≢false (sym marked ∙ unmarked is.phase)))
+        own_says c.slots s is.made.phase k f (w.disk k) new answer old cell own_call (IsKept slot h k)
+        (λ marked. absurd (true≢false (sym marked ∙ unmarked is.made.phase)))
         (λ bytes left marked. inl (bytes, left, refl))
-        is.kind phase_is can_begin is.kind_is step_by
+        is.made.kind phase_is can_begin is.made.kind_is step_by
 
     differ : (j g d : ℕ) → IsOther slot h k j g d → d ≡ k → VoteOf slot h ≢ VoteOf j g
     differ j g d other same equal = other (let a : slot ≡ j = cc in sym a) (let b : h ≡ g = cc in sym b) same
@@ -145,7 +145,7 @@ module _ (c : Shape) (w : World) (ms : Moves) (h k : ℕ) (call : Call) (answer 
     spared : (j g d : ℕ) → j < c.slots → g < HOSTS → IsOther slot h k j g d → Spares (place_of cluster_version (VoteOf j g)) (w.disk d) (disks d)
     spared j g d j_below g_below =
         at_disk (λ i disk. IsOther slot h k j g i → Spares (place_of cluster_version (VoteOf j g)) (w.disk i) disk)
-        (λ other. spares_others c.slots (VoteOf slot h) (VoteOf j g) (w.disk k) new (call_by s k f is.kind) answer (trying.fits, run.below) (j_below, g_below) (differ j g k other refl) image inside step_by)
+        (λ other. spares_others c.slots (VoteOf slot h) (VoteOf j g) (w.disk k) new (call_by s k f is.made.kind) answer (trying.fits, run.below) (j_below, g_below) (differ j g k other refl) image inside step_by)
         (λ i off other. spares_same (place_of cluster_version (VoteOf j g)) (w.disk i))
         d
 
@@ -171,4 +171,4 @@ module _ (c : Shape) (w : World) (ms : Moves) (h k : ℕ) (call : Call) (answer 
     pub known_then : (d : ℕ) → Knows (disks d) s (more f k (heard_as answer)) d ((machine ms2 slot).cell h d)
     known_then =
         at_disk (λ d disk. Knows disk s (more f k (heard_as answer)) d ((machine ms2 slot).cell h d)) own.knows
-        (λ d off. knows_elsewhere s f k (heard_as answer) is.phase waiting.part.come d off (behind_due s f is.phase k reached due_at d) (w.disk d) ((machine ms1 slot).cell h d) ((machine ms2 slot).cell h d) (its.others.blocks d off) (r.trying.knows d))
+        (λ d off. knows_elsewhere s f k (heard_as answer) is.made.phase waiting.part.come d off (behind_due s f is.made.phase due_at.first reached due_at.at d) (w.disk d) ((machine ms1 slot).cell h d) ((machine ms2 slot).cell h d) (its.others.blocks d off) (r.trying.knows d))

@@ -25,6 +25,7 @@ use Rattle.agreement.specs.Log.{slots_after}
 use Rattle.world_safety.specs.Goes.{LookDecides, Goes}
 use Rattle.world_safety.specs.Tied.{Moves, machine, IsRunning, TiedBut, Tied}
 use Rattle.world_safety.proofs.Moves.Beside.{TriesNone}
+use Rattle.host.proofs.Due.{only_is}
 use Rattle.world_safety.proofs.Moves.Due.{IsBusyWith}
 use Rattle.world_safety.proofs.Moves.Hosts.{Late, rests_late, taught, but_learns, learned_then, learns_late, tied_but}
 use Rattle.world_safety.proofs.Moves.Moving.{running_at, disk_then, beside_called_goes}
@@ -99,7 +100,7 @@ module _ (c : Shape) (w : World) (ms : Moves) (tied : Tied c w ms) where
     disk_stays d = by (k == d)
       where
         by : (b : Bool) → cond b (disk_step (w.disk d) (Called h k call answer left)) (w.disk d) ≡ w.disk d
-        by true = leaves (w.disk d) call answer left (is_calm s (on t.heard) k call it.due)
+        by true = leaves (w.disk d) call answer left (is_calm s (on t.heard) k call (only_is k (look.next_call s (on t.heard)) call it.due))
         by false = refl
 
     world_is : w ≡ disk_then w k (Called h k call answer left)
@@ -133,4 +134,4 @@ module _ (c : Shape) (w : World) (ms : Moves) (tied : Tied c w ms) where
 
   -- no call of it is torn
   pub look_torn_never : (h k : ℕ) (call : Call) (left : List ℕ) (t : Looking) (it : IsBusyWith c h k call (w.host h) (Looks t)) → Tears call (w.disk k) (disk_step (w.disk k) (Torn h k call left)) → ⊥
-  look_torn_never h k call left t it tears = untorn call (w.disk k) _ (is_calm (look_of c it.memory t.first) (on t.heard) k call it.due) tears
+  look_torn_never h k call left t it tears = untorn call (w.disk k) _ (is_calm (look_of c it.memory t.first) (on t.heard) k call (only_is k (look.next_call (look_of c it.memory t.first) (on t.heard)) call it.due)) tears

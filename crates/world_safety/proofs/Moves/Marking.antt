@@ -50,6 +50,7 @@ use Rattle.world_safety.specs.Tied.{Moves, machine, IsDoing, IsRunning, TiedBut,
 use Rattle.world_safety.proofs.Blocks.Keeping.{Spares, spares_others, spares_same}
 use Rattle.world_safety.proofs.Blocks.Marked.{AfterMark, promised, mark_after}
 use Rattle.world_safety.proofs.Moves.Beside.{hears_none, starts_none}
+use Rattle.host.proofs.Due.{only_is}
 use Rattle.world_safety.proofs.Moves.Due.{IsBusyWith}
 use Rattle.world_safety.proofs.Moves.Hosts.{Late, rests_late, tied_but, same_host}
 use Rattle.world_safety.proofs.Moves.Moving.{marks_by, running_at, disk_then, beside_called_goes, beside_torn_goes}
@@ -240,7 +241,7 @@ module _ (c : Shape) (w : World) (ms : Moves) (tied : Tied c w ms) where
     marking = subst (IsDoing c w ms h m) it.does run.doing
 
     due : IsMarkDue s a call
-    due = mark_due s (on t.heard) k call it.due
+    due = mark_due s (on t.heard) k call (only_is k (mark.next_call s (on t.heard)) call it.due)
 
     step_by : Step (w.disk k) (mark.call_by s a due.kind) answer new
     step_by = subst (λ (q : Call). Step (w.disk k) q answer new) due.call_is step

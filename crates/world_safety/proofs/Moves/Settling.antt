@@ -87,7 +87,7 @@ module _ (c : Shape) (w : World) (ms : Moves) (h k : ℕ) (call : Call) (answer 
         learned = subst (λ (l : Moves). (slots_after l).learned h ≡ map spelling m.learned) nil run.learned;
         trying = subst (λ (l : Moves). IsTrying c w l h m t) nil trying;
         allows = subst (λ (l : Moves). RegistersAllow h k (f k) (heard_as answer) (machine l slot)) nil
-            (allows_none s f k (w.disk k) new answer is.kind waiting.part.good is.kind_is is.fits step_by (machine ms slot) none (trying.knows k));
+            (allows_none s f k (w.disk k) new answer is.made.kind waiting.part.good is.made.kind_is is.fits step_by (machine ms slot) none (trying.knows k));
       }
 
   no_input_by : (j : ℕ) (e : Event (List ℕ)) (v : List ℕ) → (PutsIn e v → ⊥) → IsInput (events_of_slot j (At slot e ∷ [])) v → ⊥
@@ -126,10 +126,10 @@ module _ (c : Shape) (w : World) (ms : Moves) (h k : ℕ) (call : Call) (answer 
     others_now = subst (LeavesOthers h k (machine ms slot)) (sym settled_here) (changed_leaves (machine ms slot) h k resting (after (machine ms slot) settling) refl (λ g off. refl))
 
     is_read : IsNext (f k) Reading
-    is_read = is_next_read s f k (w.disk k) new answer is.kind waiting.part.good is.kind_is is.fits step_by row tells run.below
+    is_read = is_next_read s f k (w.disk k) new answer is.made.kind waiting.part.good is.made.kind_is is.fits step_by row tells run.below
 
     rests_now : IsAtRest cluster_version (own_place s) (w.disk k)
-    rests_now = (trying.knows k).next (current s f k (w.disk k) new answer is.kind waiting.part.good is.kind_is is.fits step_by row tells run.below) Reading is_read
+    rests_now = (trying.knows k).next (current s f k (w.disk k) new answer is.made.kind waiting.part.good is.made.kind_is is.fits step_by row tells run.below) Reading is_read
 
     reads_it : IsReading ((machine ms slot).cell h k) (said value)
     reads_it = own_stands.reads (w.disk k).bytes (may_leave_now (w.disk k))
@@ -187,7 +187,7 @@ module _ (c : Shape) (w : World) (ms : Moves) (h k : ℕ) (call : Call) (answer 
           tied = but_settled;
           learned = ap (λ (l : ℕ → List (List ℕ)). l h) (learned_same slot ms (settling ∷ [])) ∙ run.learned;
           trying = trying_now;
-          allows = allows_row s f k (w.disk k) new answer is.kind waiting.part.good is.kind_is is.fits step_by row tells run.below (machine settled slot)
+          allows = allows_row s f k (w.disk k) new answer is.made.kind waiting.part.good is.made.kind_is is.fits step_by row tells run.below (machine settled slot)
               (λ g below off. but_settled.stands slot g k trying.fits below) confirmed_now writing_now;
         }
 

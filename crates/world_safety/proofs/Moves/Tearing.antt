@@ -43,7 +43,7 @@ IsUntold answer = (row : List DecodedBlock) → heard_as answer ≡ answers.Told
 
 module _ (c : Shape) (w : World) (ms : Moves) (h k : ℕ) (call : Call) (answer : Answer) (left : List ℕ) (m : Memory) (t : Attempt) (now : IsCall c w ms h k call answer left m t) (known : Due c w ms h k call answer left m t now) (untold : IsUntold answer)
     (r : Ready c w ms h k m t (heard_as answer)) where
-  open known use {run, is, due_at, reached}
+  open known use {run, is, due_at}
 
   abbrev s : Setup
   s = setup_of c h m t.operation
@@ -60,19 +60,19 @@ module _ (c : Shape) (w : World) (ms : Moves) (h k : ℕ) (call : Call) (answer 
   abbrev ms1 : Moves
   ms1 = ms ++ r.pre
 
-  stood : StandsIn s is.phase f (machine ms1 slot)
-  stood = subst (Agrees s f (machine ms1 slot)) is.due r.trying.follows.agrees
+  stood : StandsIn s is.made.phase f (machine ms1 slot)
+  stood = subst (Agrees s f (machine ms1 slot)) is.made.due r.trying.follows.agrees
 
   -- who is told no row is told of no greater ballot
-  no_faster : attempt.Moves s is.phase f k (heard_as answer) (machine ms1 slot) ⊎ attempt.IsFaster s is.phase f k (heard_as answer) (machine ms1 slot) → attempt.Moves s is.phase f k (heard_as answer) (machine ms1 slot)
+  no_faster : attempt.Moves s is.made.phase f k (heard_as answer) (machine ms1 slot) ⊎ attempt.IsFaster s is.made.phase f k (heard_as answer) (machine ms1 slot) → attempt.Moves s is.made.phase f k (heard_as answer) (machine ms1 slot)
   no_faster (inl moves) = moves
   no_faster (inr faster) = absurd (untold faster.row faster.is)
 
   -- the event of the call
-  one : attempt.Moves s is.phase f k (heard_as answer) (machine ms1 slot)
+  one : attempt.Moves s is.made.phase f k (heard_as answer) (machine ms1 slot)
   one =
       no_faster
-      (attempt.answered s f k (machine ms1 slot) (holds_reached c.disks (events_of_slot slot ms1) (machine_runs c.disks ms1 slot r.tied.history)) (record { version = refl; is_host = run.below }) reached is.phase due_at stood (heard_as answer) is r.allows)
+      (attempt.answered s f k (machine ms1 slot) (holds_reached c.disks (events_of_slot slot ms1) (machine_runs c.disks ms1 slot r.tied.history)) (record { version = refl; is_host = run.below }) is.made.phase due_at stood (heard_as answer) is r.allows)
 
   torn_now : machine (ms1 ++ in_slot slot one.events) slot ≡ agreement.run (machine ms1 slot) one.events
   torn_now = machine_here slot ms1 one.events

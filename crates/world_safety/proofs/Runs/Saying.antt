@@ -15,7 +15,7 @@ use Rattle.host.specs.declared.answer.HostAnswer.{HostAnswer}
 use Rattle.host.specs.declared.answer.HostAnswer.TheVariants.{Ack, Recovered, Refused}
 use Rattle.host.specs.declared.task.Task.{Task}
 use Rattle.host.specs.declared.task.Task.TheVariants.{Submit, Recover}
-use Rattle.host.specs.Host.{Operation, Submitting, Recovering, Attempt, Doing, Attempts, Memory, Host, Stopped, Running, setup_of, says, begins, full_answer, goes_on, with_floor, learns, is_submitted, after_learning, takes, tries_again, by_status, with_heard, goes_by, hears_from, is_stopped, next_of, said_of}
+use Rattle.host.specs.Host.{Operation, Submitting, Recovering, Attempt, Doing, Attempts, Memory, Host, Stopped, Running, setup_of, says, begins, full_answer, goes_on, with_floor, learns, is_submitted, after_learning, takes, tries_again, by_status, with_heard, goes_by, hears_from, is_stopped, due_of, said_of}
 use Rattle.world.specs.Entry.{Filled, Start, Stop, Begin, Called, Torn, Crashed, Lost, Migrated, is_of, started, begins_on, host_step}
 use Rattle.world.specs.World.{MayBegin, IsRun}
 use Rattle.world.specs.Chosen.{at, Hears, SaysAt}
@@ -190,7 +190,7 @@ module _ (c : Shape) (log : List Filled) (i h : ℕ) (said : HostAnswer) where
       record { is = inr (here, is) }
   answered of_log k call answer left entry now other it is goes = absurd (of_log (subst SaysNoneOfLog is (hears_none c h it.memory other k answer tt).1))
 
-  called : IsOfLog said → (k : ℕ) (call : Call) (answer : Answer) (left : List ℕ) → slice_get log i ≡ Some (CalledBy k call answer left) → next_of c h ((at c log i).host h) ≡ Some (k, call)
+  called : IsOfLog said → (k : ℕ) (call : Call) (answer : Answer) (left : List ℕ) → slice_get log i ≡ Some (CalledBy k call answer left) → due_of c h ((at c log i).host h) k ≡ Some call
       → (at c log (i + 1)).host h ≡ host_step c h ((at c log i).host h) (CalledBy k call answer left) → said_of (host_step c h ((at c log i).host h) (CalledBy k call answer left)) ≡ Some said → Whence
   called of_log k call answer left entry next now is =
       let at_work = busy c h k call ((at c log i).host h) next in
@@ -206,7 +206,7 @@ module _ (c : Shape) (log : List Filled) (i h : ℕ) (said : HostAnswer) where
       task_begun log_says task (entry ∙ ap (λ (j : ℕ). Some (Begin j task)) (eqb-true g h of)) ((at c log i).host h) is
   whence_by log_says (Called g k call answer left) entry may of now is =
       called log_says k call answer left (entry ∙ ap (λ (j : ℕ). Some (Called j k call answer left)) (eqb-true g h of))
-      (subst (λ (j : ℕ). next_of c j ((at c log i).host j) ≡ Some (k, call)) (eqb-true g h of) may.0) now is
+      (subst (λ (j : ℕ). due_of c j ((at c log i).host j) k ≡ Some call) (eqb-true g h of) may.0) now is
   whence_by log_says (Torn g k call left) entry may of now is = absurd (cc)
   whence_by log_says (Crashed k left) entry may of now is = absurd (cc)
   whence_by log_says (Lost k) entry may of now is = absurd (cc)

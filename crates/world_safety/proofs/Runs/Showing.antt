@@ -84,7 +84,7 @@ pub row_true : (c : Shape) (w : World) (ms : Moves) (Known : ℕ → List ℕ �
 row_true c w ms Known all h k call answer left m t now row tells g below =
     let known = due_of c w ms h k call answer left m t now in
     let s = setup_of c h m t.operation in
-    let seen = seen_is s (on t.heard) k (w.disk k) (disk_step (w.disk k) (Called h k call answer left)) answer known.is.kind known.waiting.part.good known.is.kind_is known.is.fits known.step_by row tells known.run.below g below in
+    let seen = seen_is s (on t.heard) k (w.disk k) (disk_step (w.disk k) (Called h k call answer left)) answer known.is.made.kind known.waiting.part.good known.is.made.kind_is known.is.fits known.step_by row tells known.run.below g below in
     subst (IsMarkTrue (Known (length m.learned))) (ap (λ (b : DecodedBlock). b.says) (sym seen)) (all (length m.learned) g k known.trying.fits below (w.disk k).bytes (may_leave_now (w.disk k)))
 
 -- A LOOK

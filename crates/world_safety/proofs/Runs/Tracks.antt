@@ -14,7 +14,7 @@ use Rattle.paxos_block.specs.Shape.{Shape}
 use Rattle.disk.specs.Disk.{Call, Answer}
 use Rattle.attempt.specs.Status.{Ended, Decided, status}
 use Rattle.host.specs.declared.task.Task.TheVariants.{Submit}
-use Rattle.host.specs.Host.{Attempt, Looking, Attempts, Looks, Memory, Host, Stopped, Running, Operation, Submitting, Recovering, input_of, setup_of, look_of, looking_with, next_of}
+use Rattle.host.specs.Host.{Attempt, Looking, Attempts, Looks, Memory, Host, Stopped, Running, Operation, Submitting, Recovering, input_of, setup_of, look_of, looking_with, due_of}
 use Rattle.world.specs.Entry.{Filled, Begin, Called, Migrated, is_of}
 use Rattle.world.specs.World.{World, MayFollow, CanMigrate, IsRun}
 use Rattle.world.specs.Chosen.{at, Hears, IsChosenAt, IsMigrated, IsSubmittedBefore}
@@ -90,7 +90,7 @@ module _ (c : Shape) (log : List Filled) (run : IsRun c log) where
     tells_look h k call answer left is m t running looks row tells =
         let may = each c log i (Called h k call answer left) run is in
         let s = look_of c m t.first in
-        let next = next_is c h m t k call looks (subst (λ (host : Host). next_of c h host ≡ Some (k, call)) running may.0) in
+        let next = next_is c h m t k call looks (subst (λ (host : Host). due_of c h host k ≡ Some call) running may.0) in
         look_row_true c (at c log i) (IsChosenBefore c log i) sound.marks s (on t.heard k) k _ call answer (fits c (take i log) h m t (beginning c log i run) running looks) (due_call s (on t.heard) (look.status s (on t.heard)) k call next) may.1 row tells
 
     shows_by : (h : ℕ) → ShowsTrue c log i h
